@@ -1,0 +1,34 @@
+-- Everything that computes, under one name: what says `unfolding all` is evaluated to its answer.
+use Rattle.layout.specs.Result.{_>>=_, must, orRefuse, _and_, _or_, if_then_else_}
+use Rattle.layout.specs.Octets.{numberOf, octetsOf, wordsOf}
+use Rattle.layout.specs.Types.{valueOf, inRange, classify}
+use Rattle.layout.specs.Book.{findTemplate, needAfter, groupSinces, present}
+use Rattle.layout.specs.BookRules.{parseFields, parseDatas, parseShape, parseGroups, parseBody, fieldsGood}
+use Rattle.layout.specs.BookRules.{groupsGood, rising, allAre, groupsSince, parseContents, contentsGood}
+use Rattle.layout.specs.BookRules.{parseBodies, eachMust, bookOf}
+use Rattle.layout.specs.Values.{recordOf, recordsOf, listing, measure, groupOf, entriesOf, entriesFrom}
+use Rattle.layout.specs.Values.{groupsIn, elementOf, elementIn, answerAt}
+use Rattle.layout.specs.Message.{readData, skipDatas, readDimension, skipGroups, readEntries, readField}
+use Rattle.layout.specs.Message.{readDatas, readBlock, readGroup, readGroups, headerWhole, checkHeader}
+use Rattle.layout.specs.Message.{countGood, readRoot, readMessage}
+use Rattle.layout.specs.Reading.{checkOf, measureOf, listOf, hasElement, groupHas, hasPlace, placeIn, placeOf}
+use Rattle.layout.specs.Writing.{judgeField, judgeData, judgeFields, judgeDatas, judgeEntries, judgeBlock}
+use Rattle.layout.specs.Writing.{judgeGroups, judgeListing, numbers16, spanOf, entriesIn, fieldOctets}
+use Rattle.layout.specs.Writing.{blockOctets, dataOctets, rowOctets, messageOctets, datasLength, rowLength}
+use Rattle.layout.specs.Writing.{writeOf}
+
+unfoldable pub all : Unit {0}
+unfolding
+    _>>=_ must orRefuse _and_ _or_ if_then_else_
+    numberOf octetsOf wordsOf
+    valueOf inRange classify
+    findTemplate needAfter groupSinces present
+    parseFields parseDatas parseShape parseGroups parseBody fieldsGood groupsGood rising allAre groupsSince
+    parseContents contentsGood parseBodies eachMust bookOf
+    recordOf recordsOf listing measure groupOf entriesOf entriesFrom groupsIn elementOf elementIn answerAt
+    readData skipDatas readDimension skipGroups readEntries readField readDatas readBlock readGroup readGroups
+    headerWhole checkHeader countGood readRoot readMessage
+    checkOf measureOf listOf hasElement groupHas hasPlace placeIn placeOf
+    judgeField judgeData judgeFields judgeDatas judgeEntries judgeBlock judgeGroups judgeListing
+    numbers16 spanOf entriesIn fieldOctets blockOctets dataOctets rowOctets messageOctets datasLength rowLength writeOf
+all = tt

@@ -1,0 +1,89 @@
+-- The schema book as a tree, and what it says of a block.
+use mathlib.Core.Bool.{Bool}
+use mathlib.Core.List.{List, [], _∷_, map}
+use mathlib.Core.Option.{Option, none as no, some}
+use Prim.Native.Nat.{ℕ, _+_, _*_}
+use lib.Dec.{leb, ltb, eqb}
+use Rattle.layout.specs.Result.{if_then_else_}
+use Rattle.layout.specs.Types.{typeAt}
+
+-- "Field, six words: id, type, length, offset, presence (0 required, 1 optional), since."
+pub record Field : Type 0 where
+  pub id : ℕ
+  pub type : ℕ
+  pub length : ℕ
+  pub offset : ℕ
+  pub presence : ℕ
+  pub since : ℕ
+
+-- "Data, two words: id, since."
+pub record Data : Type 0 where
+  pub id : ℕ
+  pub since : ℕ
+
+-- A block without its groups: its declared length, its fields and its data.
+pub record Shape : Type 0 where
+  pub length : ℕ
+  pub fields : List Field
+  pub datas : List Data
+
+-- "Group: id, since, then its block": the groups of a block, in a row. `more id since shape inner rest` is a group
+-- whose block has the groups `inner`, followed by the groups `rest`.
+pub data Groups : Type 0 where
+  none : Groups
+  more : ℕ → ℕ → Shape → Groups → Groups → Groups
+
+-- "A body is one block."
+pub record Template : Type 0 where
+  pub id : ℕ
+  pub shape : Shape
+  pub groups : Groups
+
+pub record Book : Type 0 where
+  pub schema : ℕ
+  pub version : ℕ
+  pub templates : List Template
+
+unfoldable pub findTemplate : ℕ → List Template → Option Template
+findTemplate id [] = no
+findTemplate id (t ∷ ts) = if eqb (t .id) id then some t else findTemplate id ts
+
+-- ---- fields
+
+abbrev pub size : Field → ℕ
+size f = typeAt (f .type) .width * f .length
+
+abbrev pub end : Field → ℕ
+end f = f .offset + size f
+
+-- "types 0 and 2 may have 2 to 1,024, and such an array is plain octets"
+abbrev pub isArray : Field → Bool
+isArray f = ltb 1 (f .length)
+
+abbrev pub isOptional : Field → Bool
+isOptional f = eqb (f .presence) 1
+
+-- "The need of a block at v is the end of its last field with since at most v, or 0": after fields that need e.
+unfoldable pub needAfter : ℕ → ℕ → List Field → ℕ
+needAfter v e [] = e
+needAfter v e (f ∷ fs) = needAfter v (if leb (f .since) v then end f else e) fs
+
+abbrev pub need : ℕ → Shape → ℕ
+need v s = needAfter v 0 (s .fields)
+
+-- ---- sinces
+
+abbrev pub fieldSinces : List Field → List ℕ
+fieldSinces fs = map (λ (f : Field). f .since) fs
+
+abbrev pub dataSinces : List Data → List ℕ
+dataSinces ds = map (λ (d : Data). d .since) ds
+
+unfoldable pub groupSinces : Groups → List ℕ
+groupSinces none = []
+groupSinces (more i since s inner rest) = since ∷ groupSinces rest
+
+-- How many of these have "since at most v".
+unfoldable pub present : ℕ → List ℕ → ℕ
+present v [] = 0
+present v (s ∷ ss) = (if leb s v then 1 else 0) + present v ss

@@ -1,0 +1,162 @@
+-- From a book's octets to its tree, or the refusal 1 to 6: "lowest number found in any template, then the first
+-- template that has it".
+use mathlib.Core.Bool.{Bool, true}
+use mathlib.Core.List.{List, [], _∷_}
+use Prim.Native.Nat.{ℕ, zero, suc, _+_, _*_, _%_}
+use lib.Dec.{leb, ltb, eqb}
+use lib.ListN.{length, getD, take, drop}
+use Rattle.layout.specs.Result.{Result, done, refused, _>>=_, must, _and_, _or_}
+use Rattle.layout.specs.Octets.{wordsOf, null16}
+use Rattle.layout.specs.Book.{Field, Data, Shape, Groups, none, more, Template, Book, end, fieldSinces, dataSinces, groupSinces}
+
+-- ---- 4: the tree of a body, t being its template's number, b its words, and w a word of it
+
+abbrev pub word : List ℕ → ℕ → ℕ
+word b w = getD b w 0
+
+unfoldable pub parseFields : List ℕ → ℕ → ℕ → List Field
+parseFields b zero w = []
+parseFields b (suc n) w =
+    record {
+      id = word b w;
+      type = word b (w + 1);
+      length = word b (w + 2);
+      offset = word b (w + 3);
+      presence = word b (w + 4);
+      since = word b (w + 5);
+    }
+    ∷ parseFields b n (w + 6)
+
+unfoldable pub parseDatas : List ℕ → ℕ → ℕ → List Data
+parseDatas b zero w = []
+parseDatas b (suc n) w = record { id = word b w; since = word b (w + 1) } ∷ parseDatas b n (w + 2)
+
+-- "Block: declared block length, number of fields (at most 64), of groups (at most 16), of data (at most 16); then the
+-- fields, the data, the groups": what precedes the groups, how many they are, and the word where they start. The block
+-- has at least `few` fields.
+unfoldable pub parseShape : ℕ → List ℕ → ℕ → ℕ → Result (Shape × ℕ × ℕ)
+parseShape t b few w = do
+  _ ← must (leb (w + 4) (length b)) 4 t
+  let f = word b (w + 1)
+  let g = word b (w + 2)
+  let d = word b (w + 3)
+  _ ← must (leb few f and leb f 64 and leb g 16 and leb d 16) 4 t
+  _ ← must (leb (w + 4 + 6 * f + 2 * d) (length b)) 4 t
+  done (record { length = word b w; fields = parseFields b f (w + 4); datas = parseDatas b d (w + 4 + 6 * f) }, g, w + 4 + 6 * f + 2 * d)
+
+-- n groups in a row, `depth` more levels being left, and the word after them. "A group has at least one field."
+unfoldable pub parseGroups : ℕ → List ℕ → ℕ → ℕ → ℕ → Result (Groups × ℕ)
+parseGroups t b zero zero w = done (none, w)
+parseGroups t b (suc depth) zero w = done (none, w)
+parseGroups t b zero (suc n) w = refused 4 t
+parseGroups t b (suc depth) (suc n) w = do
+  (s, g, x) ← parseShape t b 1 (w + 2)
+  (inner, y) ← parseGroups t b depth g x
+  (rest, z) ← parseGroups t b (suc depth) n y
+  done (more (word b w) (word b (w + 1)) s inner rest, z)
+
+-- "A body is one block." "Groups nest to depth four, a root group being depth one." "4: .. body words left over"
+unfoldable pub parseBody : ℕ → ℕ → List ℕ → Result Template
+parseBody t id b = do
+  (s, g, x) ← parseShape t b 0 0
+  (groups, y) ← parseGroups t b 4 g x
+  _ ← must (eqb y (length b)) 4 t
+  done (record { id = id; shape = s; groups = groups })
+
+-- ---- 5: "block length, type, length, presence or offset rule"
+
+-- "Length is 1; types 0 and 2 may have 2 to 1,024."
+abbrev pub lengthGood : Field → Bool
+lengthGood f = eqb (f .length) 1 or (leb 2 (f .length) and leb (f .length) 1024 and (eqb (f .type) 0 or eqb (f .type) 2))
+
+-- "An offset is at least the end of the field before it; every end is at most the declared block length": fields of a
+-- block of l octets, after one that ends at e.
+unfoldable pub fieldsGood : ℕ → ℕ → List Field → Bool
+fieldsGood l e [] = true
+fieldsGood l e (f ∷ fs) =
+    ltb (f .type) 9 and lengthGood f and leb (f .presence) 1 and leb e (f .offset) and leb (end f) l and fieldsGood l (end f) fs
+
+-- "No block length .. is 65535."
+abbrev pub shapeGood : Shape → Bool
+shapeGood s = ltb (s .length) null16 and fieldsGood (s .length) 0 (s .fields)
+
+unfoldable pub groupsGood : Groups → Bool
+groupsGood none = true
+groupsGood (more i since s inner rest) = shapeGood s and groupsGood inner and groupsGood rest
+
+abbrev pub layoutGood : Template → Bool
+layoutGood t = shapeGood (t .shape) and groupsGood (t .groups)
+
+-- ---- 6: "Since: never above the schema version; never falling along the fields, the groups or the data of a block."
+
+-- From `low` on.
+unfoldable pub rising : ℕ → ℕ → List ℕ → Bool
+rising version low [] = true
+rising version low (s ∷ ss) = leb low s and leb s version and rising version s ss
+
+unfoldable pub allAre : ℕ → List ℕ → Bool
+allAre x [] = true
+allAre x (s ∷ ss) = eqb s x and allAre x ss
+
+-- "its first field's since is the group's own; data and groups inside a group have the since of that group"
+unfoldable pub groupsSince : ℕ → Groups → Bool
+groupsSince version none = true
+groupsSince version (more i since s inner rest) =
+    eqb (getD (fieldSinces (s .fields)) 0 null16) since and rising version since (fieldSinces (s .fields))
+    and allAre since (dataSinces (s .datas)) and allAre since (groupSinces inner)
+    and groupsSince version inner and groupsSince version rest
+
+abbrev pub sinceGood : ℕ → Template → Bool
+sinceGood version t =
+    rising version 0 (fieldSinces (t .shape .fields)) and rising version 0 (dataSinces (t .shape .datas))
+    and rising version 0 (groupSinces (t .groups)) and groupsSince version (t .groups)
+
+-- ---- 1, 2 and 3, and the whole book
+
+-- "Contents, three words per template: template id, first word of its body, words in its body."
+pub record ContentsRow : Type 0 where
+  pub id : ℕ
+  pub first : ℕ
+  pub words : ℕ
+
+unfoldable pub parseContents : List ℕ → ℕ → ℕ → List ContentsRow
+parseContents b zero w = []
+parseContents b (suc n) w = record { id = word b w; first = word b (w + 1); words = word b (w + 2) } ∷ parseContents b n (w + 3)
+
+-- "Ids rise strictly. Bodies lie back to back in contents order, from the first word after the contents to the book's
+-- end": rows with ids from `low` on, the first body being at word `at`.
+unfoldable pub contentsGood : ℕ → ℕ → ℕ → List ContentsRow → Bool
+contentsGood total low at [] = eqb at total
+contentsGood total low at (r ∷ rs) =
+    leb low (r .id) and ltb (r .id) null16 and eqb (r .first) at and contentsGood total (suc (r .id)) (at + r .words) rs
+
+-- The templates of the rows, of which the first has number t.
+unfoldable pub parseBodies : List ℕ → ℕ → List ContentsRow → Result (List Template)
+parseBodies b t [] = done []
+parseBodies b t (r ∷ rs) = do
+  x ← parseBody t (r .id) (take (r .words) (drop (r .first) b))
+  xs ← parseBodies b (suc t) rs
+  done (x ∷ xs)
+
+-- Refusal n at the first template that fails the test, the first of these having number t.
+unfoldable pub eachMust : (Template → Bool) → ℕ → ℕ → List Template → Result (Unit {0})
+eachMust f n t [] = done tt
+eachMust f n t (x ∷ xs) = must (f x) n t >>= λ _. eachMust f n (suc t) xs
+
+-- "Head, four words: schema id, schema version, number of templates (1 to 64), number of words in the book."
+abbrev pub headGood : List ℕ → Bool
+headGood b =
+    eqb (word b 3) (length b) and ltb (word b 0) null16 and ltb (word b 1) null16
+    and leb 1 (word b 2) and leb (word b 2) 64 and leb (4 + 3 * word b 2) (length b)
+
+unfoldable pub bookOf : List ℕ → Result Book
+bookOf octets = do
+  _ ← must (eqb (length octets % 2) 0 and leb 8 (length octets) and leb (length octets) 8192) 1 0
+  let b = wordsOf octets
+  _ ← must (headGood b) 2 0
+  let rows = parseContents b (word b 2) 4
+  _ ← must (contentsGood (length b) 0 (4 + 3 * word b 2) rows) 3 0
+  ts ← parseBodies b 0 rows
+  _ ← eachMust layoutGood 5 0 ts
+  _ ← eachMust (sinceGood (word b 1)) 6 0 ts
+  done (record { schema = word b 0; version = word b 1; templates = ts })

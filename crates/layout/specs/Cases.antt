@@ -1,0 +1,111 @@
+-- The cases that document 01 marks P: one table, one theorem, which the checker computes.
+use mathlib.Core.Path.{_≡_, refl}
+use mathlib.Core.Bool.{Bool, true, false}
+use mathlib.Core.List.{List, [], _∷_, _++_, map}
+use Prim.Native.Nat.{ℕ, _+_, _-_, _/_, _%_, _^_}
+use lib.ListN.{take, set}
+use Rattle.layout.specs.All.{all}
+use Rattle.layout.specs.Result.{Result, done, refused}
+use Rattle.layout.specs.Octets.{numberOf}
+use Rattle.layout.specs.Types.{typeAt, valueOf, classify}
+use Rattle.layout.specs.Values.{recordOf}
+use Rattle.layout.specs.Reading.{listOf}
+
+-- The octets of a book's words.
+abbrev pub words : List ℕ → List ℕ
+words [] = []
+words (w ∷ ws) = w % 256 ∷ w / 256 ∷ words ws
+
+-- "Book A (37 words): head 7 0 1 37; contents 1 7 30; block 8 2 1 1; fields 38 6 1 0 0 0 and 44 3 1 4 1 0; data 58 0;
+-- group 453 0, block 2 1 0 0, field 452 2 1 0 0 0."
+abbrev pub bookA : List ℕ
+bookA =
+    words
+    (7 ∷ 0 ∷ 1 ∷ 37
+    ∷ 1 ∷ 7 ∷ 30
+    ∷ 8 ∷ 2 ∷ 1 ∷ 1
+    ∷ 38 ∷ 6 ∷ 1 ∷ 0 ∷ 0 ∷ 0
+    ∷ 44 ∷ 3 ∷ 1 ∷ 4 ∷ 1 ∷ 0
+    ∷ 58 ∷ 0
+    ∷ 453 ∷ 0 ∷ 2 ∷ 1 ∷ 0 ∷ 0 ∷ 452 ∷ 2 ∷ 1 ∷ 0 ∷ 0 ∷ 0
+    ∷ [])
+
+-- "Book B extends A at version 1: root field uint8, offset 6, required, since 1; a second root group, block 4, one
+-- required uint32, since 1."
+abbrev pub bookB : List ℕ
+bookB =
+    words
+    (7 ∷ 1 ∷ 1 ∷ 55
+    ∷ 1 ∷ 7 ∷ 48
+    ∷ 8 ∷ 3 ∷ 2 ∷ 1
+    ∷ 38 ∷ 6 ∷ 1 ∷ 0 ∷ 0 ∷ 0
+    ∷ 44 ∷ 3 ∷ 1 ∷ 4 ∷ 1 ∷ 0
+    ∷ 45 ∷ 2 ∷ 1 ∷ 6 ∷ 0 ∷ 1
+    ∷ 58 ∷ 0
+    ∷ 453 ∷ 0 ∷ 2 ∷ 1 ∷ 0 ∷ 0 ∷ 452 ∷ 2 ∷ 1 ∷ 0 ∷ 0 ∷ 0
+    ∷ 454 ∷ 1 ∷ 4 ∷ 1 ∷ 0 ∷ 0 ∷ 455 ∷ 6 ∷ 1 ∷ 0 ∷ 0 ∷ 1
+    ∷ [])
+
+-- "Message M (32 octets)"
+abbrev pub messageM : List ℕ
+messageM =
+    0x08 ∷ 0x00 ∷ 0x01 ∷ 0x00 ∷ 0x07 ∷ 0x00 ∷ 0x00 ∷ 0x00 ∷ 0x01 ∷ 0x00 ∷ 0x01 ∷ 0x00
+    ∷ 0xe8 ∷ 0x03 ∷ 0x00 ∷ 0x00 ∷ 0xfb ∷ 0xff ∷ 0x00 ∷ 0x00
+    ∷ 0x02 ∷ 0x00 ∷ 0x02 ∷ 0x00 ∷ 0x01 ∷ 0x00 ∷ 0x03 ∷ 0x00
+    ∷ 0x02 ∷ 0x00 ∷ 0x61 ∷ 0x62
+    ∷ []
+
+-- "B's message with 9 and one entry 42"
+abbrev pub messageB : List ℕ
+messageB =
+    0x08 ∷ 0x00 ∷ 0x01 ∷ 0x00 ∷ 0x07 ∷ 0x00 ∷ 0x01 ∷ 0x00 ∷ 0x02 ∷ 0x00 ∷ 0x01 ∷ 0x00
+    ∷ 0xe8 ∷ 0x03 ∷ 0x00 ∷ 0x00 ∷ 0xfb ∷ 0xff ∷ 0x09 ∷ 0x00
+    ∷ 0x02 ∷ 0x00 ∷ 0x02 ∷ 0x00 ∷ 0x01 ∷ 0x00 ∷ 0x03 ∷ 0x00
+    ∷ 0x04 ∷ 0x00 ∷ 0x01 ∷ 0x00 ∷ 0x2a ∷ 0x00 ∷ 0x00 ∷ 0x00
+    ∷ 0x02 ∷ 0x00 ∷ 0x61 ∷ 0x62
+    ∷ []
+
+pub data Case : Type 0 where
+  -- a book and a message, listed by the program's room
+  listed : List ℕ → List ℕ → Case
+  -- a type, whether the field is optional, and its octets
+  holds : ℕ → Bool → List ℕ → Case
+
+abbrev pub answer : Case → Result (List ℕ)
+answer (listed b m) = listOf b m 6000
+answer (holds t optional s) = done (recordOf (classify (typeAt t) optional (valueOf (typeAt t) (numberOf s))))
+
+pub record Row : Type 0 where
+  pub case : Case
+  pub says : Result (List ℕ)
+
+infix 10 _says_
+abbrev pub _says_ : Case → Result (List ℕ) → Row
+c says r = record { case = c; says = r }
+
+-- The octets of m with x as the 16-bit number at `at`.
+abbrev pub with16 : List ℕ → ℕ → ℕ → List ℕ
+with16 m at x = set (set m at (x % 256)) (at + 1) (x / 256)
+
+unfoldable pub table : List Row
+table =
+    (listed bookA messageM says done (0 ∷ 1000 ∷ 0 ∷ 0 ∷ 18446744073709551611 ∷ 0 ∷ 4 ∷ 2 ∷ 0 ∷ 0 ∷ 1 ∷ 0 ∷ 0 ∷ 3 ∷ 0 ∷ 2 ∷ 30 ∷ 2 ∷ []))
+    ∷ (listed bookB messageM says
+    done (0 ∷ 1000 ∷ 0 ∷ 0 ∷ 18446744073709551611 ∷ 0 ∷ 3 ∷ 0 ∷ 0 ∷ 4 ∷ 2 ∷ 0 ∷ 0 ∷ 1 ∷ 0 ∷ 0 ∷ 3 ∷ 0 ∷ 3 ∷ 0 ∷ 0 ∷ 2 ∷ 30 ∷ 2 ∷ []))
+    ∷ (listed bookA messageB says done (0 ∷ 1000 ∷ 0 ∷ 0 ∷ 18446744073709551611 ∷ 0 ∷ 4 ∷ 2 ∷ 0 ∷ 0 ∷ 1 ∷ 0 ∷ 0 ∷ 3 ∷ 0 ∷ 2 ∷ 38 ∷ 2 ∷ []))
+    ∷ (listed bookA (take 31 messageM) says refused 16 28)
+    ∷ (listed bookA (messageM ++ (0 ∷ [])) says refused 20 32)
+    ∷ (listed bookA [] says refused 10 0)
+    ∷ (listed bookA (with16 messageM 0 5) says refused 14 0)
+    ∷ (listed bookA (with16 messageM 6 65535) says refused 11 6)
+    ∷ (listed bookA (with16 messageM 8 2) says refused 15 8)
+    ∷ (listed bookA (with16 messageM 28 65535) says refused 19 28)
+    ∷ (listed bookA (with16 messageM 28 65534) says refused 16 28)
+    ∷ (holds 6 false (0x10 ∷ 0x27 ∷ 0x00 ∷ 0x00 ∷ []) says done (0 ∷ 10000 ∷ 0 ∷ []))
+    ∷ (holds 1 true (128 ∷ []) says done (1 ∷ 0 ∷ 0 ∷ []))
+    ∷ (holds 1 true (129 ∷ []) says done (0 ∷ (2 ^ 64 - 127) ∷ 0 ∷ []))
+    ∷ []
+
+pub all-hold : map (λ (r : Row). answer (r .case)) table ≡ map (λ (r : Row). r .says) table
+unfolding all table
+all-hold = refl

@@ -1,0 +1,79 @@
+-- "A newer book extends an older one when ..": legal extension, a relation with named parts.
+use mathlib.Core.Path.{_≡_}
+use mathlib.Core.Bool.{Bool, true, false}
+use mathlib.Core.List.{List, [], _∷_, _++_}
+use mathlib.Core.Option.{some}
+use Prim.Native.Nat.{ℕ, _≤_, _<_}
+use Rattle.layout.specs.Book.{Field, Data, Shape, Groups, none, more, Template, Book, findTemplate, fieldSinces, dataSinces}
+
+-- "every added element's since is above the older version", which is `limit` from here on.
+unfoldable pub AllAbove : ℕ → List ℕ → Type 0
+AllAbove limit [] = Unit {0}
+AllAbove limit (s ∷ ss) = (limit < s) × AllAbove limit ss
+
+module _ (limit : ℕ) where
+  -- "older fields come first, all six words equal"
+  pub record AddsFields (old new : List Field) : Type 0 where
+    pub added : List Field
+    pub first : new ≡ old ++ added
+    pub young : AllAbove limit (fieldSinces added)
+
+  -- "older data likewise"
+  pub record AddsDatas (old new : List Data) : Type 0 where
+    pub added : List Data
+    pub first : new ≡ old ++ added
+    pub young : AllAbove limit (dataSinces added)
+
+  -- "Per block: declared length no smaller; ..". "Inside groups only fields may be added": there, `root` is false.
+  pub record ExtendsShape (root : Bool) (old new : Shape) : Type 0 where
+    pub longer : old .length ≤ new .length
+    pub fields : AddsFields (old .fields) (new .fields)
+    pub datas : AddsDatas (old .datas) (new .datas)
+    pub inside : root ≡ false → datas .added ≡ []
+
+  -- "An added root group has no groups and no data."
+  pub record AddedGroup (since : ℕ) (s : Shape) (inner : Groups) : Type 0 where
+    pub young : limit < since
+    pub noGroups : inner ≡ none
+    pub noDatas : s .datas ≡ []
+
+  unfoldable pub AddedGroups : Groups → Type 0
+  AddedGroups none = Unit {0}
+  AddedGroups (more i since s inner rest) = AddedGroup since s inner × AddedGroups rest
+
+  unfoldable pub AddsGroups : Bool → Groups → Type 0
+  AddsGroups true new = AddedGroups new
+  AddsGroups false new = new ≡ none
+
+  -- "older groups come first with equal id and since, their blocks extended in turn": one pair of groups, of whose inner
+  -- groups Inner holds, and Rest of the groups after them.
+  pub record ExtendsGroup (id id′ since since′ : ℕ) (s s′ : Shape) (Inner Rest : Type 0) : Type 0 where
+    pub sameId : id ≡ id′
+    pub sameSince : since ≡ since′
+    pub shape : ExtendsShape false s s′
+    pub inner : Inner
+    pub rest : Rest
+
+  unfoldable pub ExtendsGroups : Bool → Groups → Groups → Type 0
+  ExtendsGroups root none new = AddsGroups root new
+  ExtendsGroups root (more i since s inner rest) none = ⊥
+  ExtendsGroups root (more i since s inner rest) (more i′ since′ s′ inner′ rest′) =
+      ExtendsGroup i i′ since since′ s s′ (ExtendsGroups false inner inner′) (ExtendsGroups root rest rest′)
+
+  -- "each older template stands in it": under its id the newer book has a template that extends it.
+  pub record Stands (old : Template) (news : List Template) : Type 0 where
+    pub newer : Template
+    pub there : findTemplate (old .id) news ≡ some newer
+    pub shape : ExtendsShape true (old .shape) (newer .shape)
+    pub groups : ExtendsGroups true (old .groups) (newer .groups)
+
+  unfoldable pub EachStands : List Template → List Template → Type 0
+  EachStands [] news = Unit {0}
+  EachStands (t ∷ ts) news = Stands t news × EachStands ts news
+
+-- "the schema id is equal, its version is greater, and each older template stands in it"; "templates that only the newer
+-- book has are free"
+pub record Extends (old new : Book) : Type 0 where
+  pub schema : old .schema ≡ new .schema
+  pub version : old .version < new .version
+  pub templates : EachStands (old .version) (old .templates) (new .templates)

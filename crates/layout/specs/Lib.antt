@@ -1,0 +1,13 @@
+pub mod Result
+pub mod Octets
+pub mod Types
+pub mod Book
+pub mod BookRules
+pub mod Values
+pub mod Message
+pub mod Reading
+pub mod Writing
+pub mod Extension
+pub mod Contracts
+pub mod All
+pub mod Cases

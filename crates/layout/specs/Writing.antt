@@ -1,0 +1,204 @@
+-- A message from a listing: its records judged one by one into a tree of answers (51 to 54), and the tree's octets.
+use mathlib.Core.Bool.{Bool, not}
+use mathlib.Core.List.{List, [], _∷_, _++_}
+use Prim.Native.Nat.{ℕ, zero, suc, _+_, _-_, _*_}
+use lib.Dec.{leb, ltb, eqb}
+use lib.ListN.{length, getD, take, drop, replicate}
+use Rattle.layout.specs.Result.{Result, done, must, orRefuse, if_then_else_, _and_, _or_, _>>=_}
+use Rattle.layout.specs.Octets.{octetsOf, null16}
+use Rattle.layout.specs.Types.{typeAt, inRange}
+use Rattle.layout.specs.Book.{Field, Data, Shape, Groups, none, more, Template, Book, findTemplate, end, isArray, isOptional, groupSinces}
+use Rattle.layout.specs.BookRules.{bookOf}
+use Rattle.layout.specs.Values.{Values, nil, entry, group}
+use Rattle.layout.specs.Message.{headerSize, dimensionSize, Entry}
+use Rattle.layout.specs.declared.Answer.{Answer}
+use Rattle.layout.specs.declared.Answer.the-variants.{Number, Null, Octets, Absent, Group, OutOfRange}
+
+-- ---- 51: record i of the listing l
+
+module _ (l : List ℕ) where
+  abbrev pub first : ℕ → ℕ
+  first i = getD l (3 * i) 0
+
+  abbrev pub second : ℕ → ℕ
+  second i = getD l (3 * i + 1) 0
+
+  abbrev pub third : ℕ → ℕ
+  third i = getD l (3 * i + 2) 0
+
+  -- "record missing, left over or partial"
+  abbrev pub isThere : ℕ → Bool
+  isThere i = leb (3 * i + 3) (length l)
+
+  -- "wrong kind for its element (3 and 5 always, 1 for an array), or an unused number not 0"
+  abbrev pub isNumber : ℕ → Bool
+  isNumber i = isThere i and eqb (third i) 0 and (eqb (first i) 0 or (eqb (first i) 1 and eqb (second i) 0))
+
+  abbrev pub isOctets : ℕ → Bool
+  isOctets i = isThere i and eqb (first i) 2
+
+  abbrev pub isGroup : ℕ → Bool
+  isGroup i = isThere i and eqb (first i) 4 and eqb (third i) 0
+
+  -- 52: "number is null or out of range; null for a required field"
+  abbrev pub numberFits : Field → ℕ → Bool
+  numberFits f i =
+      let k = typeAt (f .type) in
+      if eqb (first i) 1 then isOptional f else inRange k (second i) and not (eqb (second i) (k .null))
+
+-- ---- 51 to 54, in the listing's order, for a pool of n octets
+
+module _ (l : List ℕ) (n : ℕ) where
+  -- "53: start plus length past the pool's end, length not the field's, or data over 65,534"
+  unfoldable pub judgeField : Field → ℕ → Result Answer
+  judgeField f i =
+      if isArray f
+      then (do
+        _ ← must (isOctets l i) 51 i
+        _ ← must (leb (second l i + third l i) n and eqb (third l i) (f .length)) 53 i
+        done (Octets (second l i) (third l i)))
+      else (do
+        _ ← must (isNumber l i) 51 i
+        _ ← must (numberFits l f i) 52 i
+        done (if eqb (first l i) 1 then Null else Number (second l i)))
+
+  unfoldable pub judgeData : ℕ → Result Answer
+  judgeData i = do
+    _ ← must (isOctets l i) 51 i
+    _ ← must (leb (second l i + third l i) n and ltb (third l i) null16) 53 i
+    done (Octets (second l i) (third l i))
+
+  -- What a row of elements is, from record i on, and the number of the next record.
+  unfoldable pub judgeFields : List Field → ℕ → Result (List Answer × ℕ)
+  judgeFields [] i = done ([], i)
+  judgeFields (f ∷ fs) i = do
+    a ← judgeField f i
+    (rest, j) ← judgeFields fs (suc i)
+    done (a ∷ rest, j)
+
+  unfoldable pub judgeDatas : List Data → ℕ → Result (List Answer × ℕ)
+  judgeDatas [] i = done ([], i)
+  judgeDatas (d ∷ ds) i = do
+    a ← judgeData i
+    (rest, j) ← judgeDatas ds (suc i)
+    done (a ∷ rest, j)
+
+  unfoldable pub judgeEntries : ℕ → (ℕ → Result Entry) → ℕ → Result (Values × ℕ)
+  judgeEntries zero f i = done (nil, i)
+  judgeEntries (suc k) f i = do
+    (fs, gs, ds, j) ← f i
+    (rest, e) ← judgeEntries k f j
+    done (entry fs gs ds rest, e)
+
+  unfoldable pub judgeBlock : Shape → (ℕ → Result (Values × ℕ)) → ℕ → Result Entry
+  judgeBlock s f i = do
+    (fs, j) ← judgeFields (s .fields) i
+    (gs, k) ← f j
+    (ds, e) ← judgeDatas (s .datas) k
+    done (fs, gs, ds, e)
+
+  -- "54: entries over 65,534"
+  unfoldable pub judgeGroups : Groups → ℕ → Result (Values × ℕ)
+  judgeGroups none i = done (nil, i)
+  judgeGroups (more id since s inner rest) i = do
+    _ ← must (isGroup l i) 51 i
+    let k = second l i
+    _ ← must (ltb k null16) 54 i
+    (es, j) ← judgeEntries k (judgeBlock s (judgeGroups inner)) (suc i)
+    (gs, e) ← judgeGroups rest j
+    done (group (Group k) es gs, e)
+
+  -- "left-over records next"
+  unfoldable pub judgeListing : Template → Result Values
+  judgeListing t = do
+    (fs, gs, ds, e) ← judgeBlock (t .shape) (judgeGroups (t .groups)) 0
+    _ ← must (eqb (3 * e) (length l)) 51 e
+    done (entry fs gs ds nil)
+
+-- ---- the octets of a tree; starts refer to the pool
+
+-- Header and dimensions: 16-bit numbers, one after the other.
+unfoldable pub numbers16 : List ℕ → List ℕ
+numbers16 [] = []
+numbers16 (x ∷ xs) = octetsOf 2 x ++ numbers16 xs
+
+-- The start and length of octets.
+unfoldable pub spanOf : Answer → ℕ × ℕ
+spanOf (Octets start len) = (start, len)
+spanOf (Number x) = (0, 0)
+spanOf Null = (0, 0)
+spanOf Absent = (0, 0)
+spanOf (Group k) = (0, 0)
+spanOf (OutOfRange x) = (0, 0)
+
+-- The entries of a group.
+unfoldable pub entriesIn : Answer → ℕ
+entriesIn (Group k) = k
+entriesIn (Number x) = 0
+entriesIn Null = 0
+entriesIn (Octets start len) = 0
+entriesIn Absent = 0
+entriesIn (OutOfRange x) = 0
+
+module _ (pool : List ℕ) where
+  abbrev pub spanOctets : Answer → List ℕ
+  spanOctets a = take (spanOf a .1) (drop (spanOf a .0) pool)
+
+  unfoldable pub fieldOctets : Field → Answer → List ℕ
+  fieldOctets f (Number x) = octetsOf (typeAt (f .type) .width) x
+  fieldOctets f Null = octetsOf (typeAt (f .type) .width) (typeAt (f .type) .null)
+  fieldOctets f (Octets start len) = spanOctets (Octets start len)
+  fieldOctets f Absent = []
+  fieldOctets f (Group k) = []
+  fieldOctets f (OutOfRange x) = []
+
+  -- "declared block lengths, .. and zero padding": a block of l octets, from its octet `at` on.
+  unfoldable pub blockOctets : ℕ → ℕ → List Field → List Answer → List ℕ
+  blockOctets l at [] as′ = replicate (l - at) 0
+  blockOctets l at (f ∷ fs) [] = replicate (l - at) 0
+  blockOctets l at (f ∷ fs) (a ∷ as′) = replicate (f .offset - at) 0 ++ (fieldOctets f a ++ blockOctets l (end f) fs as′)
+
+  unfoldable pub dataOctets : List Answer → List ℕ
+  dataOctets [] = []
+  dataOctets (a ∷ ds) = octetsOf 2 (spanOf a .1) ++ (spanOctets a ++ dataOctets ds)
+
+  -- A row: the entries of a block s with groups gs, or the groups gs of a block s.
+  unfoldable pub rowOctets : Shape → Groups → Values → List ℕ
+  rowOctets s gs nil = []
+  rowOctets s gs (entry fs g ds rest) =
+      (blockOctets (s .length) 0 (s .fields) fs ++ (rowOctets s gs g ++ dataOctets ds)) ++ rowOctets s gs rest
+  rowOctets s none (group a es rest) = []
+  rowOctets s (more i since sh inner gs) (group a es rest) =
+      numbers16 (sh .length ∷ entriesIn a ∷ []) ++ (rowOctets sh inner es ++ rowOctets s gs rest)
+
+-- "It writes the book's version, declared block lengths, the book's counts and zero padding."
+unfoldable pub messageOctets : Book → Template → List ℕ → Values → List ℕ
+messageOctets b t pool r =
+    numbers16 (t .shape .length ∷ t .id ∷ b .schema ∷ b .version ∷ length (groupSinces (t .groups)) ∷ length (t .shape .datas) ∷ [])
+    ++ rowOctets pool (t .shape) (t .groups) r
+
+-- "Its length is 12 plus the declared root block, 4 per group record, the declared block per entry, and 2 plus its length
+-- per data."
+unfoldable pub datasLength : List Answer → ℕ
+datasLength [] = 0
+datasLength (a ∷ ds) = 2 + spanOf a .1 + datasLength ds
+
+unfoldable pub rowLength : Shape → Groups → Values → ℕ
+rowLength s gs nil = 0
+rowLength s gs (entry fs g ds rest) = s .length + (rowLength s gs g + (datasLength ds + rowLength s gs rest))
+rowLength s none (group a es rest) = 0
+rowLength s (more i since sh inner gs) (group a es rest) = dimensionSize + (rowLength sh inner es + rowLength s gs rest)
+
+abbrev pub writtenLength : Template → Values → ℕ
+writtenLength t r = headerSize + rowLength (t .shape) (t .groups) r
+
+-- "Writing: 50; then 51 to 54 at the first record at fault, 51 first within it; left-over records next; 55 last." `room`
+-- is how many octets there is room for.
+unfoldable pub writeOf : List ℕ → ℕ → List ℕ → List ℕ → ℕ → Result (List ℕ)
+writeOf book id l pool room = do
+  b ← bookOf book
+  t ← orRefuse (findTemplate id (b .templates)) 50 0
+  r ← judgeListing l (length pool) t
+  let m = messageOctets b t pool r
+  _ ← must (leb (length m) room and leb (length m) 65535) 55 0
+  done m
