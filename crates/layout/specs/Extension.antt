@@ -1,28 +1,30 @@
 -- "A newer book extends an older one when ..": legal extension, a relation with named parts.
 use mathlib.Core.Path.{_≡_}
-use mathlib.Core.Bool.{Bool, true, false}
-use mathlib.Core.List.{List, [], _∷_, _++_}
+use mathlib.Core.Bool.{Bool, false, true}
+use mathlib.Core.List.{List, [], _++_}
 use mathlib.Core.Option.{some}
-use Prim.Native.Nat.{ℕ, _≤_, _<_}
-use Rattle.layout.specs.Book.{Field, Data, Shape, Groups, none, more, Template, Book, findTemplate, fieldSinces, dataSinces}
+use Prim.Native.Nat.{_<_, _≤_, ℕ}
+use Rattle.layout.specs.Result.{Each}
+use Rattle.layout.specs.Book.{Book, Data, Field, Groups, Shape, Template, dataSinces, fieldSinces, findTemplate}
+use Rattle.layout.specs.Book.{more, none}
 
--- "every added element's since is above the older version", which is `limit` from here on.
-unfoldable pub AllAbove : ℕ → List ℕ → Type 0
-AllAbove limit [] = Unit {0}
-AllAbove limit (s ∷ ss) = (limit < s) × AllAbove limit ss
-
+-- `limit` is the older version.
 module _ (limit : ℕ) where
+  -- "every added element's since is above the older version"
+  abbrev pub AllAbove : List ℕ → Type 0
+  AllAbove sinces = Each (λ since. limit < since) sinces
+
   -- "older fields come first, all six words equal"
   pub record AddsFields (old new : List Field) : Type 0 where
     pub added : List Field
     pub first : new ≡ old ++ added
-    pub young : AllAbove limit (fieldSinces added)
+    pub young : AllAbove (fieldSinces added)
 
   -- "older data likewise"
   pub record AddsDatas (old new : List Data) : Type 0 where
     pub added : List Data
     pub first : new ≡ old ++ added
-    pub young : AllAbove limit (dataSinces added)
+    pub young : AllAbove (dataSinces added)
 
   -- "Per block: declared length no smaller; ..". "Inside groups only fields may be added": there, `root` is false.
   pub record ExtendsShape (root : Bool) (old new : Shape) : Type 0 where
@@ -61,19 +63,15 @@ module _ (limit : ℕ) where
       ExtendsGroup i i′ since since′ s s′ (ExtendsGroups false inner inner′) (ExtendsGroups root rest rest′)
 
   -- "each older template stands in it": under its id the newer book has a template that extends it.
-  pub record Stands (old : Template) (news : List Template) : Type 0 where
+  pub record StandsIn (old : Template) (news : List Template) : Type 0 where
     pub newer : Template
     pub there : findTemplate (old .id) news ≡ some newer
     pub shape : ExtendsShape true (old .shape) (newer .shape)
     pub groups : ExtendsGroups true (old .groups) (newer .groups)
-
-  unfoldable pub EachStands : List Template → List Template → Type 0
-  EachStands [] news = Unit {0}
-  EachStands (t ∷ ts) news = Stands t news × EachStands ts news
 
 -- "the schema id is equal, its version is greater, and each older template stands in it"; "templates that only the newer
 -- book has are free"
 pub record Extends (old new : Book) : Type 0 where
   pub schema : old .schema ≡ new .schema
   pub version : old .version < new .version
-  pub templates : EachStands (old .version) (old .templates) (new .templates)
+  pub templates : Each (λ t. StandsIn (old .version) t (new .templates)) (old .templates)

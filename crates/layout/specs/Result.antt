@@ -1,8 +1,10 @@
--- What an operation comes to: "A refusal gives number and place, nothing else."
+-- What an operation comes to, and the words that every definition uses.
 use mathlib.Core.Bool.{Bool, true, false}
+use mathlib.Core.List.{List, [], _∷_}
 use mathlib.Core.Option.{Option, none, some}
 use Prim.Native.Nat.{ℕ}
 
+-- "A refusal gives number and place, nothing else."
 pub data Result (A : Type 0) : Type 0 where
   done : A → Result A
   refused : ℕ → ℕ → Result A
@@ -38,3 +40,8 @@ infix 1 if_then_else_
 unfoldable pub if_then_else_ : {A : Type 0} → Bool → A → A → A
 if true then a else b = a
 if false then a else b = b
+
+-- P holds of each.
+unfoldable pub Each : {A : Type 0} → (A → Type 0) → List A → Type 0
+Each P [] = Unit {0}
+Each P (a ∷ rest) = P a × Each P rest

@@ -1,0 +1,5 @@
+pub mod Sees
+pub mod Needs
+pub mod Kept
+pub mod Beside
+pub mod TwoBooks

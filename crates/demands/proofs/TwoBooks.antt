@@ -1,0 +1,192 @@
+-- Demand 3: what an older book makes of a message that a newer book, its legal extension, accepts.
+use mathlib.Core.Path.{_≡_, ap, refl}
+use mathlib.Core.Bool.{Bool, false, false≢true, true}
+use mathlib.Core.List.{List, [], _++_, _∷_}
+use mathlib.Core.Option.{some}
+use Prim.Native.Nat.{_+_, _<_, _≤_, suc, zero, ℕ}
+use native.Mathlib.Omega.{arith}
+use lib.Dec.{eqb, leb}
+use lib.ListN.{length, length-append}
+use borrow.Author.Tests.{eqb-true, le-leb, leb-false, leb-true, lt-ltb, ltb-true}
+use Rattle.layout.specs.Result.{Result, _>>=_, done, if_then_else_, must, orRefuse, refused}
+use Rattle.layout.specs.Octets.{number16}
+use Rattle.layout.specs.Book.{Book, Data, Field, Groups, Shape, Template, dataSinces, findTemplate, groupSinces, more}
+use Rattle.layout.specs.Book.{none, present}
+use Rattle.layout.specs.BookRules.{bookOf, layoutGood, rising, sinceGood}
+use Rattle.layout.specs.Values.{Step, Values, entry, nil}
+use Rattle.layout.specs.Message.{blockLength, countGood, readMessage, readRoot, templateId, versionOf}
+use Rattle.layout.specs.Reading.{groupHas, hasElement, hasPlace, placeIn, placeOf}
+use Rattle.layout.specs.Extension.{AddsDatas, Extends, ExtendsGroups, ExtendsShape, StandsIn}
+use Rattle.layout.specs.All.{all}
+use Rattle.layout.specs.Demands.{verdict}
+use Rattle.demands.proofs.Beside.{keptBlock, present-groups, sees-block, sees-groups}
+use Rattle.demands.proofs.Kept.{kept, kept-answer}
+use Rattle.demands.proofs.Needs.{need-adds, present-absent, present-all, present-append, present-most}
+use Rattle.demands.proofs.Sees.{Sees, seen-done, sees-bind, sees-done, sees-leb, sees-must, sees-same, sees-then}
+use Rattle.layout.proofs.Accepted.{accepted, found-holds}
+use Rattle.layout.proofs.Results.{and-left, and-right, bind-done, inv-must}
+use Rattle.layout.specs.declared.Answer.the-variants.{Group}
+use Rattle.layout.specs.declared.Element.{Element}
+use Rattle.layout.specs.declared.Element as Element
+
+-- ---- the header's counts: so and sn are the groupSinces of the older and of the newer
+
+module _ (vo vn v : ℕ) (so sn : List ℕ) (newer : vo < vn) (all : rising vo 0 so ≡ true) (least : present v so ≤ present v sn)
+    (same : v ≤ vo → present v so ≡ present v sn) where
+  -- The count that the newer book allows covers what it knows.
+  count-covers : (n : ℕ) → countGood vn v sn n ≡ true → present v sn ≤ n
+  unfolding countGood if_then_else_
+  count-covers n e = go (leb v vn) e
+    where
+      go : (t : Bool) → (if t then eqb n (present v sn) else leb (length sn) n) ≡ true → present v sn ≤ n
+      go true q = omega (arith, eqb-true n (present v sn) q)
+      go false q = omega (arith, leb-true (length sn) n q, present-most v sn)
+
+  count-older : (n : ℕ) → countGood vn v sn n ≡ true → countGood vo v so n ≡ true
+  unfolding countGood if_then_else_
+  count-older n e = go (leb v vo) refl
+    where
+      go : (t : Bool) → leb v vo ≡ t → (if t then eqb n (present v so) else leb (length so) n) ≡ true
+      go true q =
+          let h : v ≤ vo = leb-true v vo q in
+          rw (same h) (rw (le-leb v vn (omega arith)) at e)
+      go false q =
+          let h : vo < v = leb-false v vo q in
+          le-leb (length so) n (omega (arith, count-covers n e, present-all v vo 0 so all (omega arith)))
+
+  count-same : (n : ℕ) → v ≤ vo → countGood vo v so n ≡ countGood vn v sn n
+  unfolding countGood if_then_else_
+  count-same n h = rw (le-leb v vo h, le-leb v vn (omega arith), same h) refl
+
+  sees-count : (strict : Bool) (n p : ℕ) → (strict ≡ true → v ≤ vo) → Sees strict (λ (u : Unit {0}). u) (must (countGood vo v so n) 15 p) (must (countGood vn v sn n) 15 p)
+  sees-count strict n p h = sees-must strict _ _ 15 p (count-older n) (λ s. count-same n (h s))
+
+-- ---- the root
+
+present-datas : (v limit : ℕ) (old new : List Data) (a : AddsDatas limit old new) → present v (dataSinces new) ≡ present v (dataSinces old) + present v (dataSinces (a .added))
+present-datas v limit old new a = rw (a .first, map-append old (a .added)) (present-append v (dataSinces old) (dataSinces (a .added)))
+  where
+    map-append : (xs ys : List Data) → dataSinces (xs ++ ys) ≡ dataSinces xs ++ dataSinces ys
+    map-append [] ys = refl
+    map-append (x ∷ xs) ys = ap (λ (r : List ℕ). x .since ∷ r) (map-append xs ys)
+
+module _ (vo vn : ℕ) (old : Template) (news : List Template) (m : List ℕ) (strict : Bool) (newer : vo < vn)
+    (x : StandsIn vo old news) (layout : layoutGood (x .newer) ≡ true) (since : sinceGood vo old ≡ true)
+    (early : strict ≡ true → versionOf m ≤ vo) where
+  sees-root : Sees strict (kept (old .shape) (old .groups)) (readRoot vo old m) (readRoot vn (x .newer) m)
+  unfolding readRoot kept
+  sees-root =
+      let v = versionOf m in
+      let new = x .newer in
+      let fields = x .shape .fields in
+      let datas = x .shape .datas in
+      let g = present-groups m v strict vo true (old .groups) (new .groups) (x .groups) in
+      let d = present-datas v vo (old .shape .datas) (new .shape .datas) datas in
+      let sinceDatas = and-left _ _ (and-right _ _ since) in
+      let sinceGroups = and-left _ _ (and-right _ _ (and-right _ _ since)) in
+      let dl : present v (dataSinces (old .shape .datas)) ≤ present v (dataSinces (new .shape .datas)) = omega (arith, d) in
+      let de : v ≤ vo → present v (dataSinces (old .shape .datas)) ≡ present v (dataSinces (new .shape .datas)) = λ h. omega (arith, d, present-absent v vo (dataSinces (datas .added)) (datas .young) h) in
+      sees-bind strict (λ (u : Unit {0}). u) _ _ _ _ _
+      (sees-leb strict _ _ _ 14 0 (need-adds strict v vo (new .shape .length) (old .shape .fields) (new .shape .fields) fields (and-right _ _ (and-left _ _ layout)) early)) λ _.
+      sees-then strict (λ (u : Unit {0}). u) _ _ _ _ _
+      (sees-count vo vn v (groupSinces (old .groups)) (groupSinces (new .groups)) newer sinceGroups (g .0) (g .1) strict (number16 m 8) 8 early) λ _ cg.
+      sees-then strict (λ (u : Unit {0}). u) _ _ _ _ _
+      (sees-count vo vn v (dataSinces (old .shape .datas)) (dataSinces (new .shape .datas)) newer sinceDatas dl de strict (number16 m 10) 10 early) λ _ cd.
+      sees-bind strict (keptBlock (old .shape) (old .groups)) _ _ _ _ _
+      (sees-block m v strict vo (old .shape) (new .shape) (old .groups) _ _ _ _ (blockLength m) 12 fields datas
+      (omega (arith, d, count-covers vo vn v (dataSinces (old .shape .datas)) (dataSinces (new .shape .datas)) newer sinceDatas dl de (number16 m 10) (inv-must _ _ _ _ cd))) λ y.
+      sees-groups m v strict vo true (old .groups) (new .groups) (old .shape) _ _ y (x .groups) (and-right _ _ layout) early
+      (omega (arith, g .0, count-covers vo vn v (groupSinces (old .groups)) (groupSinces (new .groups)) newer sinceGroups (g .0) (g .1) (number16 m 8) (inv-must _ _ _ _ cg)))) λ b.
+      sees-bind strict (λ (u : Unit {0}). u) _ _ _ _ _ (sees-same strict _) λ _.
+      sees-done strict _ (entry (b .0) (b .1) (b .2) nil) _ refl
+
+-- ---- every place that the older book has, the newer has
+
+module _ (limit : ℕ) where
+  groups-longer : (root : Bool) (old new : Groups) → ExtendsGroups limit root old new → length (groupSinces old) ≤ length (groupSinces new)
+  unfolding ExtendsGroups groupSinces
+  groups-longer root none new x = omega arith
+  groups-longer root (more i since s inner rest) none x = absurd x
+  groups-longer root (more i since s inner rest) (more i′ since′ s′ inner′ rest′) x = omega (arith, groups-longer root rest rest′ (x .rest))
+
+  has-element : (root : Bool) (x : Element) (s s′ : Shape) (gs gs′ : Groups) → ExtendsShape limit root s s′ → ExtendsGroups limit root gs gs′
+      → hasElement x s gs ≡ true → hasElement x s′ gs′ ≡ true
+  unfolding hasElement
+  has-element root (Element.the-variants.Field k) s s′ gs gs′ a b h =
+      rw (a .fields .first, length-append (s .fields) (a .fields .added)) (lt-ltb k _ (omega (arith, ltb-true k _ h)))
+  has-element root (Element.the-variants.Group k) s s′ gs gs′ a b h = lt-ltb k _ (omega (arith, ltb-true k _ h, groups-longer root gs gs′ b))
+  has-element root (Element.the-variants.Data k) s s′ gs gs′ a b h =
+      rw (a .datas .first, length-append (s .datas) (a .datas .added)) (lt-ltb k _ (omega (arith, ltb-true k _ h)))
+
+  has-group : (root : Bool) (gs gs′ : Groups) (g : ℕ) (k : Shape → Groups → Bool) → ExtendsGroups limit root gs gs′
+      → ((s s′ : Shape) (i i′ : Groups) → ExtendsShape limit false s s′ → ExtendsGroups limit false i i′ → k s i ≡ true → k s′ i′ ≡ true)
+      → groupHas gs g k ≡ true → groupHas gs′ g k ≡ true
+  unfolding groupHas ExtendsGroups
+  has-group root none gs′ g k x ih h = absurd (false≢true h)
+  has-group root (more i since s inner rest) none g k x ih h = absurd x
+  has-group root (more i since s inner rest) (more i′ since′ s′ inner′ rest′) zero k x ih h = ih s s′ inner inner′ (x .shape) (x .inner) h
+  has-group root (more i since s inner rest) (more i′ since′ s′ inner′ rest′) (suc g) k x ih h = has-group root rest rest′ g k (x .rest) ih h
+
+  has-place : (p : List Step) (x : Element) (root : Bool) (s s′ : Shape) (gs gs′ : Groups) → ExtendsShape limit root s s′ → ExtendsGroups limit root gs gs′
+      → hasPlace p x s gs ≡ true → hasPlace p x s′ gs′ ≡ true
+  unfolding hasPlace
+  has-place [] x root s s′ gs gs′ a b h = has-element root x s s′ gs gs′ a b h
+  has-place (q ∷ p) x root s s′ gs gs′ a b h = has-group root gs gs′ (q .group) (hasPlace p x) b (λ t t′ i i′ y z. has-place p x false t t′ i i′ y z) h
+
+-- ---- the message
+
+-- What the older book makes of a message that the newer accepts: it accepts it too, and gives the newer's answer for every
+-- place that it has.
+pub record OlderReads (o n : List ℕ) (old : Book) (m : List ℕ) (t : Template) : Type 0 where
+  pub values : Values
+  pub accepts : readMessage old m ≡ done values
+  pub answers : (p : List Step) (y : Element) → hasPlace p y (t .shape) (t .groups) ≡ true → placeOf o m p y ≡ placeOf n m p y
+
+verdicts : {A B : Type 0} (f : A → B) (x : Result B) (y : Result A) → Sees true f x y → verdict x ≡ verdict y
+unfolding Sees verdict
+verdicts f x (done a) h = rw h refl
+verdicts f x (refused n p) h = rw h refl
+
+module _ (o n : List ℕ) (old new : Book) (ao : bookOf o ≡ done old) (an : bookOf n ≡ done new) (x : Extends old new)
+    (m : List ℕ) (t : Template) (e : findTemplate (templateId m) (old .templates) ≡ some t) where
+  stands : (t .id ≡ templateId m) × StandsIn (old .version) t (new .templates)
+  stands = found-holds _ (old .templates) (x .templates) (templateId m) t e
+
+  newer : Template
+  newer = stands .1 .newer
+
+  there : findTemplate (templateId m) (new .templates) ≡ some newer
+  unfolding newer
+  there = rw (← (stands .0)) (stands .1 .there)
+
+  sees-message : (strict : Bool) → (strict ≡ true → versionOf m ≤ old .version)
+      → Sees strict (kept (t .shape) (t .groups)) (readMessage old m) (readMessage new m)
+  unfolding readMessage orRefuse newer
+  sees-message strict h =
+      rw (x .schema, e, there, bind-done, bind-done)
+      (sees-bind strict (λ (u : Unit {0}). u) _ _ _ _ _ (sees-same strict _) λ _.
+      sees-root (old .version) (new .version) t (new .templates) m strict (x .version) (stands .1)
+      (accepted n new (templateId m) newer an there .1 .layout) (accepted o old (templateId m) t ao e .1 .since) h)
+
+  older-accepts : (r : Values) → readMessage new m ≡ done r → readMessage old m ≡ done (kept (t .shape) (t .groups) r)
+  older-accepts r q = seen-done false _ _ _ r (sees-message false λ z. absurd (false≢true z)) q
+
+  same-answer : (r : Values) → readMessage new m ≡ done r → (p : List Step) (y : Element)
+      → hasPlace p y (t .shape) (t .groups) ≡ true → placeIn old m p y ≡ placeIn new m p y
+  unfolding placeIn orRefuse _>>=_ newer
+  same-answer r q p y h =
+      let s = stands .1 in
+      let has = has-place (old .version) p y true (t .shape) (newer .shape) (t .groups) (newer .groups) (s .shape) (s .groups) h in
+      rw (older-accepts r q, q, e, there, h, has, kept-answer p y (t .shape) (t .groups) r h) refl
+
+  pub older-reads : (r : Values) → readMessage new m ≡ done r → OlderReads o n old m t
+  unfolding placeOf _>>=_
+  older-reads r q =
+      record {
+        values = kept (t .shape) (t .groups) r;
+        accepts = older-accepts r q;
+        answers = λ p y h. rw (ao, an) (same-answer r q p y h);
+      }
+
+  pub both-say : versionOf m ≤ old .version → verdict (readMessage old m) ≡ verdict (readMessage new m)
+  both-say h = verdicts _ _ _ (sees-message true λ _. h)

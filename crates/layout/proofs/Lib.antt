@@ -1,0 +1,4 @@
+pub mod Results
+pub mod Stands
+pub mod TypeLaws
+pub mod Accepted

@@ -1,0 +1,135 @@
+-- Where a list stands in a longer one, and the numbers that stand there. It carries every position, in messages and in
+-- listings alike.
+use mathlib.Core.Path.{_∙_, _≡_, ap, refl, sym}
+use mathlib.Core.List.{List, [], _++_, _∷_}
+use Prim.Native.Nat.{_%_, _*_, _+_, _/_, _<_, _^_, _≤_, suc, zero, ℕ}
+use native.Mathlib.Nat.{le-refl, one-le-pow, pow-suc, pow-zero}
+use native.Mathlib.Omega.{arith}
+use lib.Arith.{mod-mul}
+use lib.Dec.{lit<}
+use lib.ListN.{drop, getD, length, length-append, length-drop, take}
+use lib.Seq.{drop-at, drop-cons, drop-drop, getD-drop, length-take-le, take-add, take-at, take-length}
+use Rattle.layout.specs.Octets.{numberAt, numberOf, octetsOf}
+
+-- xs stands in m from `at` to `to`.
+pub record Stands (m : List ℕ) (at : ℕ) (xs : List ℕ) (to : ℕ) : Type 0 where
+  pub whole : take (length xs) (drop at m) ≡ xs
+  pub ends : to ≡ at + length xs
+  pub fits : to ≤ length m
+
+-- Of two that stand in a row each stands, `mid` being the place between.
+pub split-to : {m : List ℕ} {at to : ℕ} (xs ys : List ℕ) (mid : ℕ) → mid ≡ at + length xs → Stands m at (xs ++ ys) to
+    → Stands m at xs mid × Stands m mid ys to
+split-to {m} {at} {to} xs ys mid e s =
+    let n = length xs in
+    let len : length (xs ++ ys) ≡ n + length ys = length-append xs ys in
+    let room : n ≤ length (drop at m) = rw length-drop (omega (arith, s .ends, s .fits, len)) in
+    let l : length (take n (drop at m)) ≡ n = length-take-le n (drop at m) room in
+    let front = take n (drop at m) in
+    let back = take (length ys) (drop n (drop at m)) in
+    let both : front ++ back ≡ xs ++ ys =
+        sym (take-add n (length ys) (drop at m)) ∙ ap (λ (k : ℕ). take k (drop at m)) (sym len) ∙ s .whole in
+    let after : drop mid m ≡ drop n (drop at m) = ap (λ (k : ℕ). drop k m) e ∙ sym (drop-drop n at m) in (
+      record {
+        whole = sym (take-at front back n l) ∙ ap (take n) both ∙ take-at xs ys n refl;
+        ends = e;
+        fits = omega (arith, s .ends, s .fits, len);
+      },
+      record {
+        whole = ap (take (length ys)) after ∙ sym (drop-at front back n l) ∙ ap (drop n) both ∙ drop-at xs ys n refl;
+        ends = omega (arith, s .ends, len);
+        fits = s .fits;
+      },
+    )
+
+pub join : {m : List ℕ} {at mid to : ℕ} (xs ys : List ℕ) → Stands m at xs mid → Stands m mid ys to
+    → Stands m at (xs ++ ys) to
+join {m} {at} {mid} {to} xs ys a b =
+    let len : length (xs ++ ys) ≡ length xs + length ys = length-append xs ys in
+    let q : drop (length xs) (drop at m) ≡ drop mid m =
+        drop-drop (length xs) at m ∙ ap (λ (k : ℕ). drop k m) (sym (a .ends)) in
+    record {
+      whole = rw (len, take-add (length xs) (length ys) (drop at m), q, a .whole, b .whole) refl;
+      ends = omega (arith, len, a .ends, b .ends);
+      fits = b .fits;
+    }
+
+pub nothing-stands : (m : List ℕ) (at : ℕ) → at ≤ length m → Stands m at [] at
+nothing-stands m at h = record { whole = refl; ends = omega arith; fits = h }
+
+pub all-stands : (m : List ℕ) → Stands m 0 m (length m)
+all-stands m = record { whole = take-length m; ends = omega arith; fits = le-refl (length m) }
+
+-- What stands in all of m is m.
+pub stands-all : {m xs : List ℕ} → Stands m 0 xs (length m) → xs ≡ m
+stands-all {m} {xs} s =
+    let q : length xs ≡ length m = omega (arith, s .ends) in
+    sym (s .whole) ∙ ap (λ (k : ℕ). take k m) q ∙ take-length m
+
+pub slice-stands : (m : List ℕ) (at n : ℕ) → at + n ≤ length m → Stands m at (take n (drop at m)) (at + n)
+slice-stands m at n h =
+    let l : length (take n (drop at m)) ≡ n = length-take-le n (drop at m) (rw length-drop (omega arith)) in
+    record { whole = ap (λ (k : ℕ). take k (drop at m)) l; ends = omega (arith, l); fits = h }
+
+-- Three numbers, as a record has them.
+pub three-stand : (l : List ℕ) (at : ℕ) → at + 3 ≤ length l
+    → Stands l at (getD l at 0 ∷ getD l (at + 1) 0 ∷ getD l (at + 2) 0 ∷ []) (at + 3)
+three-stand l at h =
+    record {
+      whole = rw (next at (at + 1) (omega arith) (omega arith), next (at + 1) (at + 2) (omega arith) (omega arith), next (at + 2) (at + 3) (omega arith) (omega arith)) refl;
+      ends = refl;
+      fits = h;
+    }
+  where
+    next : (k j : ℕ) → suc k ≡ j → k < length l → drop k l ≡ getD l k 0 ∷ drop j l
+    next k j e g = drop-cons l k 0 g ∙ ap (λ (n : ℕ). getD l k 0 ∷ drop n l) e
+
+-- ---- numbers
+
+pub length-octets : (w x : ℕ) → length (octetsOf w x) ≡ w
+unfolding octetsOf
+length-octets zero x = refl
+length-octets (suc w) x = ap suc (length-octets w (x / 256))
+
+pub number-octets : (w x : ℕ) → numberOf (octetsOf w x) ≡ x % 256 ^ w
+unfolding numberOf octetsOf
+number-octets zero x = rw pow-zero (omega arith)
+number-octets (suc w) x =
+    rw (pow-suc, mod-mul x (one-le-pow w 256 (lit< tt)) (lit< tt), number-octets w (x / 256)) (omega arith)
+
+-- The number that x is written as.
+pub number-stands : {m : List ℕ} {at to : ℕ} (w x : ℕ) → Stands m at (octetsOf w x) to → numberAt w m at ≡ x % 256 ^ w
+number-stands {m} {at} {to} w x s =
+    ap (λ (n : ℕ). numberOf (take n (drop at m))) (sym (length-octets w x)) ∙ ap numberOf (s .whole) ∙ number-octets w x
+
+-- Each element is an octet, as a `&[u8]` gives it.
+abbrev pub AllOctets : List ℕ → Type 0
+AllOctets s = (i : ℕ) → getD s i 0 < 256
+
+octets-number : (s : List ℕ) → AllOctets s → octetsOf (length s) (numberOf s) ≡ s
+unfolding numberOf octetsOf
+octets-number [] h = refl
+octets-number (b ∷ s) h =
+    let low : b < 256 = h 0 in
+    let l : (b + 256 * numberOf s) % 256 ≡ b = omega arith in
+    let r : (b + 256 * numberOf s) / 256 ≡ numberOf s = omega arith in
+    rw (l, r, octets-number s (λ i. h (suc i))) refl
+
+octets-taken : (n : ℕ) (s : List ℕ) → AllOctets s → AllOctets (take n s)
+octets-taken zero s h i = omega arith
+octets-taken (suc n) [] h i = omega arith
+octets-taken (suc n) (b ∷ s) h zero = h zero
+octets-taken (suc n) (b ∷ s) h (suc i) = octets-taken n s (λ j. h (suc j)) i
+
+-- Whatever has the octets of the number that stands there stands there.
+pub octets-stand : (m : List ℕ) → AllOctets m → (w at x : ℕ) → at + w ≤ length m
+    → octetsOf w x ≡ octetsOf w (numberAt w m at) → Stands m at (octetsOf w x) (at + w)
+octets-stand m octets w at x h e = rw (e, there) (slice-stands m at w h)
+  where
+    l : length (take w (drop at m)) ≡ w
+    l = length-take-le w (drop at m) (rw length-drop (omega arith))
+
+    there : octetsOf w (numberAt w m at) ≡ take w (drop at m)
+    there =
+        ap (λ (k : ℕ). octetsOf k (numberAt w m at)) (sym l)
+        ∙ octets-number (take w (drop at m)) (octets-taken w (drop at m) (λ i. rw getD-drop (octets (at + i))))

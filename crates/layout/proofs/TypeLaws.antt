@@ -1,0 +1,150 @@
+-- What is written as a type's octets is read again: number facts once over the width, and the table's nine rows by one
+-- rule.
+use mathlib.Core.Path.{_∙_, _≡_, ap, refl, sym}
+use mathlib.Core.Bool.{Bool, false, false≢true, true}
+use Prim.Native.Nat.{_%_, _*_, _+_, _-_, _/_, _<_, _^_, _≤_, suc, zero, ℕ}
+use native.Mathlib.Nat.{mod-eq-of-lt, mul-add-mod-self-right, mul-left-comm, pow-succ'}
+use native.Mathlib.Omega.{arith}
+use lib.Dec.{eqb, leb}
+use borrow.Author.Tests.{le-leb, leb-true, lt-leb, ne-eqb}
+use Rattle.layout.specs.Result.{_and_, _or_, if_then_else_}
+use Rattle.layout.specs.Octets.{octetsOf}
+use Rattle.layout.specs.Types.{TypeRow, char, inRange, int, typeAt, uint, valueOf}
+use Rattle.layout.proofs.Results.{and-right, either, or-right}
+
+-- A width of the table: its numbers are even in number, and 2 ^ 64 is a multiple of that.
+pub record Width (w : ℕ) : Type 0 where
+  pub above : ℕ
+  pub whole : above * 256 ^ w + 256 ^ w ≡ 2 ^ 64
+  pub even : 256 ^ w / 2 + 256 ^ w / 2 ≡ 256 ^ w
+  pub some-are : 0 < 256 ^ w
+
+one : Width 1
+one = record { above = 256 ^ 7 - 1; whole = refl; even = refl; some-are = omega arith }
+
+two : Width 2
+two = record { above = 256 ^ 6 - 1; whole = refl; even = refl; some-are = omega arith }
+
+four : Width 4
+four = record { above = 256 ^ 4 - 1; whole = refl; even = refl; some-are = omega arith }
+
+eight : Width 8
+eight = record { above = 0; whole = refl; even = refl; some-are = omega arith }
+
+-- What holds of char and, at every width, of the signed and the unsigned type holds of the table.
+each-type : (P : TypeRow → Type 0) → P char → ((w : ℕ) → Width w → P (int w)) → ((w : ℕ) → Width w → P (uint w))
+    → (t : ℕ) → t < 9 → P (typeAt t)
+each-type P c i u zero h = c
+each-type P c i u (suc zero) h = i 1 one
+each-type P c i u (suc (suc zero)) h = u 1 one
+each-type P c i u (suc (suc (suc zero))) h = i 2 two
+each-type P c i u (suc (suc (suc (suc zero)))) h = u 2 two
+each-type P c i u (suc (suc (suc (suc (suc zero))))) h = i 4 four
+each-type P c i u (suc (suc (suc (suc (suc (suc zero)))))) h = u 4 four
+each-type P c i u (suc (suc (suc (suc (suc (suc (suc zero))))))) h = i 8 eight
+each-type P c i u (suc (suc (suc (suc (suc (suc (suc (suc zero)))))))) h = u 8 eight
+each-type P c i u (suc (suc (suc (suc (suc (suc (suc (suc (suc t))))))))) h = absurd (omega arith)
+
+-- ---- written and read again
+
+plain-back : (k : TypeRow) (x : ℕ) → k .signed ≡ false → x < 256 ^ k .width → valueOf k (x % 256 ^ k .width) ≡ x
+unfolding valueOf if_then_else_ _and_
+plain-back k x s h = rw s (mod-eq-of-lt h)
+
+module _ (w : ℕ) (a : Width w) (x : ℕ) where
+  int-low : x < 256 ^ w / 2 → valueOf (int w) (x % 256 ^ w) ≡ x
+  unfolding valueOf if_then_else_ _and_
+  int-low h =
+      let m : x % 256 ^ w ≡ x = mod-eq-of-lt (omega (arith, a .even)) in
+      rw (m, lt-leb (256 ^ w / 2) x h) refl
+
+  int-high : 2 ^ 64 - 256 ^ w / 2 ≤ x → x < 2 ^ 64 → valueOf (int w) (x % 256 ^ w) ≡ x
+  unfolding valueOf if_then_else_ _and_
+  int-high h k =
+      let y = x - a .above * 256 ^ w in
+      let sum : a .above * 256 ^ w + y ≡ x = omega (arith, a .whole, a .even) in
+      let m : x % 256 ^ w ≡ y =
+          ap (λ (z : ℕ). z % 256 ^ w) (sym sum) ∙ mul-add-mod-self-right (a .above) (256 ^ w) y
+          ∙ mod-eq-of-lt (omega (arith, a .whole)) in
+      rw (m, le-leb (256 ^ w / 2) y (omega (arith, a .whole, a .even))) (omega (arith, a .whole, sum))
+
+  int-back : inRange (int w) x ≡ true → x < 2 ^ 64 → valueOf (int w) (x % 256 ^ w) ≡ x
+  unfolding inRange if_then_else_
+  int-back r h = go (leb x (256 ^ w / 2 - 1)) refl r
+    where
+      go : (b : Bool) → leb x (256 ^ w / 2 - 1) ≡ b → (b or leb (2 ^ 64 - 256 ^ w / 2 + 1) x) ≡ true
+          → valueOf (int w) (x % 256 ^ w) ≡ x
+      go true e q = int-low (omega (arith, leb-true x (256 ^ w / 2 - 1) e, a .even, a .some-are))
+      go false e q = int-high (omega (arith, leb-true (2 ^ 64 - 256 ^ w / 2 + 1) x (or-right _ _ q refl))) h
+
+  uint-back : inRange (uint w) x ≡ true → valueOf (uint w) (x % 256 ^ w) ≡ x
+  unfolding inRange if_then_else_
+  uint-back r = plain-back (uint w) x refl (omega (arith, leb-true x (256 ^ w - 2) (and-right _ _ r), a .some-are))
+
+char-back : (x : ℕ) → inRange char x ≡ true → valueOf char (x % 256) ≡ x
+unfolding inRange if_then_else_
+char-back x r = plain-back char x refl (omega (arith, leb-true x 126 (and-right _ _ r)))
+
+-- A number in a type's range is read again.
+pub number-back : (t x : ℕ) → t < 9 → x < 2 ^ 64 → inRange (typeAt t) x ≡ true
+    → valueOf (typeAt t) (x % 256 ^ typeAt t .width) ≡ x
+number-back t x h b r =
+    each-type (λ k. inRange k x ≡ true → valueOf k (x % 256 ^ k .width) ≡ x)
+    (char-back x) (λ w a e. int-back w a x e b) (λ w a. uint-back w a x) t h r
+
+-- So is a type's null.
+pub null-back : (t : ℕ) → t < 9 → valueOf (typeAt t) (typeAt t .null % 256 ^ typeAt t .width) ≡ typeAt t .null
+null-back t h =
+    each-type (λ k. valueOf k (k .null % 256 ^ k .width) ≡ k .null)
+    (plain-back char 0 refl (omega arith))
+    (λ w a. int-high w a (2 ^ 64 - 256 ^ w / 2) (omega arith) (omega (arith, a .even, a .whole, a .some-are)))
+    (λ w a. plain-back (uint w) (256 ^ w - 1) refl (omega (arith, a .some-are))) t h
+
+-- A type's null is not in its range.
+null-outside : (t : ℕ) → t < 9 → inRange (typeAt t) (typeAt t .null) ≡ false
+null-outside t h = each-type (λ k. inRange k (k .null) ≡ false) in-char in-int in-uint t h
+  where
+    in-char : inRange char 0 ≡ false
+    in-char = unfold inRange if_then_else_ _and_ in refl
+
+    in-int : (w : ℕ) → Width w → inRange (int w) (2 ^ 64 - 256 ^ w / 2) ≡ false
+    in-int w a =
+        let n = 2 ^ 64 - 256 ^ w / 2 in
+        unfold inRange if_then_else_ _or_ in
+        rw (lt-leb n (256 ^ w / 2 - 1) (omega (arith, a .even, a .whole, a .some-are)), lt-leb (n + 1) n (omega arith)) refl
+
+    in-uint : (w : ℕ) → Width w → inRange (uint w) (256 ^ w - 1) ≡ false
+    in-uint w a =
+        unfold inRange if_then_else_ _and_ in
+        rw (le-leb 0 (256 ^ w - 1) (omega arith), lt-leb (256 ^ w - 1) (256 ^ w - 2) (omega (arith, a .even, a .some-are))) refl
+
+pub inside-not-null : (t x : ℕ) → t < 9 → inRange (typeAt t) x ≡ true → eqb x (typeAt t .null) ≡ false
+inside-not-null t x h r =
+    ne-eqb x (typeAt t .null) (λ e. false≢true (sym (null-outside t h) ∙ ap (inRange (typeAt t)) (sym e) ∙ r))
+
+-- ---- read and written again
+
+octets-add : (w k x : ℕ) → octetsOf w (x + k * 256 ^ w) ≡ octetsOf w x
+unfolding octetsOf
+octets-add zero k x = refl
+octets-add (suc w) k x =
+    let l : (x + 256 * (k * 256 ^ w)) % 256 ≡ x % 256 = omega arith in
+    let r : (x + 256 * (k * 256 ^ w)) / 256 ≡ x / 256 + k * 256 ^ w = omega arith in
+    rw (pow-succ', mul-left-comm k 256 (256 ^ w), l, r, octets-add w k (x / 256)) refl
+
+plain-octets : (k : TypeRow) (x : ℕ) → k .signed ≡ false → octetsOf (k .width) (valueOf k x) ≡ octetsOf (k .width) x
+unfolding valueOf if_then_else_ _and_
+plain-octets k x s = rw s refl
+
+int-octets : (w : ℕ) → Width w → (x : ℕ) → octetsOf w (valueOf (int w) x) ≡ octetsOf w x
+unfolding valueOf _and_
+int-octets w a x =
+    let up : 2 ^ 64 - 256 ^ w ≡ a .above * 256 ^ w = omega (arith, a .whole) in
+    either (λ (y : ℕ). octetsOf w y ≡ octetsOf w x) (leb (256 ^ w / 2) x) (x + (2 ^ 64 - 256 ^ w)) x
+    (rw up (octets-add w (a .above) x)) refl
+
+-- A value has the octets of the number that it is the value of.
+pub octets-value : (t x : ℕ) → t < 9 → octetsOf (typeAt t .width) (valueOf (typeAt t) x) ≡ octetsOf (typeAt t .width) x
+octets-value t x h =
+    each-type (λ k. octetsOf (k .width) (valueOf k x) ≡ octetsOf (k .width) x)
+    (plain-octets char x refl) (λ w a. int-octets w a x) (λ w a. plain-octets (uint w) x refl) t h
