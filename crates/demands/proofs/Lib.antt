@@ -3,3 +3,5 @@ pub mod Needs
 pub mod Kept
 pub mod Beside
 pub mod TwoBooks
+pub mod Present
+pub mod Lengths

@@ -13,6 +13,7 @@ use Rattle.layout.specs.Book.{Field, end, fieldSinces, needAfter, present}
 use Rattle.layout.specs.BookRules.{fieldsGood, rising}
 use Rattle.layout.specs.Extension.{AddsFields, AllAbove}
 use Rattle.demands.proofs.Sees.{AtLeast}
+use Rattle.layout.proofs.Fields.{field-good}
 use Rattle.layout.proofs.Results.{and-left, and-right, either}
 
 -- ---- needs
@@ -24,26 +25,32 @@ need-append v e (f ∷ fs) gs = need-append v (if leb (f .since) v then end f el
 
 -- The need of fields that are placed from `low` on, after a need of at most low, is at least that.
 pub need-grows : (v l low e : ℕ) (fs : List Field) → fieldsGood l low fs ≡ true → e ≤ low → e ≤ needAfter v e fs
-unfolding needAfter fieldsGood
+unfolding needAfter
 need-grows v l low e [] g h = le-refl e
 need-grows v l low e (f ∷ fs) g h =
-    let from = and-right _ _ (and-right _ _ (and-right _ _ g)) in
-    let placed : low ≤ f .offset = leb-true low (f .offset) (and-left _ _ from) in
-    let rest : fieldsGood l (end f) fs ≡ true = and-right _ _ (and-right _ _ from) in
+    let k = field-good l low f fs g in
     either (λ (x : ℕ). e ≤ needAfter v x fs) (leb (f .since) v) (end f) e
-    (le-trans (omega arith) (need-grows v l (end f) (end f) fs rest (le-refl (end f))))
-    (need-grows v l (end f) e fs rest (omega arith))
+    (le-trans (omega (arith, k .placed)) (need-grows v l (end f) (end f) fs (k .rest) (le-refl (end f))))
+    (need-grows v l (end f) e fs (k .rest) (omega (arith, k .placed)))
 
 pub need-prefix : (v l low e : ℕ) (fs gs : List Field) → fieldsGood l low (fs ++ gs) ≡ true → e ≤ low → needAfter v e fs ≤ needAfter v e (fs ++ gs)
-unfolding needAfter fieldsGood
+unfolding needAfter
 need-prefix v l low e [] gs g h = need-grows v l low e gs g h
 need-prefix v l low e (f ∷ fs) gs g h =
-    let from = and-right _ _ (and-right _ _ (and-right _ _ g)) in
-    let placed : low ≤ f .offset = leb-true low (f .offset) (and-left _ _ from) in
-    let rest : fieldsGood l (end f) (fs ++ gs) ≡ true = and-right _ _ (and-right _ _ from) in
+    let k = field-good l low f (fs ++ gs) g in
     either (λ (x : ℕ). needAfter v x fs ≤ needAfter v x (fs ++ gs)) (leb (f .since) v) (end f) e
-    (need-prefix v l (end f) (end f) fs gs rest (le-refl (end f)))
-    (need-prefix v l (end f) e fs gs rest (omega arith))
+    (need-prefix v l (end f) (end f) fs gs (k .rest) (le-refl (end f)))
+    (need-prefix v l (end f) e fs gs (k .rest) (omega (arith, k .placed)))
+
+-- A block needs no more than its declared length.
+pub need-within : (v len low e : ℕ) (fs : List Field) → fieldsGood len low fs ≡ true → e ≤ len → needAfter v e fs ≤ len
+unfolding needAfter
+need-within v len low e [] g h = h
+need-within v len low e (f ∷ fs) g h =
+    let k = field-good len low f fs g in
+    either (λ (x : ℕ). needAfter v x fs ≤ len) (leb (f .since) v) (end f) e
+    (need-within v len (end f) (end f) fs (k .rest) (k .ended))
+    (need-within v len (end f) e fs (k .rest) h)
 
 -- Fields above the limit need nothing at a version that is not.
 pub need-absent : (v limit e : ℕ) (fs : List Field) → AllAbove limit (fieldSinces fs) → v ≤ limit → needAfter v e fs ≡ e

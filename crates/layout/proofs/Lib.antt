@@ -2,3 +2,4 @@ pub mod Results
 pub mod Stands
 pub mod TypeLaws
 pub mod Accepted
+pub mod Fields

@@ -3,13 +3,15 @@
 use mathlib.Core.Path.{_∙_, _≡_, ap, refl, sym}
 use mathlib.Core.List.{List, [], _++_, _∷_}
 use Prim.Native.Nat.{_%_, _*_, _+_, _/_, _<_, _^_, _≤_, suc, zero, ℕ}
-use native.Mathlib.Nat.{le-refl, one-le-pow, pow-suc, pow-zero}
+use native.Mathlib.Nat.{le-refl, mod-eq-of-lt, one-le-pow, pow-suc, pow-zero}
 use native.Mathlib.Omega.{arith}
 use lib.Arith.{mod-mul}
 use lib.Dec.{lit<}
 use lib.ListN.{drop, getD, length, length-append, length-drop, take}
 use lib.Seq.{drop-at, drop-cons, drop-drop, getD-drop, length-take-le, take-add, take-at, take-length}
-use Rattle.layout.specs.Octets.{numberAt, numberOf, octetsOf}
+use Rattle.layout.specs.Result.{Each}
+use Rattle.layout.specs.Octets.{null16, number16, numberAt, numberOf, octetsOf}
+use Rattle.layout.specs.Writing.{numbers16}
 
 -- xs stands in m from `at` to `to`.
 pub record Stands (m : List ℕ) (at : ℕ) (xs : List ℕ) (to : ℕ) : Type 0 where
@@ -133,3 +135,37 @@ octets-stand m octets w at x h e = rw (e, there) (slice-stands m at w h)
     there =
         ap (λ (k : ℕ). octetsOf k (numberAt w m at)) (sym l)
         ∙ octets-number (take w (drop at m)) (octets-taken w (drop at m) (λ i. rw getD-drop (octets (at + i))))
+
+-- ---- 16-bit numbers in a row, as headers and dimensions have them
+
+-- The numbers xs stand in m from `at` on.
+unfoldable pub AreAt : List ℕ → ℕ → List ℕ → Type 0
+AreAt m at [] = Unit {0}
+AreAt m at (x ∷ xs) = (number16 m at ≡ x) × AreAt m (at + 2) xs
+
+abbrev pub AllWhole : List ℕ → Type 0
+AllWhole xs = Each (λ x. x < null16) xs
+
+pub length-numbers : (xs : List ℕ) → length (numbers16 xs) ≡ 2 * length xs
+unfolding numbers16
+length-numbers [] = refl
+length-numbers (x ∷ xs) = length-append (octetsOf 2 x) (numbers16 xs) ∙ omega (arith, length-octets 2 x, length-numbers xs)
+
+-- Written numbers are read.
+pub numbers-are : {m : List ℕ} {at to : ℕ} (xs : List ℕ) → AllWhole xs → Stands m at (numbers16 xs) to → AreAt m at xs
+unfolding numbers16 AreAt Each
+numbers-are [] h s = tt
+numbers-are {m} {at} (x ∷ xs) h s =
+    let o = split-to (octetsOf 2 x) (numbers16 xs) (at + 2) (omega (arith, length-octets 2 x)) s in
+    (number-stands 2 x (o .0) ∙ mod-eq-of-lt (omega (arith, h .0)), numbers-are xs (h .1) (o .1))
+
+-- Read numbers are written.
+pub numbers-stand : (m : List ℕ) → AllOctets m → (at to : ℕ) (xs : List ℕ) → to ≡ at + 2 * length xs → to ≤ length m
+    → AreAt m at xs → Stands m at (numbers16 xs) to
+unfolding numbers16 AreAt
+numbers-stand m octets at to [] e h a =
+    let q : at ≡ to = omega arith in
+    rw q (nothing-stands m to h)
+numbers-stand m octets at to (x ∷ xs) e h a =
+    join _ _ (octets-stand m octets 2 at x (omega arith) (ap (octetsOf 2) (sym (a .0))))
+    (numbers-stand m octets (at + 2) to xs (omega arith) h (a .1))

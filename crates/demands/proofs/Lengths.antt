@@ -1,0 +1,195 @@
+-- "Its length is 12 plus the declared root block, 4 per group record, ..": what is written has the length that the
+-- formula says.
+use mathlib.Core.Path.{_∙_, _≡_, refl, subst, sym}
+use mathlib.Core.Bool.{Bool, false, true}
+use mathlib.Core.List.{List, [], _++_, _∷_}
+use Prim.Native.Nat.{_+_, _-_, _<_, _≤_, suc, zero, ℕ}
+use native.Mathlib.Omega.{arith}
+use lib.Dec.{eqb}
+use lib.ListN.{drop, length, length-append, length-drop, length-replicate, replicate, take}
+use lib.Seq.{length-take-le}
+use borrow.Author.Tests.{eqb-true, leb-true, ltb-true}
+use Rattle.layout.specs.Result.{Result, done, if_then_else_}
+use Rattle.layout.specs.Octets.{null16, octetsOf}
+use Rattle.layout.specs.Types.{typeAt}
+use Rattle.layout.specs.Book.{Book, Data, Field, Groups, Shape, Template, end, groupSinces, isArray, more, none, size}
+use Rattle.layout.specs.BookRules.{fieldsGood, groupsGood, layoutGood, lengthGood}
+use Rattle.layout.specs.Values.{Values, entry, group, nil}
+use Rattle.layout.specs.Message.{Entry}
+use Rattle.layout.specs.Writing.{blockOctets, dataOctets, datasLength, entriesIn, fieldOctets, first, judgeBlock}
+use Rattle.layout.specs.Writing.{judgeData, judgeDatas, judgeEntries, judgeField, judgeFields, judgeGroups}
+use Rattle.layout.specs.Writing.{judgeListing, messageOctets, numberFits, numbers16, rowLength, rowOctets, second}
+use Rattle.layout.specs.Writing.{spanOctets, spanOf, third, writtenLength}
+use Rattle.layout.proofs.Fields.{field-good, size-array, size-plain}
+use Rattle.layout.proofs.Results.{and-left, and-right, done-inj, inv-bind, inv-must}
+use Rattle.layout.proofs.Stands.{length-numbers, length-octets}
+use Rattle.layout.specs.declared.Answer.{Answer}
+use Rattle.layout.specs.declared.Answer.the-variants.{Null, Number, Octets}
+
+span-long : (pool : List ℕ) (start len : ℕ) → start + len ≤ length pool → length (take len (drop start pool)) ≡ len
+span-long pool start len h = length-take-le len (drop start pool) (rw length-drop (omega arith))
+
+module _ (l pool : List ℕ) where
+  -- ---- fields
+
+  -- What the record of an array or of a number was judged to be.
+  pub array-said : (f : Field) (i : ℕ) (a : Answer) → isArray f ≡ true → judgeField l (length pool) f i ≡ done a
+      → (Octets (second l i) (third l i) ≡ a) × (second l i + third l i ≤ length pool) × (third l i ≡ f .length)
+  unfolding judgeField if_then_else_
+  array-said f i a y e =
+      let q = inv-bind _ _ _ (inv-bind _ _ _ (rw y at e) .next) in
+      let h = inv-must _ _ _ _ (q .first) in (
+        done-inj (q .next),
+        leb-true (second l i + third l i) (length pool) (and-left _ _ h),
+        eqb-true (third l i) (f .length) (and-right _ _ h),
+      )
+
+  pub number-said : (f : Field) (i : ℕ) (a : Answer) → isArray f ≡ false → judgeField l (length pool) f i ≡ done a
+      → ((if eqb (first l i) 1 then Null else Number (second l i)) ≡ a) × (numberFits l f i ≡ true)
+  unfolding judgeField if_then_else_
+  number-said f i a y e =
+      let q = inv-bind _ _ _ (inv-bind _ _ _ (rw y at e) .next) in
+      (done-inj (q .next), inv-must _ _ _ _ (q .first))
+
+  array-long : (f : Field) (start len : ℕ) → start + len ≤ length pool → length (fieldOctets pool f (Octets start len)) ≡ len
+  unfolding fieldOctets spanOf
+  array-long f start len h = span-long pool start len h
+
+  number-long : (f : Field) (b : Bool) (x : ℕ) → length (fieldOctets pool f (if b then Null else Number x)) ≡ typeAt (f .type) .width
+  unfolding fieldOctets if_then_else_
+  number-long f true x = length-octets _ _
+  number-long f false x = length-octets _ _
+
+  pub field-long : (f : Field) (i : ℕ) (a : Answer) → lengthGood f ≡ true → judgeField l (length pool) f i ≡ done a
+      → length (fieldOctets pool f a) ≡ size f
+  field-long f i a g e = go (isArray f) refl
+    where
+      go : (y : Bool) → isArray f ≡ y → length (fieldOctets pool f a) ≡ size f
+      go true y =
+          let s = array-said f i a y e in
+          rw (← (s .0)) (array-long f (second l i) (third l i) (s .1) ∙ s .2 ∙ sym (size-array f g y))
+      go false y = rw (← (number-said f i a y e .0)) (number-long f (eqb (first l i) 1) (second l i) ∙ sym (size-plain f g y))
+
+  pub fields-long : (fs : List Field) (len from i : ℕ) (r : List Answer × ℕ) → fieldsGood len from fs ≡ true → from ≤ len
+      → judgeFields l (length pool) fs i ≡ done r → from + length (blockOctets pool len from fs (r .0)) ≡ len
+  unfolding judgeFields blockOctets
+  fields-long [] len from i r g h e = rw (length-replicate {A = ℕ} (len - from) 0) (omega arith)
+  fields-long (f ∷ fs) len from i r g h e =
+      let p = inv-bind _ _ _ e in
+      let q = inv-bind _ _ _ (p .next) in
+      let k = field-good len from f fs g in
+      let a = fieldOctets pool f (p .value) in
+      let b = blockOctets pool len (end f) fs (q .value .0) in
+      subst (λ (x : List Answer × ℕ). from + length (blockOctets pool len from (f ∷ fs) (x .0)) ≡ len) (done-inj (q .next))
+      (rw (length-append (replicate (f .offset - from) 0) (a ++ b), length-append a b, length-replicate {A = ℕ} (f .offset - from) 0)
+      (omega (arith, k .placed, field-long f i (p .value) (k .length) (p .first),
+      fields-long fs len (end f) (suc i) (q .value) (k .rest) (k .ended) (q .first))))
+
+  -- ---- data
+
+  pub data-said : (i : ℕ) (a : Answer) → judgeData l (length pool) i ≡ done a
+      → (Octets (second l i) (third l i) ≡ a) × (second l i + third l i ≤ length pool) × (third l i < null16)
+  unfolding judgeData
+  data-said i a e =
+      let q = inv-bind _ _ _ (inv-bind _ _ _ e .next) in
+      let h = inv-must _ _ _ _ (q .first) in (
+        done-inj (q .next),
+        leb-true (second l i + third l i) (length pool) (and-left _ _ h),
+        ltb-true (third l i) null16 (and-right _ _ h),
+      )
+
+  pub data-long : (i : ℕ) (a : Answer) → judgeData l (length pool) i ≡ done a → length (spanOctets pool a) ≡ spanOf a .1
+  unfolding spanOf
+  data-long i a e =
+      let s = data-said i a e in
+      rw (← (s .0)) (span-long pool (second l i) (third l i) (s .1))
+
+  datas-long : (ds : List Data) (i : ℕ) (r : List Answer × ℕ) → judgeDatas l (length pool) ds i ≡ done r
+      → length (dataOctets pool (r .0)) ≡ datasLength (r .0)
+  unfolding judgeDatas dataOctets datasLength
+  datas-long [] i r e = subst (λ (x : List Answer × ℕ). length (dataOctets pool (x .0)) ≡ datasLength (x .0)) (done-inj e) refl
+  datas-long (d ∷ ds) i r e =
+      let p = inv-bind _ _ _ e in
+      let q = inv-bind _ _ _ (p .next) in
+      let n = octetsOf 2 (spanOf (p .value) .1) in
+      let a = spanOctets pool (p .value) in
+      let b = dataOctets pool (q .value .0) in
+      subst (λ (x : List Answer × ℕ). length (dataOctets pool (x .0)) ≡ datasLength (x .0)) (done-inj (q .next))
+      (rw (length-append n (a ++ b), length-append a b, length-octets 2 (spanOf (p .value) .1), data-long i (p .value) (p .first))
+      (omega (arith, datas-long ds (suc i) (q .value) (q .first))))
+
+  -- ---- rows
+
+  abbrev Long : Shape → Groups → Values → Type 0
+  Long s gs r = length (rowOctets pool s gs r) ≡ rowLength s gs r
+
+  entry-long : (s : Shape) (gs : Groups) (fs : List Answer) (g : Values) (ds : List Answer) (rest : Values)
+      → length (blockOctets pool (s .length) 0 (s .fields) fs) ≡ s .length → Long s gs g
+      → length (dataOctets pool ds) ≡ datasLength ds → Long s gs rest → Long s gs (entry fs g ds rest)
+  unfolding rowOctets rowLength
+  entry-long s gs fs g ds rest a b c d =
+      let xs = blockOctets pool (s .length) 0 (s .fields) fs in
+      let ys = rowOctets pool s gs g in
+      rw (length-append (xs ++ (ys ++ dataOctets pool ds)) (rowOctets pool s gs rest), length-append xs (ys ++ dataOctets pool ds),
+      length-append ys (dataOctets pool ds), a, b, c, d) (omega arith)
+
+  module _ (s : Shape) (gs : Groups) (good : fieldsGood (s .length) 0 (s .fields) ≡ true) (f : ℕ → Result (Values × ℕ))
+      (ih : (i : ℕ) (r : Values × ℕ) → f i ≡ done r → Long s gs (r .0)) where
+    block-long : (i : ℕ) (b : Entry) (rest : Values) → judgeBlock l (length pool) s f i ≡ done b → Long s gs rest
+        → Long s gs (entry (b .0) (b .1) (b .2) rest)
+    unfolding judgeBlock
+    block-long i b rest e h =
+        let p = inv-bind _ _ _ e in
+        let q = inv-bind _ _ _ (p .next) in
+        let k = inv-bind _ _ _ (q .next) in
+        subst (λ (x : Entry). Long s gs (entry (x .0) (x .1) (x .2) rest)) (done-inj (k .next))
+        (entry-long s gs (p .value .0) (q .value .0) (k .value .0) rest
+        (omega (arith, fields-long (s .fields) (s .length) 0 i (p .value) good (omega arith) (p .first)))
+        (ih (p .value .1) (q .value) (q .first)) (datas-long (s .datas) (q .value .1) (k .value) (k .first)) h)
+
+    entries-long : (k i : ℕ) (r : Values × ℕ) → judgeEntries l (length pool) k (judgeBlock l (length pool) s f) i ≡ done r
+        → Long s gs (r .0)
+    unfolding judgeEntries
+    entries-long zero i r e = subst (λ (x : Values × ℕ). Long s gs (x .0)) (done-inj e) (unfold rowOctets rowLength in refl)
+    entries-long (suc k) i r e =
+        let p = inv-bind _ _ _ e in
+        let q = inv-bind _ _ _ (p .next) in
+        subst (λ (x : Values × ℕ). Long s gs (x .0)) (done-inj (q .next))
+        (block-long i (p .value) (q .value .0) (p .first) (entries-long k (p .value .3) (q .value) (q .first)))
+
+  group-long : (i since : ℕ) (s : Shape) (inner rest : Groups) (s₀ : Shape) (a : Answer) (es gs : Values) → Long s inner es
+      → Long s₀ rest gs → Long s₀ (more i since s inner rest) (group a es gs)
+  unfolding rowOctets rowLength
+  group-long i since s inner rest s₀ a es gs x y =
+      let d = s .length ∷ entriesIn a ∷ [] in
+      let xs = rowOctets pool s inner es in
+      let ys = rowOctets pool s₀ rest gs in
+      rw (length-append (numbers16 d) (xs ++ ys), length-append xs ys, length-numbers d, x, y) (omega arith)
+
+  groups-long : (gs : Groups) (s₀ : Shape) (i : ℕ) (r : Values × ℕ) → groupsGood gs ≡ true
+      → judgeGroups l (length pool) gs i ≡ done r → Long s₀ gs (r .0)
+  unfolding judgeGroups groupsGood
+  groups-long none s₀ i r g e = subst (λ (x : Values × ℕ). Long s₀ none (x .0)) (done-inj e) (unfold rowOctets rowLength in refl)
+  groups-long (more id since s inner rest) s₀ i r g e =
+      let p = inv-bind _ _ _ (inv-bind _ _ _ (inv-bind _ _ _ e .next) .next) in
+      let q = inv-bind _ _ _ (p .next) in
+      let h = and-right _ _ g in
+      subst (λ (x : Values × ℕ). Long s₀ (more id since s inner rest) (x .0)) (done-inj (q .next))
+      (group-long id since s inner rest s₀ _ (p .value .0) (q .value .0)
+      (entries-long s inner (and-right _ _ (and-left _ _ g)) (judgeGroups l (length pool) inner)
+      (λ j x z. groups-long inner s j x (and-left _ _ h) z) (second l i) (suc i) (p .value) (p .first))
+      (groups-long rest s₀ (p .value .1) (q .value) (and-right _ _ h) (q .first)))
+
+  -- The whole message.
+  pub written-long : (b : Book) (t : Template) (r : Values) → layoutGood t ≡ true → judgeListing l (length pool) t ≡ done r
+      → length (messageOctets b t pool r) ≡ writtenLength t r
+  unfolding judgeListing messageOctets
+  written-long b t r g e =
+      let p = inv-bind _ _ _ e in
+      let q = inv-bind _ _ _ (p .next) in
+      let x = p .value in
+      let long = block-long (t .shape) (t .groups) (and-right _ _ (and-left _ _ g)) (judgeGroups l (length pool) (t .groups))
+          (λ j y z. groups-long (t .groups) (t .shape) j y (and-right _ _ g) z) 0 x nil (p .first) (unfold rowOctets rowLength in refl) in
+      subst (λ (y : Values). length (messageOctets b t pool y) ≡ writtenLength t y) (done-inj (q .next))
+      (length-append (numbers16 _) (rowOctets pool (t .shape) (t .groups) (entry (x .0) (x .1) (x .2) nil))
+      ∙ omega (arith, length-numbers (t .shape .length ∷ t .id ∷ b .schema ∷ b .version ∷ length (groupSinces (t .groups)) ∷ length (t .shape .datas) ∷ []), long))
