@@ -3,14 +3,13 @@
 use mathlib.Core.Path.{_∙_, _≡_, refl, subst, sym}
 use mathlib.Core.Bool.{Bool, false, true}
 use mathlib.Core.List.{List, [], _++_, _∷_}
-use Prim.Native.Nat.{_+_, _-_, _<_, _≤_, suc, zero, ℕ}
+use Prim.Native.Nat.{_+_, _-_, _≤_, suc, zero, ℕ}
 use native.Mathlib.Omega.{arith}
 use lib.Dec.{eqb}
 use lib.ListN.{drop, length, length-append, length-drop, length-replicate, replicate, take}
 use lib.Seq.{length-take-le}
-use borrow.Author.Tests.{eqb-true, leb-true, ltb-true}
 use Rattle.layout.specs.Result.{Result, done, if_then_else_}
-use Rattle.layout.specs.Octets.{null16, octetsOf}
+use Rattle.layout.specs.Octets.{octetsOf}
 use Rattle.layout.specs.Types.{typeAt}
 use Rattle.layout.specs.Book.{Book, Data, Field, Groups, Shape, Template, end, groupSinces, isArray, more, none, size}
 use Rattle.layout.specs.BookRules.{fieldsGood, groupsGood, layoutGood, lengthGood}
@@ -18,38 +17,20 @@ use Rattle.layout.specs.Values.{Values, entry, group, nil}
 use Rattle.layout.specs.Message.{Entry}
 use Rattle.layout.specs.Writing.{blockOctets, dataOctets, datasLength, entriesIn, fieldOctets, first, judgeBlock}
 use Rattle.layout.specs.Writing.{judgeData, judgeDatas, judgeEntries, judgeField, judgeFields, judgeGroups}
-use Rattle.layout.specs.Writing.{judgeListing, messageOctets, numberFits, numbers16, rowLength, rowOctets, second}
-use Rattle.layout.specs.Writing.{spanOctets, spanOf, third, writtenLength}
+use Rattle.layout.specs.Writing.{judgeListing, messageOctets, numbers16, rowLength, rowOctets, second, spanOctets}
+use Rattle.layout.specs.Writing.{spanOf, third, writtenLength}
+use Rattle.demands.proofs.Said.{array-said, data-said, number-said}
 use Rattle.layout.proofs.Fields.{field-good, size-array, size-plain}
-use Rattle.layout.proofs.Results.{and-left, and-right, done-inj, inv-bind, inv-must}
+use Rattle.layout.proofs.Results.{and-left, and-right, done-inj, inv-bind}
 use Rattle.layout.proofs.Stands.{length-numbers, length-octets}
 use Rattle.layout.specs.declared.Answer.{Answer}
 use Rattle.layout.specs.declared.Answer.the-variants.{Null, Number, Octets}
 
-span-long : (pool : List ℕ) (start len : ℕ) → start + len ≤ length pool → length (take len (drop start pool)) ≡ len
+pub span-long : (pool : List ℕ) (start len : ℕ) → start + len ≤ length pool → length (take len (drop start pool)) ≡ len
 span-long pool start len h = length-take-le len (drop start pool) (rw length-drop (omega arith))
 
 module _ (l pool : List ℕ) where
   -- ---- fields
-
-  -- What the record of an array or of a number was judged to be.
-  pub array-said : (f : Field) (i : ℕ) (a : Answer) → isArray f ≡ true → judgeField l (length pool) f i ≡ done a
-      → (Octets (second l i) (third l i) ≡ a) × (second l i + third l i ≤ length pool) × (third l i ≡ f .length)
-  unfolding judgeField if_then_else_
-  array-said f i a y e =
-      let q = inv-bind _ _ _ (inv-bind _ _ _ (rw y at e) .next) in
-      let h = inv-must _ _ _ _ (q .first) in (
-        done-inj (q .next),
-        leb-true (second l i + third l i) (length pool) (and-left _ _ h),
-        eqb-true (third l i) (f .length) (and-right _ _ h),
-      )
-
-  pub number-said : (f : Field) (i : ℕ) (a : Answer) → isArray f ≡ false → judgeField l (length pool) f i ≡ done a
-      → ((if eqb (first l i) 1 then Null else Number (second l i)) ≡ a) × (numberFits l f i ≡ true)
-  unfolding judgeField if_then_else_
-  number-said f i a y e =
-      let q = inv-bind _ _ _ (inv-bind _ _ _ (rw y at e) .next) in
-      (done-inj (q .next), inv-must _ _ _ _ (q .first))
 
   array-long : (f : Field) (start len : ℕ) → start + len ≤ length pool → length (fieldOctets pool f (Octets start len)) ≡ len
   unfolding fieldOctets spanOf
@@ -66,9 +47,11 @@ module _ (l pool : List ℕ) where
     where
       go : (y : Bool) → isArray f ≡ y → length (fieldOctets pool f a) ≡ size f
       go true y =
-          let s = array-said f i a y e in
-          rw (← (s .0)) (array-long f (second l i) (third l i) (s .1) ∙ s .2 ∙ sym (size-array f g y))
-      go false y = rw (← (number-said f i a y e .0)) (number-long f (eqb (first l i) 1) (second l i) ∙ sym (size-plain f g y))
+          let s = array-said l (length pool) f i a y e in
+          rw (← (s .0 .is)) (array-long f (second l i) (third l i) (s .0 .within) ∙ s .1 ∙ sym (size-array f g y))
+      go false y =
+          rw (← (number-said l (length pool) f i a y e .is))
+          (number-long f (eqb (first l i) 1) (second l i) ∙ sym (size-plain f g y))
 
   pub fields-long : (fs : List Field) (len from i : ℕ) (r : List Answer × ℕ) → fieldsGood len from fs ≡ true → from ≤ len
       → judgeFields l (length pool) fs i ≡ done r → from + length (blockOctets pool len from fs (r .0)) ≡ len
@@ -87,22 +70,11 @@ module _ (l pool : List ℕ) where
 
   -- ---- data
 
-  pub data-said : (i : ℕ) (a : Answer) → judgeData l (length pool) i ≡ done a
-      → (Octets (second l i) (third l i) ≡ a) × (second l i + third l i ≤ length pool) × (third l i < null16)
-  unfolding judgeData
-  data-said i a e =
-      let q = inv-bind _ _ _ (inv-bind _ _ _ e .next) in
-      let h = inv-must _ _ _ _ (q .first) in (
-        done-inj (q .next),
-        leb-true (second l i + third l i) (length pool) (and-left _ _ h),
-        ltb-true (third l i) null16 (and-right _ _ h),
-      )
-
   pub data-long : (i : ℕ) (a : Answer) → judgeData l (length pool) i ≡ done a → length (spanOctets pool a) ≡ spanOf a .1
   unfolding spanOf
   data-long i a e =
-      let s = data-said i a e in
-      rw (← (s .0)) (span-long pool (second l i) (third l i) (s .1))
+      let s = data-said l (length pool) i a e .0 in
+      rw (← (s .is)) (span-long pool (second l i) (third l i) (s .within))
 
   datas-long : (ds : List Data) (i : ℕ) (r : List Answer × ℕ) → judgeDatas l (length pool) ds i ≡ done r
       → length (dataOctets pool (r .0)) ≡ datasLength (r .0)

@@ -4,4 +4,9 @@ pub mod Kept
 pub mod Beside
 pub mod TwoBooks
 pub mod Present
+pub mod Said
 pub mod Lengths
+pub mod Contents
+pub mod Reread
+pub mod Relisted
+pub mod Written

@@ -3,3 +3,4 @@ pub mod Stands
 pub mod TypeLaws
 pub mod Accepted
 pub mod Fields
+pub mod Records

@@ -12,7 +12,7 @@ use Rattle.layout.specs.Message.{readData, skipDatas, readDimension, ski
 use Rattle.layout.specs.Message.{readDatas, readBlock, readGroup, readGroups, headerWhole, checkHeader}
 use Rattle.layout.specs.Message.{countGood, readRoot, readMessage}
 use Rattle.layout.specs.Reading.{checkOf, measureOf, listOf, hasElement, groupHas, hasPlace, placeIn, placeOf}
-use Rattle.layout.specs.Writing.{judgeField, judgeData, judgeFields, judgeDatas, judgeEntries, judgeBlock}
+use Rattle.layout.specs.Writing.{judgeOctets, judgeNumber, judgeFields, judgeDatas, judgeEntries, judgeBlock}
 use Rattle.layout.specs.Writing.{judgeGroups, judgeListing, numbers16, spanOf, entriesIn, fieldOctets}
 use Rattle.layout.specs.Writing.{blockOctets, dataOctets, rowOctets, messageOctets, datasLength, rowLength}
 use Rattle.layout.specs.Writing.{writeOf}
@@ -29,6 +29,6 @@ unfolding
     readData skipDatas readDimension skipGroups readEntries readField readDatas readBlock readGroup readGroups
     headerWhole checkHeader countGood readRoot readMessage
     checkOf measureOf listOf hasElement groupHas hasPlace placeIn placeOf
-    judgeField judgeData judgeFields judgeDatas judgeEntries judgeBlock judgeGroups judgeListing
+    judgeOctets judgeNumber judgeFields judgeDatas judgeEntries judgeBlock judgeGroups judgeListing
     numbers16 spanOf entriesIn fieldOctets blockOctets dataOctets rowOctets messageOctets datasLength rowLength writeOf
 all = tt

@@ -1,16 +1,17 @@
 -- A message from a listing: its records judged one by one into a tree of answers (51 to 54), and the tree's octets.
 use mathlib.Core.Bool.{Bool, not}
-use mathlib.Core.List.{List, [], _∷_, _++_}
-use Prim.Native.Nat.{ℕ, zero, suc, _+_, _-_, _*_}
-use lib.Dec.{leb, ltb, eqb}
-use lib.ListN.{length, getD, take, drop, replicate}
-use Rattle.layout.specs.Result.{Result, done, must, orRefuse, if_then_else_, _and_, _or_, _>>=_}
-use Rattle.layout.specs.Octets.{octetsOf, null16}
-use Rattle.layout.specs.Types.{typeAt, inRange}
-use Rattle.layout.specs.Book.{Field, Data, Shape, Groups, none, more, Template, Book, findTemplate, end, isArray, isOptional, groupSinces}
+use mathlib.Core.List.{List, [], _++_, _∷_}
+use Prim.Native.Nat.{_*_, _+_, _-_, suc, zero, ℕ}
+use lib.Dec.{eqb, leb, ltb}
+use lib.ListN.{drop, getD, length, replicate, take}
+use Rattle.layout.specs.Result.{Result, _>>=_, _and_, _or_, done, if_then_else_, must, orRefuse}
+use Rattle.layout.specs.Octets.{null16, octetsOf}
+use Rattle.layout.specs.Types.{inRange, typeAt}
+use Rattle.layout.specs.Book.{Book, Data, Field, Groups, Shape, Template, end, findTemplate, groupSinces, isArray}
+use Rattle.layout.specs.Book.{isOptional, more, none}
 use Rattle.layout.specs.BookRules.{bookOf}
-use Rattle.layout.specs.Values.{Values, nil, entry, group}
-use Rattle.layout.specs.Message.{headerSize, dimensionSize, Entry}
+use Rattle.layout.specs.Values.{Values, entry, group, nil}
+use Rattle.layout.specs.Message.{Entry, dimensionSize, headerSize}
 use Rattle.layout.specs.declared.Answer.{Answer}
 use Rattle.layout.specs.declared.Answer.the-variants.{Number, Null, Octets, Absent, Group, OutOfRange}
 
@@ -49,24 +50,24 @@ module _ (l : List ℕ) where
 -- ---- 51 to 54, in the listing's order, for a pool of n octets
 
 module _ (l : List ℕ) (n : ℕ) where
-  -- "53: start plus length past the pool's end, length not the field's, or data over 65,534"
-  unfoldable pub judgeField : Field → ℕ → Result Answer
-  judgeField f i =
-      if isArray f
-      then (do
-        _ ← must (isOctets l i) 51 i
-        _ ← must (leb (second l i + third l i) n and eqb (third l i) (f .length)) 53 i
-        done (Octets (second l i) (third l i)))
-      else (do
-        _ ← must (isNumber l i) 51 i
-        _ ← must (numberFits l f i) 52 i
-        done (if eqb (first l i) 1 then Null else Number (second l i)))
-
-  unfoldable pub judgeData : ℕ → Result Answer
-  judgeData i = do
+  -- "53: start plus length past the pool's end, length not the field's, or data over 65,534": octets, whose length `fits`.
+  unfoldable pub judgeOctets : Bool → ℕ → Result Answer
+  judgeOctets fits i = do
     _ ← must (isOctets l i) 51 i
-    _ ← must (leb (second l i + third l i) n and ltb (third l i) null16) 53 i
+    _ ← must (leb (second l i + third l i) n and fits) 53 i
     done (Octets (second l i) (third l i))
+
+  unfoldable pub judgeNumber : Field → ℕ → Result Answer
+  judgeNumber f i = do
+    _ ← must (isNumber l i) 51 i
+    _ ← must (numberFits l f i) 52 i
+    done (if eqb (first l i) 1 then Null else Number (second l i))
+
+  abbrev pub judgeField : Field → ℕ → Result Answer
+  judgeField f i = if isArray f then judgeOctets (eqb (third l i) (f .length)) i else judgeNumber f i
+
+  abbrev pub judgeData : ℕ → Result Answer
+  judgeData i = judgeOctets (ltb (third l i) null16) i
 
   -- What a row of elements is, from record i on, and the number of the next record.
   unfoldable pub judgeFields : List Field → ℕ → Result (List Answer × ℕ)
