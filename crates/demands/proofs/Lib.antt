@@ -10,3 +10,7 @@ pub mod Contents
 pub mod Reread
 pub mod Relisted
 pub mod Written
+pub mod Read
+pub mod Reprinted
+pub mod Judged
+pub mod Returned
