@@ -14,3 +14,4 @@ pub mod Read
 pub mod Reprinted
 pub mod Judged
 pub mod Returned
+pub mod Theorems

@@ -9,7 +9,7 @@ use lib.Dec.{eqb}
 use lib.ListN.{length, length-replicate, replicate}
 use borrow.Author.Tests.{eqb-true, le-leb, leb-true}
 use Rattle.layout.specs.Result.{Each, Result, _and_, done, if_then_else_}
-use Rattle.layout.specs.Octets.{number16, numberAt, octetsOf}
+use Rattle.layout.specs.Octets.{AllOctets, number16, numberAt, octetsOf}
 use Rattle.layout.specs.Types.{TypeRow, classify, inRange, typeAt, valueOf}
 use Rattle.layout.specs.Book.{Data, Field, Groups, Shape, dataSinces, end, fieldSinces, isArray, isOptional, more, need}
 use Rattle.layout.specs.Book.{none}
@@ -25,8 +25,7 @@ use Rattle.demands.proofs.Read.{DimensionRead, data-read, datas-read, d
 use Rattle.demands.proofs.Reread.{no-datas, no-groups}
 use Rattle.layout.proofs.Fields.{field-good, size-array, size-plain}
 use Rattle.layout.proofs.Results.{and-right, done-inj, inv-bind, inv-must}
-use Rattle.layout.proofs.Stands.{AllOctets, AreAt, Stands, join, nothing-stands, numbers-stand, octets-stand}
-use Rattle.layout.proofs.Stands.{slice-stands}
+use Rattle.layout.proofs.Stands.{AreAt, Stands, join, nothing-stands, numbers-stand, octets-stand, slice-stands}
 use Rattle.layout.proofs.TypeLaws.{octets-value}
 use Rattle.layout.specs.declared.Answer.{Answer}
 use Rattle.layout.specs.declared.Answer.the-variants.{Group, Null, Number, Octets, OutOfRange}

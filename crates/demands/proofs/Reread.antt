@@ -6,10 +6,10 @@ use Prim.Native.Nat.{_*_, _+_, _-_, _<_, _^_, _≤_, suc, zero, ℕ}
 use native.Mathlib.Nat.{mod-eq-of-lt}
 use native.Mathlib.Omega.{arith}
 use lib.Dec.{eqb}
-use lib.ListN.{drop, getD, length, length-replicate, replicate, take}
+use lib.ListN.{drop, length, length-replicate, replicate, take}
 use borrow.Author.Tests.{eq-eqb, le-leb, lt-ltb, ltb-true, not-true}
 use Rattle.layout.specs.Result.{Each, Result, _>>=_, _and_, done, if_then_else_, must}
-use Rattle.layout.specs.Octets.{null16, number16, numberAt, octetsOf}
+use Rattle.layout.specs.Octets.{Numbers64, null16, number16, numberAt, octetsOf}
 use Rattle.layout.specs.Types.{TypeRow, classify, inRange, typeAt, valueOf}
 use Rattle.layout.specs.Book.{Data, Field, Groups, Shape, dataSinces, end, fieldSinces, isArray, isOptional, more, need}
 use Rattle.layout.specs.Book.{none}
@@ -48,7 +48,7 @@ module _ (m : List ℕ) (v : ℕ) where
   unfolding readGroups skipGroups _>>=_
   no-groups at = refl
 
-module _ (l pool m : List ℕ) (v : ℕ) (small : (i : ℕ) → getD l i 0 < 2 ^ 64) where
+module _ (l pool m : List ℕ) (v : ℕ) (small : Numbers64 l) where
   -- ---- a field
 
   class-null : (k : TypeRow) → classify k true (k .null) ≡ Null

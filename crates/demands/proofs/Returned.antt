@@ -10,6 +10,7 @@ use native.Mathlib.Omega.{arith}
 use lib.ListN.{length, length-map}
 use borrow.Author.Tests.{eqb-true, le-leb, leb-true}
 use Rattle.layout.specs.Result.{_>>=_, _and_, done, if_then_else_, must, orRefuse}
+use Rattle.layout.specs.Octets.{AllOctets}
 use Rattle.layout.specs.Book.{Book, Data, Template, dataSinces, findTemplate, groupSinces, present}
 use Rattle.layout.specs.BookRules.{bookOf}
 use Rattle.layout.specs.Values.{Values, entry, listing, nil}
@@ -24,7 +25,7 @@ use Rattle.demands.proofs.Reprinted.{block-stands, entryPrinted, groups
 use Rattle.demands.proofs.Written.{headerOf}
 use Rattle.layout.proofs.Accepted.{accepted}
 use Rattle.layout.proofs.Results.{and-left, and-right, bind-done, done-inj, inv-bind, inv-must}
-use Rattle.layout.proofs.Stands.{AllOctets, AreAt, Stands, join, nothing-stands, numbers-stand, stands-all}
+use Rattle.layout.proofs.Stands.{AreAt, Stands, join, nothing-stands, numbers-stand, stands-all}
 
 -- ---- the root of a message of the book's own version and root block length
 

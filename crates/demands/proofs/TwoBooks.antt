@@ -1,5 +1,5 @@
 -- Demand 3: what an older book makes of a message that a newer book, its legal extension, accepts.
-use mathlib.Core.Path.{_≡_, ap, refl}
+use mathlib.Core.Path.{_∙_, _≡_, ap, refl, sym}
 use mathlib.Core.Bool.{Bool, false, false≢true, true}
 use mathlib.Core.List.{List, [], _++_, _∷_}
 use mathlib.Core.Option.{some}
@@ -15,16 +15,15 @@ use Rattle.layout.specs.Book.{none, present}
 use Rattle.layout.specs.BookRules.{bookOf, layoutGood, rising, sinceGood}
 use Rattle.layout.specs.Values.{Step, Values, entry, nil}
 use Rattle.layout.specs.Message.{blockLength, countGood, readMessage, readRoot, templateId, versionOf}
-use Rattle.layout.specs.Reading.{groupHas, hasElement, hasPlace, placeIn, placeOf}
+use Rattle.layout.specs.Reading.{checkOf, groupHas, hasElement, hasPlace, placeIn, placeOf}
 use Rattle.layout.specs.Extension.{AddsDatas, Extends, ExtendsGroups, ExtendsShape, StandsIn}
 use Rattle.layout.specs.All.{all}
-use Rattle.layout.specs.Demands.{verdict}
 use Rattle.demands.proofs.Beside.{keptBlock, present-groups, sees-block, sees-groups}
 use Rattle.demands.proofs.Kept.{kept, kept-answer}
 use Rattle.demands.proofs.Needs.{need-adds, present-absent, present-all, present-append, present-most}
 use Rattle.demands.proofs.Sees.{Sees, seen-done, sees-bind, sees-done, sees-leb, sees-must, sees-same, sees-then}
 use Rattle.layout.proofs.Accepted.{accepted, found-holds}
-use Rattle.layout.proofs.Results.{and-left, and-right, bind-done, inv-must}
+use Rattle.layout.proofs.Results.{and-left, and-right, bind-done, inv-bind, inv-must}
 use Rattle.layout.specs.declared.Answer.the-variants.{Group}
 use Rattle.layout.specs.declared.Element.{Element}
 use Rattle.layout.specs.declared.Element as Element
@@ -135,15 +134,9 @@ module _ (limit : ℕ) where
 
 -- ---- the message
 
--- What the older book makes of a message that the newer accepts: it accepts it too, and gives the newer's answer for every
--- place that it has.
-pub record OlderReads (o n : List ℕ) (old : Book) (m : List ℕ) (t : Template) : Type 0 where
-  pub values : Values
-  pub accepts : readMessage old m ≡ done values
-  pub answers : (p : List Step) (y : Element) → hasPlace p y (t .shape) (t .groups) ≡ true → placeOf o m p y ≡ placeOf n m p y
-
-verdicts : {A B : Type 0} (f : A → B) (x : Result B) (y : Result A) → Sees true f x y → verdict x ≡ verdict y
-unfolding Sees verdict
+verdicts : {A B : Type 0} (f : A → B) (x : Result B) (y : Result A) → Sees true f x y
+    → (x >>= λ _. done (tt {0})) ≡ (y >>= λ _. done (tt {0}))
+unfolding Sees _>>=_
 verdicts f x (done a) h = rw h refl
 verdicts f x (refused n p) h = rw h refl
 
@@ -168,25 +161,31 @@ module _ (o n : List ℕ) (old new : Book) (ao : bookOf o ≡ done old) (an : bo
       sees-root (old .version) (new .version) t (new .templates) m strict (x .version) (stands .1)
       (accepted n new (templateId m) newer an there .1 .layout) (accepted o old (templateId m) t ao e .1 .since) h)
 
-  older-accepts : (r : Values) → readMessage new m ≡ done r → readMessage old m ≡ done (kept (t .shape) (t .groups) r)
-  older-accepts r q = seen-done false _ _ _ r (sees-message false λ z. absurd (false≢true z)) q
+  older-reads : (r : Values) → readMessage new m ≡ done r → readMessage old m ≡ done (kept (t .shape) (t .groups) r)
+  older-reads r q = seen-done false _ _ _ r (sees-message false λ z. absurd (false≢true z)) q
 
-  same-answer : (r : Values) → readMessage new m ≡ done r → (p : List Step) (y : Element)
-      → hasPlace p y (t .shape) (t .groups) ≡ true → placeIn old m p y ≡ placeIn new m p y
-  unfolding placeIn orRefuse _>>=_ newer
-  same-answer r q p y h =
+  -- What a message that the newer book accepts is read as.
+  newer-reads : checkOf n m ≡ done tt → (r : Values) × (readMessage new m ≡ done r)
+  unfolding checkOf
+  newer-reads a =
+      let p = inv-bind _ _ _ (sym (bind-done new _) ∙ rw an at a) in
+      (p .value, p .first)
+
+  pub accepts-too : checkOf n m ≡ done tt → checkOf o m ≡ done tt
+  unfolding checkOf _>>=_
+  accepts-too a =
+      let r = newer-reads a in
+      rw (ao, older-reads (r .0) (r .1)) refl
+
+  pub same-answer : checkOf n m ≡ done tt → (p : List Step) (y : Element) → hasPlace p y (t .shape) (t .groups) ≡ true
+      → placeOf o m p y ≡ placeOf n m p y
+  unfolding placeOf placeIn orRefuse _>>=_ newer
+  same-answer a p y h =
       let s = stands .1 in
+      let r = newer-reads a in
       let has = has-place (old .version) p y true (t .shape) (newer .shape) (t .groups) (newer .groups) (s .shape) (s .groups) h in
-      rw (older-accepts r q, q, e, there, h, has, kept-answer p y (t .shape) (t .groups) r h) refl
+      rw (ao, an, older-reads (r .0) (r .1), r .1, e, there, h, has, kept-answer p y (t .shape) (t .groups) (r .0) h) refl
 
-  pub older-reads : (r : Values) → readMessage new m ≡ done r → OlderReads o n old m t
-  unfolding placeOf _>>=_
-  older-reads r q =
-      record {
-        values = kept (t .shape) (t .groups) r;
-        accepts = older-accepts r q;
-        answers = λ p y h. rw (ao, an) (same-answer r q p y h);
-      }
-
-  pub both-say : versionOf m ≤ old .version → verdict (readMessage old m) ≡ verdict (readMessage new m)
-  both-say h = verdicts _ _ _ (sees-message true λ _. h)
+  pub same-verdict : versionOf m ≤ old .version → checkOf o m ≡ checkOf n m
+  unfolding checkOf
+  same-verdict h = rw (ao, an, bind-done, bind-done) (verdicts _ _ _ (sees-message true λ _. h))

@@ -3,13 +3,13 @@
 use mathlib.Core.Path.{_∙_, _≡_, ap, refl, subst, sym}
 use mathlib.Core.List.{List, [], _∷_}
 use mathlib.Core.Option.{some}
-use Prim.Native.Nat.{_*_, _+_, _-_, _<_, _^_, _≤_, ℕ}
+use Prim.Native.Nat.{_*_, _+_, _-_, _≤_, ℕ}
 use native.Mathlib.Nat.{le-refl}
 use native.Mathlib.Omega.{arith}
-use lib.ListN.{getD, length, length-append, length-map}
+use lib.ListN.{length, length-append, length-map}
 use borrow.Author.Tests.{eq-eqb, le-leb, leb-true, lt-ltb}
 use Rattle.layout.specs.Result.{Each, _>>=_, _and_, done, if_then_else_, must, orRefuse}
-use Rattle.layout.specs.Octets.{null16}
+use Rattle.layout.specs.Octets.{Numbers64, null16}
 use Rattle.layout.specs.Book.{Book, Data, Template, dataSinces, findTemplate, groupSinces}
 use Rattle.layout.specs.BookRules.{bookOf}
 use Rattle.layout.specs.Values.{Values, entry, listing, measure, nil}
@@ -100,7 +100,7 @@ record ReadsBack (b : Book) (m pool : List ℕ) (said : Values) : Type 0 where
   accepts : readMessage b m ≡ done values
   same : treeContents m values ≡ treeContents pool said
 
-module _ (b : Book) (t : Template) (l pool : List ℕ) (small : (i : ℕ) → getD l i 0 < 2 ^ 64) (a : Accepted b t) where
+module _ (b : Book) (t : Template) (l pool : List ℕ) (small : Numbers64 l) (a : Accepted b t) where
   whole : AllWhole (headerOf b t)
   unfolding Each
   whole =
@@ -191,7 +191,7 @@ lists-within : (book m : List ℕ) (room : ℕ) (b : Book) (r : Values) → book
 unfolding listOf must _>>=_
 lists-within book m room b r e q h = rw (e, q, le-leb (3 * measure r) room h) refl
 
-pub reads-again : (book : List ℕ) (id : ℕ) (l pool m : List ℕ) → ((i : ℕ) → getD l i 0 < 2 ^ 64) → WrittenBy book id l pool m
+pub reads-again : (book : List ℕ) (id : ℕ) (l pool m : List ℕ) → Numbers64 l → WrittenBy book id l pool m
     → ReadsAgain book l pool m
 reads-again book id l pool m small w =
     let a = accepted book (w .by) id (w .template) (w .good) (w .found) .1 in

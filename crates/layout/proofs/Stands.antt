@@ -10,7 +10,7 @@ use lib.Dec.{lit<}
 use lib.ListN.{drop, getD, length, length-append, length-drop, take}
 use lib.Seq.{drop-at, drop-cons, drop-drop, getD-drop, length-take-le, take-add, take-at, take-length}
 use Rattle.layout.specs.Result.{Each}
-use Rattle.layout.specs.Octets.{null16, number16, numberAt, numberOf, octetsOf}
+use Rattle.layout.specs.Octets.{AllOctets, null16, number16, numberAt, numberOf, octetsOf}
 use Rattle.layout.specs.Writing.{numbers16}
 
 -- xs stands in m from `at` to `to`.
@@ -103,10 +103,6 @@ number-octets (suc w) x =
 pub number-stands : {m : List ℕ} {at to : ℕ} (w x : ℕ) → Stands m at (octetsOf w x) to → numberAt w m at ≡ x % 256 ^ w
 number-stands {m} {at} {to} w x s =
     ap (λ (n : ℕ). numberOf (take n (drop at m))) (sym (length-octets w x)) ∙ ap numberOf (s .whole) ∙ number-octets w x
-
--- Each element is an octet, as a `&[u8]` gives it.
-abbrev pub AllOctets : List ℕ → Type 0
-AllOctets s = (i : ℕ) → getD s i 0 < 256
 
 octets-number : (s : List ℕ) → AllOctets s → octetsOf (length s) (numberOf s) ≡ s
 unfolding numberOf octetsOf

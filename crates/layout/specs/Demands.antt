@@ -1,10 +1,10 @@
--- The words in which the demands are said.
+-- The words in which demand 2 is said.
 use mathlib.Core.Path.{_≡_}
 use mathlib.Core.List.{List, [], _∷_}
 use Prim.Native.Nat.{_+_, _-_, ℕ}
 use lib.Dec.{eqb}
-use lib.ListN.{drop, replicate, take}
-use Rattle.layout.specs.Result.{Each, Result, done, if_then_else_, refused}
+use lib.ListN.{drop, length, replicate, take}
+use Rattle.layout.specs.Result.{Each, if_then_else_}
 use Rattle.layout.specs.Octets.{number16}
 use Rattle.layout.specs.Book.{Book, Field, Groups, Shape, Template, end, more, none}
 use Rattle.layout.specs.Values.{Values, entry, group, nil}
@@ -13,7 +13,7 @@ use Rattle.layout.specs.Writing.{rowLength}
 use Rattle.layout.specs.declared.Answer.{Answer}
 use Rattle.layout.specs.declared.Answer.the-variants.{Number, Null, Octets, Absent, Group, OutOfRange}
 
--- ---- demand 2: "What is written reads back with the same values"
+-- ---- "What is written reads back with the same values"
 
 -- "Round trips compare octets, not starts": the records of a listing, with the octets themselves for where they start
 -- and how many they are.
@@ -23,7 +23,7 @@ contents pool (k ∷ []) = []
 contents pool (k ∷ a ∷ []) = []
 contents pool (k ∷ a ∷ b ∷ l) = (if eqb k 2 then k ∷ take b (drop a pool) else k ∷ a ∷ b ∷ []) ∷ contents pool l
 
--- ---- demand 2: "what is read writes back to the same octets if it carries the book's own version and block lengths, has
+-- ---- "what is read writes back to the same octets if it carries the book's own version and block lengths, has
 -- zero padding and no value out of range"
 
 -- The octets of m from a up to b are zero.
@@ -68,9 +68,3 @@ pub record AsWritten (b : Book) (t : Template) (m : List ℕ) (r : Values) : Typ
   pub length : blockLength m ≡ t .shape .length
   pub blocks : OwnBlocks m (t .shape) (t .groups) headerSize r
   pub ranges : ValuesInRange r
-
--- ---- demand 3: "both accept or both refuse, with the same number and place"
-
-unfoldable pub verdict : {A : Type 0} → Result A → Result (Unit {0})
-verdict (done a) = done tt
-verdict (refused n p) = refused n p

@@ -1,8 +1,8 @@
 -- Numbers as octets, the least significant first, said once over the width. Every number of a book, a message or a
 -- listing's pool is read by `numberAt` and written by `octetsOf`.
 use mathlib.Core.List.{List, [], _∷_}
-use Prim.Native.Nat.{ℕ, zero, suc, _+_, _*_, _/_, _%_}
-use lib.ListN.{take, drop}
+use Prim.Native.Nat.{_%_, _*_, _+_, _/_, _<_, _^_, suc, zero, ℕ}
+use lib.ListN.{drop, getD, take}
 
 -- The number that the octets are.
 unfoldable pub numberOf : List ℕ → ℕ
@@ -31,3 +31,10 @@ unfoldable pub wordsOf : List ℕ → List ℕ
 wordsOf [] = []
 wordsOf (a ∷ []) = []
 wordsOf (a ∷ b ∷ s) = (a + 256 * b) ∷ wordsOf s
+
+-- Octets are below 256, as a `&[u8]` gives them, and the numbers of a listing below 2 ^ 64, as a `&[u64]` does.
+abbrev pub AllOctets : List ℕ → Type 0
+AllOctets s = (i : ℕ) → getD s i 0 < 256
+
+abbrev pub Numbers64 : List ℕ → Type 0
+Numbers64 l = (i : ℕ) → getD l i 0 < 2 ^ 64

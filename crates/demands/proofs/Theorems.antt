@@ -1,0 +1,92 @@
+-- The theorems, over the definitions of document 01 in crates/layout/specs. Octets, words and numbers are natural numbers;
+-- a book, a message and a pool are lists of octets, a listing is a list of numbers. An operation comes to `done` with its
+-- result or `refused` with number and place.
+use mathlib.Core.Path.{_∙_, _≡_, refl, sym}
+use mathlib.Core.Bool.{true}
+use mathlib.Core.List.{List}
+use mathlib.Core.Option.{some}
+use Prim.Native.Nat.{_≤_, ℕ}
+use lib.ListN.{length}
+use Rattle.layout.specs.Result.{Result, done, refused}
+use Rattle.layout.specs.Octets.{AllOctets, Numbers64}
+use Rattle.layout.specs.Book.{Book, Template, findTemplate}
+use Rattle.layout.specs.BookRules.{bookOf}
+use Rattle.layout.specs.Values.{Step, Values, listing}
+use Rattle.layout.specs.Message.{readMessage, templateId, versionOf}
+use Rattle.layout.specs.Reading.{checkOf, hasPlace, listOf, placeOf}
+use Rattle.layout.specs.Writing.{judgeListing, messageOctets, writeOf, writtenLength}
+use Rattle.layout.specs.Extension.{Extends}
+use Rattle.layout.specs.Contracts.{Lists, Writes, roomAfter}
+use Rattle.layout.specs.Demands.{AsWritten, contents}
+use Rattle.demands.proofs.Lengths.{written-long}
+use Rattle.demands.proofs.Returned.{written-back}
+use Rattle.demands.proofs.TwoBooks.{accepts-too, same-answer, same-verdict}
+use Rattle.demands.proofs.Written.{reads-again, written-by}
+use Rattle.layout.proofs.Accepted.{accepted}
+use Rattle.layout.specs.declared.Counted.{Counted}
+use Rattle.layout.specs.declared.Element.{Element}
+
+-- ---- demand 1: "a refused call alters no octet or number of any buffer", and every contract has one outcome
+
+refused-leaves : (before : List ℕ) (x : Result (List ℕ)) (n p : ℕ) → x ≡ refused n p → roomAfter x before ≡ before
+unfolding roomAfter
+refused-leaves before x n p e = rw e refl
+
+pub refused-listing-alters-nothing : (book m before after : List ℕ) (r : Counted) (n p : ℕ) → Lists book m before r after
+    → listOf book m (length before) ≡ refused n p → after ≡ before
+refused-listing-alters-nothing book m before after r n p c e = c .room ∙ refused-leaves before _ n p e
+
+pub refused-writing-alters-nothing : (book : List ℕ) (id : ℕ) (l pool before after : List ℕ) (r : Counted) (n p : ℕ)
+    → Writes book id l pool before r after → writeOf book id l pool (length before) ≡ refused n p → after ≡ before
+refused-writing-alters-nothing book id l pool before after r n p c e = c .room ∙ refused-leaves before _ n p e
+
+pub listing-has-one-outcome : (book m before after after′ : List ℕ) (r r′ : Counted) → Lists book m before r after
+    → Lists book m before r′ after′ → (r ≡ r′) × (after ≡ after′)
+listing-has-one-outcome book m before after after′ r r′ c c′ = (c .answer ∙ sym (c′ .answer), c .room ∙ sym (c′ .room))
+
+pub writing-has-one-outcome : (book : List ℕ) (id : ℕ) (l pool before after after′ : List ℕ) (r r′ : Counted)
+    → Writes book id l pool before r after → Writes book id l pool before r′ after′ → (r ≡ r′) × (after ≡ after′)
+writing-has-one-outcome book id l pool before after after′ r r′ c c′ = (c .answer ∙ sym (c′ .answer), c .room ∙ sym (c′ .room))
+
+-- ---- demand 2
+
+-- "What is written reads back with the same values": the message is accepted, its listing fits where the listing that it
+-- was written from stood, and record by record the two say the same, "octets, not starts" compared.
+pub written-reads-back : (book : List ℕ) (id : ℕ) (l pool : List ℕ) (room : ℕ) (m : List ℕ) → Numbers64 l
+    → writeOf book id l pool room ≡ done m
+    → (read : List ℕ) × (listOf book m (length l) ≡ done read) × (contents m read ≡ contents pool l)
+written-reads-back book id l pool room m small e =
+    let r = reads-again book id l pool m small (written-by book id l pool room m e) in
+    (r .read, r .lists, r .same)
+
+-- "what is read writes back to the same octets if it carries the book's own version and block lengths, has zero padding
+-- and no value out of range": `AsWritten`. "writing back has the message as pool and room for it"
+pub read-writes-back : (book m : List ℕ) (room : ℕ) (b : Book) (t : Template) (r : Values) → AllOctets m → bookOf book ≡ done b
+    → findTemplate (templateId m) (b .templates) ≡ some t → readMessage b m ≡ done r → AsWritten b t m r → length m ≤ room
+    → writeOf book (templateId m) (listing r) m room ≡ done m
+read-writes-back = written-back
+
+-- "Its length is 12 plus the declared root block, 4 per group record, the declared block per entry, and 2 plus its length
+-- per data": of the message for a listing that was judged to be r.
+pub written-length : (book : List ℕ) (id : ℕ) (l pool : List ℕ) (b : Book) (t : Template) (r : Values) → bookOf book ≡ done b
+    → findTemplate id (b .templates) ≡ some t → judgeListing l (length pool) t ≡ done r
+    → length (messageOctets b t pool r) ≡ writtenLength t r
+written-length book id l pool b t r e h j = written-long l pool b t r (accepted book b id t e h .1 .layout) j
+
+-- ---- demand 3: "For accepted books, the newer a legal extension of the older, and any message whose template is in both"
+
+module _ (older newer : List ℕ) (old new : Book) (isOlder : bookOf older ≡ done old) (isNewer : bookOf newer ≡ done new)
+    (extends : Extends old new) (m : List ℕ) (t : Template) (inBoth : findTemplate (templateId m) (old .templates) ≡ some t) where
+  -- "if the newer accepts it, so does the older"
+  pub older-accepts : checkOf newer m ≡ done tt → checkOf older m ≡ done tt
+  older-accepts = accepts-too older newer old new isOlder isNewer extends m t inBoth
+
+  -- "with the same answer for every element that the older has"
+  pub older-answers : checkOf newer m ≡ done tt → (p : List Step) (x : Element) → hasPlace p x (t .shape) (t .groups) ≡ true
+      → placeOf older m p x ≡ placeOf newer m p x
+  older-answers = same-answer older newer old new isOlder isNewer extends m t inBoth
+
+  -- "if the message's version is no later than the older book's, both accept or both refuse, with the same number and
+  -- place"
+  pub both-say-the-same : versionOf m ≤ old .version → checkOf older m ≡ checkOf newer m
+  both-say-the-same = same-verdict older newer old new isOlder isNewer extends m t inBoth
