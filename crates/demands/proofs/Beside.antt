@@ -11,8 +11,8 @@ use Rattle.layout.specs.Result.{Result, _>>=_, done, if_then_else_, must}
 use Rattle.layout.specs.Book.{Data, Field, Groups, Shape, dataSinces, groupSinces, more, need, none, present}
 use Rattle.layout.specs.BookRules.{groupsGood}
 use Rattle.layout.specs.Values.{Values, entry, group, nil}
-use Rattle.layout.specs.Message.{readBlock, readData, readDatas, readDimension, readEntries, readField, readGroup}
-use Rattle.layout.specs.Message.{readGroups, skipDatas, skipGroups}
+use Rattle.layout.specs.Message.{Entry, readBlock, readData, readDatas, readDimension, readEntries, readField}
+use Rattle.layout.specs.Message.{readGroup, readGroups, skipDatas, skipGroups}
 use Rattle.layout.specs.Extension.{AddedGroup, AddedGroups, AddsDatas, AddsFields, AddsGroups, ExtendsGroups}
 use Rattle.layout.specs.Extension.{ExtendsShape}
 use Rattle.demands.proofs.Kept.{kept}
@@ -24,7 +24,7 @@ use Rattle.layout.specs.declared.Answer.{Answer}
 use Rattle.layout.specs.declared.Answer.the-variants.{Absent, Group}
 
 -- what is kept of a block, of a row and of a group
-abbrev pub keptBlock : Shape → Groups → (List Answer × Values × List Answer × ℕ) → List Answer × Values × List Answer × ℕ
+abbrev pub keptBlock : Shape → Groups → Entry → Entry
 keptBlock s gs b = (take (length (s .fields)) (b .0), kept s gs (b .1), take (length (s .datas)) (b .2), b .3)
 
 abbrev pub keptRow : Shape → Groups → (Values × ℕ) → Values × ℕ
@@ -37,7 +37,8 @@ abbrev pub keptDatas : List Data → (List Answer × ℕ) → List Answer × ℕ
 keptDatas old d = (take (length old) (d .0), d .1)
 
 module _ (m : List ℕ) (v : ℕ) where
-  sees-dimension : (strict : Bool) (a b at : ℕ) → AtLeast strict a b → Sees strict (λ (d : ℕ × ℕ). d) (readDimension m a at) (readDimension m b at)
+  sees-dimension : (strict : Bool) (a b at : ℕ) → AtLeast strict a b
+      → Sees strict (λ (d : ℕ × ℕ). d) (readDimension m a at) (readDimension m b at)
   unfolding readDimension
   sees-dimension strict a b at h =
       sees-bind strict _ _ _ _ _ _ (sees-same strict _) λ _.
@@ -47,15 +48,17 @@ module _ (m : List ℕ) (v : ℕ) where
 
   -- A dimension that is good for a known group is good for a surplus one.
   dimension-any : (b at : ℕ) (d : ℕ × ℕ) → readDimension m b at ≡ done d → readDimension m 0 at ≡ done d
-  dimension-any b at d e = seen-done false (λ (x : ℕ × ℕ). x) _ _ d (sees-dimension false 0 b at (omega arith, λ f. absurd (false≢true f))) e
+  dimension-any b at d e = seen-done false (λ (x : ℕ × ℕ). x) _ _ d
+      (sees-dimension false 0 b at (omega arith, λ f. absurd (false≢true f))) e
 
   dimension-fits : (b at : ℕ) (d : ℕ × ℕ) → readDimension m b at ≡ done d → at + 4 ≤ length m
   unfolding readDimension
   dimension-fits b at d e = leb-true (at + 4) (length m) (inv-must _ _ _ _ (inv-bind _ _ _ e .first))
 
 module _ (m : List ℕ) (v : ℕ) (strict : Bool) where
-  sees-entries : (s : Shape) (gs : Groups) (n : ℕ) (f f′ : ℕ → Result (List Answer × Values × List Answer × ℕ)) (at : ℕ)
-      → ((x : ℕ) → Sees strict (keptBlock s gs) (f x) (f′ x)) → Sees strict (keptRow s gs) (readEntries n f at) (readEntries n f′ at)
+  sees-entries : (s : Shape) (gs : Groups) (n : ℕ) (f f′ : ℕ → Result Entry) (at : ℕ)
+      → ((x : ℕ) → Sees strict (keptBlock s gs) (f x) (f′ x))
+      → Sees strict (keptRow s gs) (readEntries n f at) (readEntries n f′ at)
   unfolding readEntries kept
   sees-entries s gs zero f f′ at h = sees-done strict _ (nil, at) _ refl
   sees-entries s gs (suc n) f f′ at h =
@@ -70,17 +73,22 @@ module _ (m : List ℕ) (v : ℕ) (strict : Bool) where
   unfolding readDatas skipDatas present if_then_else_
   sees-added [] n n′ at e =
       let q : n ≡ n′ = omega arith in
-      rw q (sees-bind strict (λ (x : ℕ). x) (keptDatas []) _ _ _ _ (sees-same strict _) λ x. sees-done strict _ ([], x) _ refl)
+      rw q (sees-bind strict (λ (x : ℕ). x) (keptDatas []) _ _ _ _ (sees-same strict _) λ x. sees-done strict _
+      ([], x) _ refl)
   sees-added (d ∷ ds) n n′ at e = go (leb (d .since) v) e (λ k x q. sees-added ds k n′ x q)
     where
       go : (t : Bool) → n ≡ n′ + ((if t then 1 else 0) + present v (dataSinces ds))
-          → ((k x : ℕ) → k ≡ n′ + present v (dataSinces ds) → Sees strict (keptDatas []) (readDatas m v [] k x) (readDatas m v ds n′ x))
-          → Sees strict (keptDatas []) (readDatas m v [] n at) ((if t then readData m at else done (Absent, at)) >>= λ x. readDatas m v ds n′ (x .1) >>= λ r. done (x .0 ∷ r .0, r .1))
+          → ((k x : ℕ) → k ≡ n′ + present v (dataSinces ds)
+          → Sees strict (keptDatas []) (readDatas m v [] k x) (readDatas m v ds n′ x))
+          → Sees strict (keptDatas []) (readDatas m v [] n at)
+          ((if t then readData m at else done (Absent, at)) >>= λ x. readDatas m v ds n′ (x .1)
+          >>= λ r. done (x .0 ∷ r .0, r .1))
       go true e ih =
           let q : n ≡ suc (n′ + present v (dataSinces ds)) = omega arith in
           rw (q, bind-assoc)
           (sees-bind strict (λ (x : Answer × ℕ). x) (keptDatas []) _ _ _ _ (sees-same strict _) λ x.
-          sees-after strict (keptDatas []) (keptDatas []) _ _ _ (ih (n′ + present v (dataSinces ds)) (x .1) refl) λ r. refl)
+          sees-after strict (keptDatas []) (keptDatas []) _ _ _
+          (ih (n′ + present v (dataSinces ds)) (x .1) refl) λ r. refl)
       go false e ih =
           rw bind-done (sees-after strict (keptDatas []) (keptDatas []) _ _ _ (ih n at (omega arith)) λ r. refl)
 
@@ -95,19 +103,23 @@ module _ (m : List ℕ) (v : ℕ) (strict : Bool) where
 
   -- ---- a block
 
-  kept-fields : (at : ℕ) (old added : List Field) → map (readField m v at) old ≡ take (length old) (map (readField m v at) (old ++ added))
+  kept-fields : (at : ℕ) (old added : List Field)
+      → map (readField m v at) old ≡ take (length old) (map (readField m v at) (old ++ added))
   kept-fields at [] added = refl
   kept-fields at (f ∷ old) added = ap (λ (r : List Answer). readField m v at f ∷ r) (kept-fields at old added)
 
   module _ (limit : ℕ) where
-    pub sees-block : (s s′ : Shape) (gs : Groups) (f f′ : ℕ → Result (Values × ℕ)) (n n′ l at : ℕ) (a : AddsFields limit (s .fields) (s′ .fields))
-        (d : AddsDatas limit (s .datas) (s′ .datas)) → n ≡ n′ + present v (dataSinces (d .added)) → ((x : ℕ) → Sees strict (keptRow s gs) (f x) (f′ x))
+    pub sees-block : (s s′ : Shape) (gs : Groups) (f f′ : ℕ → Result (Values × ℕ)) (n n′ l at : ℕ)
+        (a : AddsFields limit (s .fields) (s′ .fields))
+        (d : AddsDatas limit (s .datas) (s′ .datas)) → n ≡ n′ + present v (dataSinces (d .added))
+        → ((x : ℕ) → Sees strict (keptRow s gs) (f x) (f′ x))
         → Sees strict (keptBlock s gs) (readBlock m v s f n l at) (readBlock m v s′ f′ n′ l at)
     unfolding readBlock
     sees-block s s′ gs f f′ n n′ l at a d e h =
         sees-bind strict (λ (u : Unit {0}). u) (keptBlock s gs) _ _ _ _ (sees-same strict _) λ _.
         sees-bind strict (keptRow s gs) (keptBlock s gs) _ _ _ _ (h (at + l)) λ r.
-        sees-bind strict (keptDatas (s .datas)) (keptBlock s gs) _ _ _ _ (rw (d .first) (sees-datas (s .datas) (d .added) n n′ (r .1) e)) λ t.
+        sees-bind strict (keptDatas (s .datas)) (keptBlock s gs) _ _ _ _
+        (rw (d .first) (sees-datas (s .datas) (d .added) n n′ (r .1) e)) λ t.
         sees-done strict (keptBlock s gs) (map (readField m v at) (s′ .fields), r .0, t .0, t .1) _
         (rw (a .first, ← (kept-fields at (s .fields) (a .added))))
 
@@ -117,25 +129,31 @@ module _ (m : List ℕ) (v : ℕ) (strict : Bool) where
     unfolding present
     none-added ds e = rw e refl
 
-    sees-group : (s s′ : Shape) (gs : Groups) (f f′ : ℕ → Result (Values × ℕ)) (at : ℕ) → ExtendsShape limit false s s′ → AtLeast strict (need v s) (need v s′)
-        → ((x : ℕ) → Sees strict (keptRow s gs) (f x) (f′ x)) → Sees strict (keptGroup s gs) (readGroup m v s f at) (readGroup m v s′ f′ at)
+    sees-group : (s s′ : Shape) (gs : Groups) (f f′ : ℕ → Result (Values × ℕ)) (at : ℕ) → ExtendsShape limit false s s′
+        → AtLeast strict (need v s) (need v s′)
+        → ((x : ℕ) → Sees strict (keptRow s gs) (f x) (f′ x))
+        → Sees strict (keptGroup s gs) (readGroup m v s f at) (readGroup m v s′ f′ at)
     unfolding readGroup
     sees-group s s′ gs f f′ at x q h =
-        sees-bind strict (λ (d : ℕ × ℕ). d) (keptGroup s gs) _ _ _ _ (sees-dimension m v strict (need v s) (need v s′) at q) λ d.
+        sees-bind strict (λ (d : ℕ × ℕ). d) (keptGroup s gs) _ _ _ _
+        (sees-dimension m v strict (need v s) (need v s′) at q) λ d.
         sees-bind strict (keptRow s gs) (keptGroup s gs) _ _ _ _
         (sees-entries s gs (d .1) (readBlock m v s f 0 (d .0)) (readBlock m v s′ f′ 0 (d .0)) (at + 4) λ y.
-        sees-block s s′ gs f f′ 0 0 (d .0) y (x .fields) (x .datas) (none-added (x .datas .added) (x .inside refl)) h) λ r.
+        sees-block s s′ gs f f′ 0 0 (d .0) y (x .fields) (x .datas) (none-added (x .datas .added) (x .inside refl)) h)
+        λ r.
         sees-done strict (keptGroup s gs) (Group (d .1), r .0, r .1) _ refl
 
     -- ---- added groups are surplus to the older book
 
     flat : (s : Shape) (l a : ℕ) → s .datas ≡ []
-        → readBlock m v s (readGroups m v none 0) 0 l a ≡ (must (leb (a + l) (length m)) 16 a >>= λ _. done (map (readField m v a) (s .fields), nil, [], a + l))
+        → readBlock m v s (readGroups m v none 0) 0 l a
+        ≡ (must (leb (a + l) (length m)) 16 a >>= λ _. done (map (readField m v a) (s .fields), nil, [], a + l))
     unfolding readBlock readGroups skipGroups readDatas skipDatas _>>=_
     flat s l a e = rw e refl
 
     entries-flat : (s : Shape) (k l a : ℕ) (r : Values × ℕ) → s .datas ≡ [] → a ≤ length m
-        → readEntries k (readBlock m v s (readGroups m v none 0) 0 l) a ≡ done r → (r .1 ≡ a + l * k) × (r .1 ≤ length m)
+        → readEntries k (readBlock m v s (readGroups m v none 0) 0 l) a ≡ done r → (r .1 ≡ a + l * k)
+        × (r .1 ≤ length m)
     unfolding readEntries
     entries-flat s zero l a r d h e =
         let q : a ≡ r .1 = ap (λ (x : Values × ℕ). x .1) (done-inj e) in
@@ -145,7 +163,8 @@ module _ (m : List ℕ) (v : ℕ) (strict : Bool) where
         let j = inv-bind _ _ _ (i .next) in
         let b = inv-bind _ _ _ (sym (flat s l a d) ∙ i .first) in
         let fits : a + l ≤ length m = leb-true (a + l) (length m) (inv-must _ _ _ _ (b .first)) in
-        let next : a + l ≡ i .value .3 = ap (λ (x : List Answer × Values × List Answer × ℕ). x .3) (done-inj (b .next)) in
+        let next : a + l ≡ i .value .3 = ap (λ (x : Entry). x .3)
+        (done-inj (b .next)) in
         let last : j .value .1 ≡ r .1 = ap (λ (x : Values × ℕ). x .1) (done-inj (j .next)) in
         let ih = entries-flat s k l (i .value .3) (j .value) d (omega arith) (j .first) in
         (omega arith, omega arith)
@@ -161,7 +180,8 @@ module _ (m : List ℕ) (v : ℕ) (strict : Bool) where
 
     added-next : (i since : ℕ) (s : Shape) (inner rest : Groups) (n n′ at : ℕ) → AddedGroup limit since s inner
         → ((x : ℕ) → Sees strict keptNone (readGroups m v none n x) (readGroups m v rest n′ x)) → (a : Values × ℕ)
-        → (readGroup m v s (readGroups m v inner 0) at >>= λ g. readGroups m v rest n′ (g .2) >>= λ r. done (group (g .0) (g .1) (r .0), r .1)) ≡ done a
+        → (readGroup m v s (readGroups m v inner 0) at >>= λ g. readGroups m v rest n′ (g .2)
+        >>= λ r. done (group (g .0) (g .1) (r .0), r .1)) ≡ done a
         → readGroups m v none (suc n) at ≡ done (keptNone a)
     unfolding readGroup
     added-next i since s inner rest n n′ at h ih a e =
@@ -169,33 +189,40 @@ module _ (m : List ℕ) (v : ℕ) (strict : Bool) where
         let q = inv-bind _ _ _ (p .next) in
         let d = inv-bind _ _ _ (p .first) in
         let c = inv-bind _ _ _ (d .next) in
-        let w = entries-flat s (d .value .1) (d .value .0) (at + 4) (c .value) (h .noDatas) (dimension-fits m v _ at _ (d .first)) (c .first) in
+        let w = entries-flat s (d .value .1) (d .value .0) (at + 4) (c .value) (h .noDatas)
+        (dimension-fits m v _ at _ (d .first)) (c .first) in
         let next : c .value .1 ≡ p .value .2 = ap (λ (x : Answer × Values × ℕ). x .2) (done-inj (c .next)) in
         let last : q .value .1 ≡ a .1 = ap (λ (x : Values × ℕ). x .1) (done-inj (q .next)) in
         let o = seen-done strict keptNone _ _ (q .value) (ih (p .value .2)) (q .first) in
         rw (surplus-next n at _ (d .value) (d .first) (omega (arith, w .0, w .1)), ← (w .0), next, o, last) refl
 
-    sees-added-groups : (new : Groups) (n n′ at : ℕ) → AddedGroups limit new → (strict ≡ true → v ≤ limit) → n ≡ n′ + present v (groupSinces new)
+    sees-added-groups : (new : Groups) (n n′ at : ℕ) → AddedGroups limit new → (strict ≡ true → v ≤ limit)
+        → n ≡ n′ + present v (groupSinces new)
         → Sees strict keptNone (readGroups m v none n at) (readGroups m v new n′ at)
     unfolding readGroups AddedGroups present groupSinces if_then_else_
     sees-added-groups none n n′ at x h e =
         let q : n ≡ n′ = omega arith in
-        rw q (sees-bind strict (λ (y : ℕ). y) keptNone _ _ _ _ (sees-same strict _) λ y. sees-done strict _ (nil, y) _ refl)
+        rw q (sees-bind strict (λ (y : ℕ). y) keptNone _ _ _ _ (sees-same strict _) λ y. sees-done strict _
+        (nil, y) _ refl)
     sees-added-groups (more i since s inner rest) n n′ at x h e =
         go (leb since v) refl e (λ k y q. sees-added-groups rest k n′ y (x .1) h q)
       where
         go : (t : Bool) → leb since v ≡ t → n ≡ n′ + ((if t then 1 else 0) + present v (groupSinces rest))
-            → ((k y : ℕ) → k ≡ n′ + present v (groupSinces rest) → Sees strict keptNone (readGroups m v none k y) (readGroups m v rest n′ y))
+            → ((k y : ℕ) → k ≡ n′ + present v (groupSinces rest)
+            → Sees strict keptNone (readGroups m v none k y) (readGroups m v rest n′ y))
             → Sees strict keptNone (readGroups m v none n at)
-            ((if t then readGroup m v s (readGroups m v inner 0) at else done (Absent, nil, at)) >>= λ g. readGroups m v rest n′ (g .2) >>= λ r. done (group (g .0) (g .1) (r .0), r .1))
+            ((if t then readGroup m v s (readGroups m v inner 0) at else done (Absent, nil, at))
+            >>= λ g. readGroups m v rest n′ (g .2) >>= λ r. done (group (g .0) (g .1) (r .0), r .1))
         go true q e ih =
             let j : n ≡ suc (n′ + present v (groupSinces rest)) = omega arith in
             rw j (sees-unless strict keptNone _ _ (λ z. omega (arith, h z, x .0 .young, leb-true since v q))
-            (added-next i since s inner rest (n′ + present v (groupSinces rest)) n′ at (x .0) (λ y. ih (n′ + present v (groupSinces rest)) y refl)))
+            (added-next i since s inner rest (n′ + present v (groupSinces rest)) n′ at (x .0)
+            (λ y. ih (n′ + present v (groupSinces rest)) y refl)))
         go false q e ih = rw bind-done (sees-after strict keptNone keptNone _ _ _ (ih n at (omega arith)) λ r. refl)
 
     -- A row of groups holds no entries.
-    added-kept : (s : Shape) (new : Groups) (n at : ℕ) (r : Values × ℕ) → readGroups m v new n at ≡ done r → keptNone r ≡ keptRow s none r
+    added-kept : (s : Shape) (new : Groups) (n at : ℕ) (r : Values × ℕ) → readGroups m v new n at ≡ done r
+        → keptNone r ≡ keptRow s none r
     unfolding readGroups kept
     added-kept s none n at r e =
         let i = inv-bind _ _ _ e in
@@ -213,20 +240,24 @@ module _ (m : List ℕ) (v : ℕ) (strict : Bool) where
     all-added false new x = rw x tt
 
     -- Inside groups as many are present.
-    present-inside : (old new : Groups) → ExtendsGroups limit false old new → present v (groupSinces old) ≡ present v (groupSinces new)
+    present-inside : (old new : Groups) → ExtendsGroups limit false old new
+        → present v (groupSinces old) ≡ present v (groupSinces new)
     unfolding ExtendsGroups AddsGroups present groupSinces
     present-inside none new x = rw x refl
     present-inside (more i since s inner rest) none x = absurd x
-    present-inside (more i since s inner rest) (more i′ since′ s′ inner′ rest′) x = rw (x .sameSince, present-inside rest rest′ (x .rest)) refl
+    present-inside (more i since s inner rest) (more i′ since′ s′ inner′ rest′) x =
+        rw (x .sameSince, present-inside rest rest′ (x .rest)) refl
 
     -- An extension has at least as many, and as many at a version that is not above the limit.
     present-added : (new : Groups) → AddedGroups limit new → v ≤ limit → present v (groupSinces new) ≡ 0
     unfolding AddedGroups present groupSinces if_then_else_
     present-added none x h = refl
-    present-added (more i since s inner rest) x h = rw (lt-leb since v (omega (arith, x .0 .young))) (omega (arith, present-added rest (x .1) h))
+    present-added (more i since s inner rest) x h =
+        rw (lt-leb since v (omega (arith, x .0 .young))) (omega (arith, present-added rest (x .1) h))
 
     pub present-groups : (root : Bool) (old new : Groups) → ExtendsGroups limit root old new
-        → (present v (groupSinces old) ≤ present v (groupSinces new)) × (v ≤ limit → present v (groupSinces old) ≡ present v (groupSinces new))
+        → (present v (groupSinces old) ≤ present v (groupSinces new))
+        × (v ≤ limit → present v (groupSinces old) ≡ present v (groupSinces new))
     unfolding ExtendsGroups present groupSinces
     present-groups root none new x = (omega arith, λ h. sym (present-added new (all-added root new x) h))
     present-groups root (more i since s inner rest) none x = absurd x
@@ -234,12 +265,14 @@ module _ (m : List ℕ) (v : ℕ) (strict : Bool) where
         let ih = present-groups root rest rest′ (x .rest) in
         rw (x .sameSince) (omega (arith, ih .0), λ h. rw (ih .1 h) refl)
 
-    pub sees-groups : (root : Bool) (old new : Groups) (s₀ : Shape) (n n′ at : ℕ) → ExtendsGroups limit root old new → groupsGood new ≡ true
+    pub sees-groups : (root : Bool) (old new : Groups) (s₀ : Shape) (n n′ at : ℕ) → ExtendsGroups limit root old new
+        → groupsGood new ≡ true
         → (strict ≡ true → v ≤ limit) → n + present v (groupSinces old) ≡ n′ + present v (groupSinces new)
         → Sees strict (keptRow s₀ old) (readGroups m v old n at) (readGroups m v new n′ at)
     unfolding readGroups ExtendsGroups present groupSinces groupsGood kept
     sees-groups root none new s₀ n n′ at x g h e =
-        sees-change strict keptNone (keptRow s₀ none) _ _ (sees-added-groups new n n′ at (all-added root new x) h (omega arith)) (added-kept s₀ new n′ at)
+        sees-change strict keptNone (keptRow s₀ none) _ _
+        (sees-added-groups new n n′ at (all-added root new x) h (omega arith)) (added-kept s₀ new n′ at)
     sees-groups root (more i since s inner rest) none s₀ n n′ at x g h e = absurd x
     sees-groups root (more i since s inner rest) (more i′ since′ s′ inner′ rest′) s₀ n n′ at x g h e =
         let good = and-right _ _ (and-left _ _ g) in
@@ -250,7 +283,8 @@ module _ (m : List ℕ) (v : ℕ) (strict : Bool) where
         (sees-pick strict (keptGroup s inner) (leb since′ v) _ _ _ _
         (sees-group s s′ inner (readGroups m v inner 0) (readGroups m v inner′ 0) at (x .shape)
         (need-adds strict v limit (s′ .length) (s .fields) (s′ .fields) (x .shape .fields) good h) λ y.
-        sees-groups false inner inner′ s 0 0 y (x .inner) (and-left _ _ within) h (omega (arith, present-inside inner inner′ (x .inner))))
+        sees-groups false inner inner′ s 0 0 y (x .inner) (and-left _ _ within) h
+        (omega (arith, present-inside inner inner′ (x .inner))))
         (sees-done strict (keptGroup s inner) (Absent, nil, at) _ refl))) λ r.
         sees-bind strict (keptRow s₀ rest) (keptRow s₀ (more i since s inner rest)) _ _ _ _
         (sees-groups root rest rest′ s₀ n n′ (r .2) (x .rest) (and-right _ _ within) h (omega (arith, same))) λ t.

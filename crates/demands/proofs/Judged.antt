@@ -44,7 +44,8 @@ module _ (l m : List ℕ) (v : ℕ) where
   record-is : (i a b c to : ℕ) → Stands l (3 * i) (a ∷ b ∷ c ∷ []) to → RecordIs i a b c
   record-is i a b c to s =
       let fits : 3 * i + 3 ≤ length l = omega (arith, s .ends, s .fits) in
-      let e : first l i ∷ second l i ∷ third l i ∷ [] ≡ a ∷ b ∷ c ∷ [] = sym (three-stand l (3 * i) fits .whole) ∙ s .whole in
+      let e : first l i ∷ second l i ∷ third l i ∷ [] ≡ a ∷ b ∷ c ∷ [] = sym (three-stand l (3 * i) fits .whole)
+      ∙ s .whole in
       record {
         there = le-leb (3 * i + 3) (length l) fits;
         is₁ = ap (λ (x : List ℕ). getD x 0 0) e;
@@ -52,21 +53,24 @@ module _ (l m : List ℕ) (v : ℕ) where
         is₃ = ap (λ (x : List ℕ). getD x 2 0) e;
       }
 
-  octets-judged : (fits : Bool) (i p n to : ℕ) → fits ≡ true → p + n ≤ length m → Stands l (3 * i) (recordOf (Octets p n)) to
+  octets-judged : (fits : Bool) (i p n to : ℕ) → fits ≡ true → p + n ≤ length m
+      → Stands l (3 * i) (recordOf (Octets p n)) to
       → judgeOctets l (length m) fits i ≡ done (Octets p n)
   unfolding judgeOctets must _>>=_ recordOf _and_
   octets-judged fits i p n to y h s =
       let r = record-is i 2 p n to s in
       rw (r .there, r .is₁, r .is₂, r .is₃, le-leb (p + n) (length m) h, y) refl
 
-  number-judged : (f : Field) (i x to : ℕ) → inRange (typeAt (f .type)) x ≡ true → eqb x (typeAt (f .type) .null) ≡ false
+  number-judged : (f : Field) (i x to : ℕ) → inRange (typeAt (f .type)) x ≡ true
+      → eqb x (typeAt (f .type) .null) ≡ false
       → Stands l (3 * i) (recordOf (Number x)) to → judgeNumber l (length m) f i ≡ done (Number x)
   unfolding judgeNumber if_then_else_ must _>>=_ recordOf _and_ _or_
   number-judged f i x to o n s =
       let r = record-is i 0 x 0 to s in
       rw (r .there, r .is₁, r .is₂, r .is₃, o, n) refl
 
-  null-judged : (f : Field) (i to : ℕ) → isOptional f ≡ true → Stands l (3 * i) (recordOf Null) to → judgeNumber l (length m) f i ≡ done Null
+  null-judged : (f : Field) (i to : ℕ) → isOptional f ≡ true → Stands l (3 * i) (recordOf Null) to
+      → judgeNumber l (length m) f i ≡ done Null
   unfolding judgeNumber if_then_else_ must _>>=_ recordOf _and_ _or_
   null-judged f i to o s =
       let r = record-is i 1 0 0 to s in
@@ -82,14 +86,16 @@ module _ (l m : List ℕ) (v : ℕ) where
       k : TypeRow
       k = typeAt (f .type)
 
-      go : (b : Bool) → (isOptional f and eqb x (k .null)) ≡ b → (c : Bool) → inRange k x ≡ c → InRange (if b then Null else if c then Number x else OutOfRange x)
+      go : (b : Bool) → (isOptional f and eqb x (k .null)) ≡ b → (c : Bool) → inRange k x ≡ c
+          → InRange (if b then Null else if c then Number x else OutOfRange x)
           → Stands l (3 * i) (recordOf (if b then Null else if c then Number x else OutOfRange x)) to
           → judgeNumber l (length m) f i ≡ done (if b then Null else if c then Number x else OutOfRange x)
       go true e c o ranges s = null-judged f i to (and-left _ _ e) s
       go false e true o ranges s = number-judged f i x to o (inside-not-null (f .type) x t o) s
       go false e false o ranges s = absurd ranges
 
-  field-judged : (f : Field) (i at to : ℕ) → f .type < 9 → lengthGood f ≡ true → f .since ≤ v → at + end f ≤ length m → InRange (readField m v at f)
+  field-judged : (f : Field) (i at to : ℕ) → f .type < 9 → lengthGood f ≡ true → f .since ≤ v → at + end f ≤ length m
+      → InRange (readField m v at f)
       → Stands l (3 * i) (recordOf (readField m v at f)) to → judgeField l (length m) f i ≡ done (readField m v at f)
   unfolding readField if_then_else_
   field-judged f i at to t g u h ranges s =
@@ -100,16 +106,19 @@ module _ (l m : List ℕ) (v : ℕ) where
       k = typeAt (f .type)
 
       a : Bool → Answer
-      a y = if y then Octets (at + f .offset) (f .length) else classify k (isOptional f) (valueOf k (numberAt (k .width) m (at + f .offset)))
+      a y = if y then Octets (at + f .offset) (f .length) else classify k (isOptional f)
+          (valueOf k (numberAt (k .width) m (at + f .offset)))
 
       go : (y : Bool) → isArray f ≡ y → InRange (a y) → Stands l (3 * i) (recordOf (a y)) to
-          → (if y then judgeOctets l (length m) (eqb (third l i) (f .length)) i else judgeNumber l (length m) f i) ≡ done (a y)
+          → (if y then judgeOctets l (length m) (eqb (third l i) (f .length)) i else judgeNumber l (length m) f i)
+          ≡ done (a y)
       go true y ranges s =
           let r = record-is i 2 (at + f .offset) (f .length) to (unfold recordOf in s) in
           octets-judged _ i (at + f .offset) (f .length) to (eq-eqb _ _ (r .is₃)) (omega (arith, size-array f g y)) s
       go false y ranges s = class-judged f i _ to t ranges s
 
-  fields-next : (f : Field) (fs : List Field) (i j : ℕ) (a : Answer) (r : List Answer) → judgeField l (length m) f i ≡ done a
+  fields-next : (f : Field) (fs : List Field) (i j : ℕ) (a : Answer) (r : List Answer)
+      → judgeField l (length m) f i ≡ done a
       → judgeFields l (length m) fs (suc i) ≡ done (r, j) → judgeFields l (length m) (f ∷ fs) i ≡ done (a ∷ r, j)
   unfolding judgeFields _>>=_
   fields-next f fs i j a r e q = rw (e, q) refl
@@ -122,7 +131,8 @@ module _ (l m : List ℕ) (v : ℕ) where
   abbrev Judges : {A : Type 0} → (ℕ → Result (A × ℕ)) → ℕ → ℕ → A → Type 0
   Judges f i to a = (j : ℕ) × (to ≡ 3 * j) × (f i ≡ done (a, j))
 
-  fields-judged : (fs : List Field) (i at len from e to : ℕ) → fieldsGood len from fs ≡ true → UpTo v (fieldSinces fs) → at + needAfter v e fs ≤ length m
+  fields-judged : (fs : List Field) (i at len from e to : ℕ) → fieldsGood len from fs ≡ true → UpTo v (fieldSinces fs)
+      → at + needAfter v e fs ≤ length m
       → Each InRange (map (readField m v at) fs) → Stands l (3 * i) (recordsOf (map (readField m v at) fs)) to
       → Judges (judgeFields l (length m) fs) i to (map (readField m v at) fs)
   unfolding Each recordsOf needAfter if_then_else_
@@ -133,19 +143,26 @@ module _ (l m : List ℕ) (v : ℕ) where
       let rest = map (readField m v at) fs in
       let h′ : at + needAfter v (end f) fs ≤ length m = rw (le-leb (f .since) v (u .0)) at h in
       let o = split-to (recordOf a) (recordsOf rest) (3 * suc i) (omega (arith, record-three a)) s in
-      let within : at + end f ≤ length m = omega (arith, need-grows v len (end f) (end f) fs (k .rest) (le-refl (end f))) in
-      let w = fields-judged fs (suc i) at len (end f) (end f) to (k .rest) (u .1) h′ (ranges .1) (o .1) in
-      (w .0, w .1, fields-next f fs i (w .0) a rest (field-judged f i at (3 * suc i) (k .type) (k .length) (u .0) within (ranges .0) (o .0)) (w .2))
+      let within : at + end f ≤ length m = omega
+      (arith, need-grows v len (end f) (end f) fs (k .rest) (le-refl (end f))) in
+      let w = fields-judged fs (suc i) at len (end f) (end f) to (k .rest) (u .1) h′ (ranges .1) (o .1) in (
+        w .0,
+        w .1,
+        fields-next f fs i (w .0) a rest
+            (field-judged f i at (3 * suc i) (k .type) (k .length) (u .0) within (ranges .0) (o .0)) (w .2),
+      )
 
   -- ---- data
 
-  data-judged : (i at to : ℕ) (a : Answer × ℕ) → readData m at ≡ done a → Stands l (3 * i) (recordOf (a .0)) to → judgeData l (length m) i ≡ done (a .0)
+  data-judged : (i at to : ℕ) (a : Answer × ℕ) → readData m at ≡ done a → Stands l (3 * i) (recordOf (a .0)) to
+      → judgeData l (length m) i ≡ done (a .0)
   data-judged i at to a e s =
       let d = data-read m v at a e in
       subst (λ (x : Answer × ℕ). Stands l (3 * i) (recordOf (x .0)) to → judgeData l (length m) i ≡ done (x .0)) (d .is)
       (λ o.
       let r = record-is i 2 (at + 2) (number16 m at) to (unfold recordOf in o) in
-      octets-judged _ i (at + 2) (number16 m at) to (lt-ltb (third l i) null16 (omega (arith, r .is₃, d .whole))) (d .fits) o) s
+      octets-judged _ i (at + 2) (number16 m at) to (lt-ltb (third l i) null16 (omega (arith, r .is₃, d .whole)))
+      (d .fits) o) s
 
   datas-next : (d : Data) (ds : List Data) (i j : ℕ) (a : Answer) (r : List Answer) → judgeData l (length m) i ≡ done a
       → judgeDatas l (length m) ds (suc i) ≡ done (r, j) → judgeDatas l (length m) (d ∷ ds) i ≡ done (a ∷ r, j)
@@ -156,40 +173,49 @@ module _ (l m : List ℕ) (v : ℕ) where
   unfolding judgeDatas
   datas-stop i = refl
 
-  datas-judged : (ds : List Data) (i at to : ℕ) (r : List Answer × ℕ) → UpTo v (dataSinces ds) → readDatas m v ds 0 at ≡ done r
+  datas-judged : (ds : List Data) (i at to : ℕ) (r : List Answer × ℕ) → UpTo v (dataSinces ds)
+      → readDatas m v ds 0 at ≡ done r
       → Stands l (3 * i) (recordsOf (r .0)) to → Judges (judgeDatas l (length m) ds) i to (r .0)
   unfolding Each recordsOf
   datas-judged [] i at to r u e s =
-      subst (λ (x : List Answer × ℕ). Stands l (3 * i) (recordsOf (x .0)) to → Judges (judgeDatas l (length m) []) i to (x .0)) (done-inj (sym (no-datas m v at) ∙ e))
+      subst (λ (x : List Answer × ℕ). Stands l (3 * i) (recordsOf (x .0)) to
+      → Judges (judgeDatas l (length m) []) i to (x .0)) (done-inj (sym (no-datas m v at) ∙ e))
       (λ o. (i, omega (arith, o .ends), datas-stop i)) s
   datas-judged (d ∷ ds) i at to r u e s =
       let w = datas-read m v d ds at r (u .0) e in
       let a = w .first .0 in
       let rest = w .rest .0 in
-      subst (λ (x : List Answer × ℕ). Stands l (3 * i) (recordsOf (x .0)) to → Judges (judgeDatas l (length m) (d ∷ ds)) i to (x .0)) (w .is)
+      subst (λ (x : List Answer × ℕ). Stands l (3 * i) (recordsOf (x .0)) to
+      → Judges (judgeDatas l (length m) (d ∷ ds)) i to (x .0)) (w .is)
       (λ o.
       let c = split-to (recordOf a) (recordsOf rest) (3 * suc i) (omega (arith, record-three a)) o in
       let k = datas-judged ds (suc i) (w .first .1) to (w .rest) (u .1) (w .after) (c .1) in
-      (k .0, k .1, datas-next d ds i (k .0) a rest (data-judged i at (3 * suc i) (w .first) (w .reads) (c .0)) (k .2))) s
+      (k .0, k .1, datas-next d ds i (k .0) a rest (data-judged i at (3 * suc i) (w .first) (w .reads) (c .0)) (k .2)))
+      s
 
   -- ---- blocks, entries, groups
 
   -- What f reads, f′ judges to be the same.
   abbrev Agree : (ℕ → Result (Values × ℕ)) → (ℕ → Result (Values × ℕ)) → Type 0
   Agree f f′ =
-      (at i to : ℕ) (r : Values × ℕ) → f at ≡ done r → ValuesInRange (r .0) → Stands l (3 * i) (listing (r .0)) to → Judges f′ i to (r .0)
+      (at i to : ℕ) (r : Values × ℕ) → f at ≡ done r → ValuesInRange (r .0) → Stands l (3 * i) (listing (r .0)) to
+      → Judges f′ i to (r .0)
 
-  block-next : (s : Shape) (f : ℕ → Result (Values × ℕ)) (i j k e : ℕ) (fs : List Answer) (g : Values) (ds : List Answer)
-      → judgeFields l (length m) (s .fields) i ≡ done (fs, j) → f j ≡ done (g, k) → judgeDatas l (length m) (s .datas) k ≡ done (ds, e)
+  block-next : (s : Shape) (f : ℕ → Result (Values × ℕ)) (i j k e : ℕ) (fs : List Answer) (g : Values)
+      (ds : List Answer)
+      → judgeFields l (length m) (s .fields) i ≡ done (fs, j) → f j ≡ done (g, k)
+      → judgeDatas l (length m) (s .datas) k ≡ done (ds, e)
       → judgeBlock l (length m) s f i ≡ done (fs, g, ds, e)
   unfolding judgeBlock _>>=_
   block-next s f i j k e fs g ds a b c = rw (a, b, c) refl
 
-  module _ (s : Shape) (f f′ : ℕ → Result (Values × ℕ)) (n : ℕ) (good : GoodShape v s) (enough : need v s ≤ n) (ih : Agree f f′) where
+  module _ (s : Shape) (f f′ : ℕ → Result (Values × ℕ)) (n : ℕ) (good : GoodShape v s) (enough : need v s ≤ n)
+      (ih : Agree f f′) where
     abbrev entryListed : Entry → List ℕ → List ℕ
     entryListed b rest = recordsOf (b .0) ++ (listing (b .1) ++ (recordsOf (b .2) ++ rest))
 
-    block-judged : (i at : ℕ) (b : Entry) (rest : List ℕ) (to : ℕ) → Each InRange (b .0) → ValuesInRange (b .1) → readBlock m v s f 0 n at ≡ done b
+    block-judged : (i at : ℕ) (b : Entry) (rest : List ℕ) (to : ℕ) → Each InRange (b .0) → ValuesInRange (b .1)
+        → readBlock m v s f 0 n at ≡ done b
         → Stands l (3 * i) (entryListed b rest) to
         → (j : ℕ) × (judgeBlock l (length m) s f′ i ≡ done (b .0, b .1, b .2, j)) × (Stands l (3 * j) rest to)
     unfolding readBlock
@@ -199,23 +225,28 @@ module _ (l m : List ℕ) (v : ℕ) where
         let k = inv-bind _ _ _ (q .next) in
         let fits : at + n ≤ length m = leb-true (at + n) (length m) (inv-must _ _ _ _ (p .first)) in
         subst (λ (x : Entry). Each InRange (x .0) → ValuesInRange (x .1) → Stands l (3 * i) (entryListed x rest) to
-        → (j : ℕ) × (judgeBlock l (length m) s f′ i ≡ done (x .0, x .1, x .2, j)) × (Stands l (3 * j) rest to)) (done-inj (k .next))
+        → (j : ℕ) × (judgeBlock l (length m) s f′ i ≡ done (x .0, x .1, x .2, j)) × (Stands l (3 * j) rest to))
+        (done-inj (k .next))
         (λ in₁′ in₂′ o.
         let fs = map (readField m v at) (s .fields) in
         let gs = q .value .0 in
         let ds = k .value .0 in
         let o₁ = split-to (recordsOf fs) (listing gs ++ (recordsOf ds ++ rest)) _ refl o in
-        let w₁ = fields-judged (s .fields) i at (s .length) 0 0 _ (good .fields) (good .fieldsIn) (omega (arith, enough, fits)) in₁′ (o₁ .0) in
-        let o₂ = split-to (listing gs) (recordsOf ds ++ rest) _ refl (subst (λ (y : ℕ). Stands l y (listing gs ++ (recordsOf ds ++ rest)) to) (w₁ .1) (o₁ .1)) in
+        let w₁ = fields-judged (s .fields) i at (s .length) 0 0 _ (good .fields) (good .fieldsIn)
+        (omega (arith, enough, fits)) in₁′ (o₁ .0) in
+        let o₂ = split-to (listing gs) (recordsOf ds ++ rest) _ refl
+        (subst (λ (y : ℕ). Stands l y (listing gs ++ (recordsOf ds ++ rest)) to) (w₁ .1) (o₁ .1)) in
         let w₂ = ih (at + n) (w₁ .0) _ (q .value) (q .first) in₂′ (o₂ .0) in
-        let o₃ = split-to (recordsOf ds) rest _ refl (subst (λ (y : ℕ). Stands l y (recordsOf ds ++ rest) to) (w₂ .1) (o₂ .1)) in
+        let o₃ = split-to (recordsOf ds) rest _ refl
+        (subst (λ (y : ℕ). Stands l y (recordsOf ds ++ rest) to) (w₂ .1) (o₂ .1)) in
         let w₃ = datas-judged (s .datas) (w₂ .0) (q .value .1) _ (k .value) (good .datasIn) (k .first) (o₃ .0) in (
           w₃ .0,
           block-next s f′ i (w₁ .0) (w₂ .0) (w₃ .0) fs gs ds (w₁ .2) (w₂ .2) (w₃ .2),
           subst (λ (y : ℕ). Stands l y rest to) (w₃ .1) (o₃ .1),
         )) in₁ in₂ st
 
-    entries-next : (k i j e : ℕ) (fs : List Answer) (g : Values) (ds : List Answer) (r : Values) → judgeBlock l (length m) s f′ i ≡ done (fs, g, ds, j)
+    entries-next : (k i j e : ℕ) (fs : List Answer) (g : Values) (ds : List Answer) (r : Values)
+        → judgeBlock l (length m) s f′ i ≡ done (fs, g, ds, j)
         → judgeEntries l (length m) k (judgeBlock l (length m) s f′) j ≡ done (r, e)
         → judgeEntries l (length m) (suc k) (judgeBlock l (length m) s f′) i ≡ done (entry fs g ds r, e)
     unfolding judgeEntries _>>=_
@@ -225,10 +256,12 @@ module _ (l m : List ℕ) (v : ℕ) where
     unfolding judgeEntries
     entries-stop i = refl
 
-    entries-judged : (k : ℕ) → Agree (readEntries k (readBlock m v s f 0 n)) (judgeEntries l (length m) k (judgeBlock l (length m) s f′))
+    entries-judged : (k : ℕ) → Agree (readEntries k (readBlock m v s f 0 n))
+        (judgeEntries l (length m) k (judgeBlock l (length m) s f′))
     unfolding readEntries ValuesInRange listing
     entries-judged zero at i to r e ranges st =
-        subst (λ (x : Values × ℕ). Stands l (3 * i) (listing (x .0)) to → Judges (judgeEntries l (length m) 0 (judgeBlock l (length m) s f′)) i to (x .0)) (done-inj e)
+        subst (λ (x : Values × ℕ). Stands l (3 * i) (listing (x .0)) to
+        → Judges (judgeEntries l (length m) 0 (judgeBlock l (length m) s f′)) i to (x .0)) (done-inj e)
         (λ o. (i, omega (arith, o .ends), entries-stop i)) st
     entries-judged (suc k) at i to r e ranges st =
         let p = inv-bind _ _ _ e in
@@ -242,12 +275,14 @@ module _ (l m : List ℕ) (v : ℕ) where
         let z = entries-judged k (b .3) (w .0) to (q .value) (q .first) (ranges′ .2) (w .2) in
         (z .0, z .1, entries-next k i (w .0) (z .0) (b .0) (b .1) (b .2) rest (w .1) (z .2))) ranges st
 
-  groups-next : (id since : ℕ) (s : Shape) (inner rest : Groups) (i j k e : ℕ) (es gs : Values) → RecordIs i 4 k 0 → k < null16
+  groups-next : (id since : ℕ) (s : Shape) (inner rest : Groups) (i j k e : ℕ) (es gs : Values) → RecordIs i 4 k 0
+      → k < null16
       → judgeEntries l (length m) k (judgeBlock l (length m) s (judgeGroups l (length m) inner)) (suc i) ≡ done (es, j)
       → judgeGroups l (length m) rest j ≡ done (gs, e)
       → judgeGroups l (length m) (more id since s inner rest) i ≡ done (group (Group k) es gs, e)
   unfolding judgeGroups must _>>=_ _and_
-  groups-next id since s inner rest i j k e es gs r h a b = rw (r .there, r .is₁, r .is₂, r .is₃, lt-ltb k null16 h, a, b) refl
+  groups-next id since s inner rest i j k e es gs r h a b =
+      rw (r .there, r .is₁, r .is₂, r .is₃, lt-ltb k null16 h, a, b) refl
 
   groups-stop : (i : ℕ) → judgeGroups l (length m) none i ≡ done (nil, i)
   unfolding judgeGroups
@@ -256,7 +291,8 @@ module _ (l m : List ℕ) (v : ℕ) where
   groups-judged : (gs : Groups) → GoodGroups v gs → Agree (readGroups m v gs 0) (judgeGroups l (length m) gs)
   unfolding GoodGroups ValuesInRange listing recordOf
   groups-judged none good at i to r e ranges st =
-      subst (λ (x : Values × ℕ). Stands l (3 * i) (listing (x .0)) to → Judges (judgeGroups l (length m) none) i to (x .0)) (done-inj (sym (no-groups m v at) ∙ e))
+      subst (λ (x : Values × ℕ). Stands l (3 * i) (listing (x .0)) to
+      → Judges (judgeGroups l (length m) none) i to (x .0)) (done-inj (sym (no-groups m v at) ∙ e))
       (λ o. (i, omega (arith, o .ends), groups-stop i)) st
   groups-judged (more id since s inner rest) good at i to r e ranges st =
       let w = group-read m v id since s inner rest at r (good .0) e in
@@ -264,23 +300,34 @@ module _ (l m : List ℕ) (v : ℕ) where
       let es = w .entries .0 in
       let gs = w .others .0 in
       let d = dimension-read m v (need v s) at (w .sizes) (w .dimension) in
-      subst (λ (x : Values × ℕ). ValuesInRange (x .0) → Stands l (3 * i) (listing (x .0)) to → Judges (judgeGroups l (length m) (more id since s inner rest)) i to (x .0)) (w .is)
+      subst (λ (x : Values × ℕ). ValuesInRange (x .0) → Stands l (3 * i) (listing (x .0)) to
+      → Judges (judgeGroups l (length m) (more id since s inner rest)) i to (x .0)) (w .is)
       (λ ranges′ o.
       let o₁ = split-to (4 ∷ k ∷ 0 ∷ []) (listing es ++ listing gs) (3 * suc i) (omega arith) o in
       let o₂ = split-to (listing es) (listing gs) _ refl (o₁ .1) in
-      let a = entries-judged s (readGroups m v inner 0) (judgeGroups l (length m) inner) (w .sizes .0) (good .1) (d .enough) (groups-judged inner (good .2)) k
-          (at + dimensionSize) (suc i) _ (w .entries) (w .reads) (ranges′ .0) (o₂ .0) in
+      let a = entries-judged s (readGroups m v inner 0) (judgeGroups l (length m) inner) (w .sizes .0) (good .1)
+      (d .enough) (groups-judged inner (good .2)) k
+      (at + dimensionSize) (suc i) _ (w .entries) (w .reads) (ranges′ .0) (o₂ .0) in
       let c = groups-judged rest (good .3) (w .entries .1) (a .0) to (w .others) (w .after) (ranges′ .1)
-          (subst (λ (y : ℕ). Stands l y (listing gs) to) (a .1) (o₂ .1)) in
-      (c .0, c .1, groups-next id since s inner rest i (a .0) k (c .0) es gs (record-is i 4 k 0 (3 * suc i) (o₁ .0)) (d .whole) (a .2) (c .2))) ranges st
+      (subst (λ (y : ℕ). Stands l y (listing gs) to) (a .1) (o₂ .1)) in (
+        c .0,
+        c .1,
+        groups-next id since s inner rest i (a .0) k (c .0) es gs (record-is i 4 k 0 (3 * suc i) (o₁ .0))
+            (d .whole) (a .2) (c .2),
+      )) ranges st
 
   -- The whole listing.
-  pub listing-judged : (t : Template) (n at : ℕ) (b : Entry) → GoodShape v (t .shape) → GoodGroups v (t .groups) → need v (t .shape) ≤ n
-      → ValuesInRange (entry (b .0) (b .1) (b .2) nil) → readBlock m v (t .shape) (readGroups m v (t .groups) 0) 0 n at ≡ done b
-      → listing (entry (b .0) (b .1) (b .2) nil) ≡ l → judgeListing l (length m) t ≡ done (entry (b .0) (b .1) (b .2) nil)
+  pub listing-judged : (t : Template) (n at : ℕ) (b : Entry) → GoodShape v (t .shape) → GoodGroups v (t .groups)
+      → need v (t .shape) ≤ n
+      → ValuesInRange (entry (b .0) (b .1) (b .2) nil)
+      → readBlock m v (t .shape) (readGroups m v (t .groups) 0) 0 n at ≡ done b
+      → listing (entry (b .0) (b .1) (b .2) nil) ≡ l
+      → judgeListing l (length m) t ≡ done (entry (b .0) (b .1) (b .2) nil)
   unfolding judgeListing must _>>=_ ValuesInRange listing
   listing-judged t n at b good gg enough ranges e is =
-      let w = block-judged (t .shape) (readGroups m v (t .groups) 0) (judgeGroups l (length m) (t .groups)) n good enough (groups-judged (t .groups) gg)
-          0 at b [] (length l) (ranges .0) (ranges .1) e (subst (λ (x : List ℕ). Stands l 0 x (length l)) (sym is) (all-stands l)) in
+      let w = block-judged (t .shape) (readGroups m v (t .groups) 0)
+      (judgeGroups l (length m) (t .groups)) n good enough (groups-judged (t .groups) gg)
+      0 at b [] (length l) (ranges .0) (ranges .1) e
+      (subst (λ (x : List ℕ). Stands l 0 x (length l)) (sym is) (all-stands l)) in
       let q : 3 * w .0 ≡ length l = omega (arith, w .2 .ends) in
       rw (w .1, eq-eqb (3 * w .0) (length l) q) refl

@@ -32,11 +32,13 @@ span-long pool start len h = length-take-le len (drop start pool) (rw length-dro
 module _ (l pool : List ℕ) where
   -- ---- fields
 
-  array-long : (f : Field) (start len : ℕ) → start + len ≤ length pool → length (fieldOctets pool f (Octets start len)) ≡ len
+  array-long : (f : Field) (start len : ℕ) → start + len ≤ length pool
+      → length (fieldOctets pool f (Octets start len)) ≡ len
   unfolding fieldOctets spanOf
   array-long f start len h = span-long pool start len h
 
-  number-long : (f : Field) (b : Bool) (x : ℕ) → length (fieldOctets pool f (if b then Null else Number x)) ≡ typeAt (f .type) .width
+  number-long : (f : Field) (b : Bool) (x : ℕ)
+      → length (fieldOctets pool f (if b then Null else Number x)) ≡ typeAt (f .type) .width
   unfolding fieldOctets if_then_else_
   number-long f true x = length-octets _ _
   number-long f false x = length-octets _ _
@@ -53,7 +55,8 @@ module _ (l pool : List ℕ) where
           rw (← (number-said l (length pool) f i a y e .is))
           (number-long f (eqb (first l i) 1) (second l i) ∙ sym (size-plain f g y))
 
-  pub fields-long : (fs : List Field) (len from i : ℕ) (r : List Answer × ℕ) → fieldsGood len from fs ≡ true → from ≤ len
+  pub fields-long : (fs : List Field) (len from i : ℕ) (r : List Answer × ℕ) → fieldsGood len from fs ≡ true
+      → from ≤ len
       → judgeFields l (length pool) fs i ≡ done r → from + length (blockOctets pool len from fs (r .0)) ≡ len
   unfolding judgeFields blockOctets
   fields-long [] len from i r g h e = rw (length-replicate {A = ℕ} (len - from) 0) (omega arith)
@@ -63,10 +66,20 @@ module _ (l pool : List ℕ) where
       let k = field-good len from f fs g in
       let a = fieldOctets pool f (p .value) in
       let b = blockOctets pool len (end f) fs (q .value .0) in
-      subst (λ (x : List Answer × ℕ). from + length (blockOctets pool len from (f ∷ fs) (x .0)) ≡ len) (done-inj (q .next))
-      (rw (length-append (replicate (f .offset - from) 0) (a ++ b), length-append a b, length-replicate {A = ℕ} (f .offset - from) 0)
-      (omega (arith, k .placed, field-long f i (p .value) (k .length) (p .first),
-      fields-long fs len (end f) (suc i) (q .value) (k .rest) (k .ended) (q .first))))
+      subst (λ (x : List Answer × ℕ). from + length (blockOctets pool len from (f ∷ fs) (x .0)) ≡ len)
+      (done-inj (q .next))
+      (rw (
+        length-append (replicate (f .offset - from) 0) (a ++ b),
+        length-append a b,
+        length-replicate {A = ℕ}
+            (f .offset - from) 0,
+      )
+      (omega (
+        arith,
+        k .placed,
+        field-long f i (p .value) (k .length) (p .first),
+        fields-long fs len (end f) (suc i) (q .value) (k .rest) (k .ended) (q .first),
+      )))
 
   -- ---- data
 
@@ -79,7 +92,8 @@ module _ (l pool : List ℕ) where
   datas-long : (ds : List Data) (i : ℕ) (r : List Answer × ℕ) → judgeDatas l (length pool) ds i ≡ done r
       → length (dataOctets pool (r .0)) ≡ datasLength (r .0)
   unfolding judgeDatas dataOctets datasLength
-  datas-long [] i r e = subst (λ (x : List Answer × ℕ). length (dataOctets pool (x .0)) ≡ datasLength (x .0)) (done-inj e) refl
+  datas-long [] i r e = subst (λ (x : List Answer × ℕ). length (dataOctets pool (x .0)) ≡ datasLength (x .0))
+      (done-inj e) refl
   datas-long (d ∷ ds) i r e =
       let p = inv-bind _ _ _ e in
       let q = inv-bind _ _ _ (p .next) in
@@ -87,7 +101,13 @@ module _ (l pool : List ℕ) where
       let a = spanOctets pool (p .value) in
       let b = dataOctets pool (q .value .0) in
       subst (λ (x : List Answer × ℕ). length (dataOctets pool (x .0)) ≡ datasLength (x .0)) (done-inj (q .next))
-      (rw (length-append n (a ++ b), length-append a b, length-octets 2 (spanOf (p .value) .1), data-long i (p .value) (p .first))
+      (rw (
+        length-append n (a ++ b),
+        length-append a b,
+        length-octets 2 (spanOf (p .value) .1),
+        data-long i (p .value)
+            (p .first),
+      )
       (omega (arith, datas-long ds (suc i) (q .value) (q .first))))
 
   -- ---- rows
@@ -102,8 +122,15 @@ module _ (l pool : List ℕ) where
   entry-long s gs fs g ds rest a b c d =
       let xs = blockOctets pool (s .length) 0 (s .fields) fs in
       let ys = rowOctets pool s gs g in
-      rw (length-append (xs ++ (ys ++ dataOctets pool ds)) (rowOctets pool s gs rest), length-append xs (ys ++ dataOctets pool ds),
-      length-append ys (dataOctets pool ds), a, b, c, d) (omega arith)
+      rw (
+        length-append (xs ++ (ys ++ dataOctets pool ds)) (rowOctets pool s gs rest),
+        length-append xs (ys ++ dataOctets pool ds),
+        length-append ys (dataOctets pool ds),
+        a,
+        b,
+        c,
+        d,
+      ) (omega arith)
 
   module _ (s : Shape) (gs : Groups) (good : fieldsGood (s .length) 0 (s .fields) ≡ true) (f : ℕ → Result (Values × ℕ))
       (ih : (i : ℕ) (r : Values × ℕ) → f i ≡ done r → Long s gs (r .0)) where
@@ -119,17 +146,20 @@ module _ (l pool : List ℕ) where
         (omega (arith, fields-long (s .fields) (s .length) 0 i (p .value) good (omega arith) (p .first)))
         (ih (p .value .1) (q .value) (q .first)) (datas-long (s .datas) (q .value .1) (k .value) (k .first)) h)
 
-    entries-long : (k i : ℕ) (r : Values × ℕ) → judgeEntries l (length pool) k (judgeBlock l (length pool) s f) i ≡ done r
+    entries-long : (k i : ℕ) (r : Values × ℕ)
+        → judgeEntries l (length pool) k (judgeBlock l (length pool) s f) i ≡ done r
         → Long s gs (r .0)
     unfolding judgeEntries
-    entries-long zero i r e = subst (λ (x : Values × ℕ). Long s gs (x .0)) (done-inj e) (unfold rowOctets rowLength in refl)
+    entries-long zero i r e = subst (λ (x : Values × ℕ). Long s gs (x .0)) (done-inj e)
+        (unfold rowOctets rowLength in refl)
     entries-long (suc k) i r e =
         let p = inv-bind _ _ _ e in
         let q = inv-bind _ _ _ (p .next) in
         subst (λ (x : Values × ℕ). Long s gs (x .0)) (done-inj (q .next))
         (block-long i (p .value) (q .value .0) (p .first) (entries-long k (p .value .3) (q .value) (q .first)))
 
-  group-long : (i since : ℕ) (s : Shape) (inner rest : Groups) (s₀ : Shape) (a : Answer) (es gs : Values) → Long s inner es
+  group-long : (i since : ℕ) (s : Shape) (inner rest : Groups) (s₀ : Shape) (a : Answer) (es gs : Values)
+      → Long s inner es
       → Long s₀ rest gs → Long s₀ (more i since s inner rest) (group a es gs)
   unfolding rowOctets rowLength
   group-long i since s inner rest s₀ a es gs x y =
@@ -141,7 +171,8 @@ module _ (l pool : List ℕ) where
   groups-long : (gs : Groups) (s₀ : Shape) (i : ℕ) (r : Values × ℕ) → groupsGood gs ≡ true
       → judgeGroups l (length pool) gs i ≡ done r → Long s₀ gs (r .0)
   unfolding judgeGroups groupsGood
-  groups-long none s₀ i r g e = subst (λ (x : Values × ℕ). Long s₀ none (x .0)) (done-inj e) (unfold rowOctets rowLength in refl)
+  groups-long none s₀ i r g e = subst (λ (x : Values × ℕ). Long s₀ none (x .0)) (done-inj e)
+      (unfold rowOctets rowLength in refl)
   groups-long (more id since s inner rest) s₀ i r g e =
       let p = inv-bind _ _ _ (inv-bind _ _ _ (inv-bind _ _ _ e .next) .next) in
       let q = inv-bind _ _ _ (p .next) in
@@ -153,15 +184,23 @@ module _ (l pool : List ℕ) where
       (groups-long rest s₀ (p .value .1) (q .value) (and-right _ _ h) (q .first)))
 
   -- The whole message.
-  pub written-long : (b : Book) (t : Template) (r : Values) → layoutGood t ≡ true → judgeListing l (length pool) t ≡ done r
+  pub written-long : (b : Book) (t : Template) (r : Values) → layoutGood t ≡ true
+      → judgeListing l (length pool) t ≡ done r
       → length (messageOctets b t pool r) ≡ writtenLength t r
   unfolding judgeListing messageOctets
   written-long b t r g e =
       let p = inv-bind _ _ _ e in
       let q = inv-bind _ _ _ (p .next) in
       let x = p .value in
-      let long = block-long (t .shape) (t .groups) (and-right _ _ (and-left _ _ g)) (judgeGroups l (length pool) (t .groups))
-          (λ j y z. groups-long (t .groups) (t .shape) j y (and-right _ _ g) z) 0 x nil (p .first) (unfold rowOctets rowLength in refl) in
+      let long = block-long (t .shape) (t .groups) (and-right _ _ (and-left _ _ g))
+      (judgeGroups l (length pool) (t .groups))
+      (λ j y z. groups-long (t .groups) (t .shape) j y (and-right _ _ g) z) 0 x nil (p .first)
+      (unfold rowOctets rowLength in refl) in
       subst (λ (y : Values). length (messageOctets b t pool y) ≡ writtenLength t y) (done-inj (q .next))
       (length-append (numbers16 _) (rowOctets pool (t .shape) (t .groups) (entry (x .0) (x .1) (x .2) nil))
-      ∙ omega (arith, length-numbers (t .shape .length ∷ t .id ∷ b .schema ∷ b .version ∷ length (groupSinces (t .groups)) ∷ length (t .shape .datas) ∷ []), long))
+      ∙ omega (
+        arith,
+        length-numbers (t .shape .length ∷ t .id ∷ b .schema ∷ b .version
+            ∷ length (groupSinces (t .groups)) ∷ length (t .shape .datas) ∷ []),
+        long,
+      ))

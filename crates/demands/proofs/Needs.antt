@@ -33,7 +33,8 @@ need-grows v l low e (f ∷ fs) g h =
     (le-trans (omega (arith, k .placed)) (need-grows v l (end f) (end f) fs (k .rest) (le-refl (end f))))
     (need-grows v l (end f) e fs (k .rest) (omega (arith, k .placed)))
 
-pub need-prefix : (v l low e : ℕ) (fs gs : List Field) → fieldsGood l low (fs ++ gs) ≡ true → e ≤ low → needAfter v e fs ≤ needAfter v e (fs ++ gs)
+pub need-prefix : (v l low e : ℕ) (fs gs : List Field) → fieldsGood l low (fs ++ gs) ≡ true → e ≤ low
+    → needAfter v e fs ≤ needAfter v e (fs ++ gs)
 unfolding needAfter
 need-prefix v l low e [] gs g h = need-grows v l low e gs g h
 need-prefix v l low e (f ∷ fs) gs g h =
@@ -58,11 +59,13 @@ unfolding needAfter Each if_then_else_
 need-absent v limit e [] a h = refl
 need-absent v limit e (f ∷ fs) a h = rw (lt-leb (f .since) v (omega (arith, a .0))) (need-absent v limit e fs (a .1) h)
 
-pub need-adds : (strict : Bool) (v limit l : ℕ) (old new : List Field) → AddsFields limit old new → fieldsGood l 0 new ≡ true
+pub need-adds : (strict : Bool) (v limit l : ℕ) (old new : List Field) → AddsFields limit old new
+    → fieldsGood l 0 new ≡ true
     → (strict ≡ true → v ≤ limit) → AtLeast strict (needAfter v 0 old) (needAfter v 0 new)
 need-adds strict v limit l old new a g h = (
   rw (a .first) (need-prefix v l 0 0 old (a .added) (rw (a .first) at g) (le-refl 0)),
-  λ s. rw (a .first, need-append v 0 old (a .added)) (sym (need-absent v limit (needAfter v 0 old) (a .added) (a .young) (h s))),
+  λ s. rw (a .first, need-append v 0 old (a .added))
+      (sym (need-absent v limit (needAfter v 0 old) (a .added) (a .young) (h s))),
 )
 
 -- ---- counts of what is present
@@ -75,17 +78,21 @@ present-append v (a ∷ as′) bs = omega (arith, present-append v as′ bs)
 pub present-absent : (v limit : ℕ) (ss : List ℕ) → AllAbove limit ss → v ≤ limit → present v ss ≡ 0
 unfolding present Each if_then_else_
 present-absent v limit [] a h = refl
-present-absent v limit (s ∷ ss) a h = rw (lt-leb s v (omega (arith, a .0))) (omega (arith, present-absent v limit ss (a .1) h))
+present-absent v limit (s ∷ ss) a h = rw (lt-leb s v (omega (arith, a .0)))
+    (omega (arith, present-absent v limit ss (a .1) h))
 
 pub present-most : (v : ℕ) (ss : List ℕ) → present v ss ≤ length ss
 unfolding present
 present-most v [] = le-refl 0
-present-most v (s ∷ ss) = either (λ (x : ℕ). x + present v ss ≤ suc (length ss)) (leb s v) 1 0 (omega (arith, present-most v ss)) (omega (arith, present-most v ss))
+present-most v (s ∷ ss) = either (λ (x : ℕ). x + present v ss ≤ suc (length ss)) (leb s v) 1 0
+    (omega (arith, present-most v ss)) (omega (arith, present-most v ss))
 
 -- Above the schema version all are present.
-pub present-all : (v version low : ℕ) (ss : List ℕ) → rising version low ss ≡ true → version ≤ v → present v ss ≡ length ss
+pub present-all : (v version low : ℕ) (ss : List ℕ) → rising version low ss ≡ true → version ≤ v
+    → present v ss ≡ length ss
 unfolding present rising if_then_else_
 present-all v version low [] g h = refl
 present-all v version low (s ∷ ss) g h =
     let small = and-left _ _ (and-right _ _ g) in
-    rw (le-leb s v (omega (arith, leb-true s version small))) (omega (arith, present-all v version s ss (and-right _ _ (and-right _ _ g)) h))
+    rw (le-leb s v (omega (arith, leb-true s version small)))
+    (omega (arith, present-all v version s ss (and-right _ _ (and-right _ _ g)) h))

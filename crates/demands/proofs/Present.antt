@@ -10,7 +10,6 @@ use Rattle.layout.specs.Result.{Each, if_then_else_}
 use Rattle.layout.specs.Octets.{null16}
 use Rattle.layout.specs.Book.{Book, Groups, Shape, Template, dataSinces, fieldSinces, groupSinces, more, none, present}
 use Rattle.layout.specs.BookRules.{allAre, fieldsGood, groupsGood, groupsSince, rising}
-use Rattle.layout.specs.Values.{groupsIn}
 use Rattle.layout.proofs.Accepted.{Accepted}
 use Rattle.layout.proofs.Results.{and-left, and-right}
 
@@ -45,7 +44,8 @@ unfolding allAre Each
 up-all v x [] g h = tt
 up-all v x (s ∷ ss) g h = (omega (arith, eqb-true s x (and-left _ _ g)), up-all v x ss (and-right _ _ g) h)
 
-good-groups : (v : ℕ) (gs : Groups) → groupsGood gs ≡ true → groupsSince v gs ≡ true → UpTo v (groupSinces gs) → GoodGroups v gs
+good-groups : (v : ℕ) (gs : Groups) → groupsGood gs ≡ true → groupsSince v gs ≡ true → UpTo v (groupSinces gs)
+    → GoodGroups v gs
 unfolding groupsGood groupsSince Each groupSinces GoodGroups
 good-groups v none l g u = tt
 good-groups v (more i since s inner rest) l g u =
@@ -61,7 +61,7 @@ good-groups v (more i since s inner rest) l g u =
         datasIn = up-all v since (dataSinces (s .datas)) (and-left _ _ g₂) (u .0);
       },
       good-groups v inner (and-left _ _ (and-right _ _ l)) (and-left _ _ (and-right _ _ g₃))
-      (up-all v since (groupSinces inner) (and-left _ _ g₃) (u .0)),
+          (up-all v since (groupSinces inner) (and-left _ _ g₃) (u .0)),
       good-groups v rest (and-right _ _ (and-right _ _ l)) (and-right _ _ (and-right _ _ g₃)) (u .1),
     )
 

@@ -10,8 +10,6 @@ use Rattle.layout.specs.Book.{Data, Groups, Shape, more, need}
 use Rattle.layout.specs.Values.{Values, group}
 use Rattle.layout.specs.Message.{dimensionSize, readBlock, readData, readDatas, readDimension, readEntries, readGroup}
 use Rattle.layout.specs.Message.{readGroups}
-use Rattle.layout.specs.Writing.{first}
-use Rattle.demands.proofs.Written.{length-is}
 use Rattle.layout.proofs.Results.{and-right, done-inj, inv-bind, inv-must}
 use Rattle.layout.specs.declared.Answer.{Answer}
 use Rattle.layout.specs.declared.Answer.the-variants.{Group, Octets}
@@ -43,7 +41,8 @@ module _ (m : List ℕ) (v : ℕ) where
     pub after : readDatas m v ds 0 (first .1) ≡ done rest
     pub is : (first .0 ∷ rest .0, rest .1) ≡ r
 
-  pub datas-read : (d : Data) (ds : List Data) (at : ℕ) (r : List Answer × ℕ) → d .since ≤ v → readDatas m v (d ∷ ds) 0 at ≡ done r
+  pub datas-read : (d : Data) (ds : List Data) (at : ℕ) (r : List Answer × ℕ) → d .since ≤ v
+      → readDatas m v (d ∷ ds) 0 at ≡ done r
       → DatasRead ds at r
   unfolding readDatas if_then_else_
   datas-read d ds at r u e =
@@ -56,7 +55,8 @@ module _ (m : List ℕ) (v : ℕ) where
     pub entries : Values × ℕ
     pub others : Values × ℕ
     pub dimension : readDimension m (need v s) at ≡ done sizes
-    pub reads : readEntries (sizes .1) (readBlock m v s (readGroups m v inner 0) 0 (sizes .0)) (at + dimensionSize) ≡ done entries
+    pub reads : readEntries (sizes .1) (readBlock m v s (readGroups m v inner 0) 0 (sizes .0)) (at + dimensionSize)
+        ≡ done entries
     pub after : readGroups m v rest 0 (entries .1) ≡ done others
     pub is : (group (Group (sizes .1)) (entries .0) (others .0), others .1) ≡ r
 

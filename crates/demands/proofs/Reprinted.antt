@@ -1,5 +1,5 @@
--- The second round trip, its octets: a message with the book's own block lengths and zero padding is printed from its own
--- tree, with itself as pool, as it stands.
+-- The second round trip, its octets: a message with the book's own block lengths and zero padding is printed from its
+-- own tree, with itself as pool, as it stands.
 use mathlib.Core.Path.{_∙_, _≡_, ap, refl, subst, sym}
 use mathlib.Core.Bool.{Bool, false, true}
 use mathlib.Core.List.{List, [], _++_, _∷_, map}
@@ -50,7 +50,8 @@ module _ (m : List ℕ) (v : ℕ) (octets : AllOctets m) where
       y : ℕ
       y = valueOf k (numberAt (k .width) m p)
 
-      go : (b : Bool) → (isOptional f and eqb y (k .null)) ≡ b → (c : Bool) → InRange (if b then Null else if c then Number y else OutOfRange y)
+      go : (b : Bool) → (isOptional f and eqb y (k .null)) ≡ b → (c : Bool)
+          → InRange (if b then Null else if c then Number y else OutOfRange y)
           → Stands m p (fieldOctets m f (if b then Null else if c then Number y else OutOfRange y)) (p + k .width)
       go true e c s =
           let n : y ≡ k .null = eqb-true y (k .null) (and-right _ _ e) in
@@ -58,11 +59,13 @@ module _ (m : List ℕ) (v : ℕ) (octets : AllOctets m) where
       go false e true s = octets-stand m octets (k .width) p y h (octets-value (f .type) _ t)
       go false e false s = absurd s
 
-  array-stands : (f : Field) (p : ℕ) → p + f .length ≤ length m → Stands m p (fieldOctets m f (Octets p (f .length))) (p + f .length)
+  array-stands : (f : Field) (p : ℕ) → p + f .length ≤ length m
+      → Stands m p (fieldOctets m f (Octets p (f .length))) (p + f .length)
   unfolding fieldOctets spanOf
   array-stands f p h = slice-stands m p (f .length) h
 
-  field-stands : (f : Field) (at : ℕ) → f .type < 9 → lengthGood f ≡ true → f .since ≤ v → at + end f ≤ length m → InRange (readField m v at f)
+  field-stands : (f : Field) (at : ℕ) → f .type < 9 → lengthGood f ≡ true → f .since ≤ v → at + end f ≤ length m
+      → InRange (readField m v at f)
       → Stands m (at + f .offset) (fieldOctets m f (readField m v at f)) (at + end f)
   unfolding readField if_then_else_
   field-stands f at t g u h s = rw (le-leb (f .since) v u) (go (isArray f) refl (rw (le-leb (f .since) v u) at s))
@@ -84,35 +87,43 @@ module _ (m : List ℕ) (v : ℕ) (octets : AllOctets m) where
           let q : p + k .width ≡ at + end f = omega (arith, size-plain f g y) in
           rw (← q) (class-stands f p t (omega (arith, q)) s)
 
-  fields-stand : (fs : List Field) (base len from : ℕ) → fieldsGood len from fs ≡ true → UpTo v (fieldSinces fs) → from ≤ len
+  fields-stand : (fs : List Field) (base len from : ℕ) → fieldsGood len from fs ≡ true → UpTo v (fieldSinces fs)
+      → from ≤ len
       → base + len ≤ length m → ZeroPadding m base len from fs → Each InRange (map (readField m v base) fs)
       → Stands m (base + from) (blockOctets m len from fs (map (readField m v base) fs)) (base + len)
   unfolding Each ZeroPadding blockOctets
-  fields-stand [] base len from g u w h p s = zeros-stand (base + from) (base + len) (len - from) p (omega arith) (omega arith) h
+  fields-stand [] base len from g u w h p s =
+      zeros-stand (base + from) (base + len) (len - from) p (omega arith) (omega arith) h
   fields-stand (f ∷ fs) base len from g u w h p s =
       let k = field-good len from f fs g in
-      join _ _ (zeros-stand (base + from) (base + f .offset) (f .offset - from) (p .0) (omega arith) (omega (arith, k .placed)) (omega (arith, k .ended)))
+      join _ _ (zeros-stand (base + from) (base + f .offset) (f .offset - from) (p .0) (omega arith)
+      (omega (arith, k .placed)) (omega (arith, k .ended)))
       (join _ _ (field-stands f base (k .type) (k .length) (u .0) (omega (arith, k .ended)) (s .0))
       (fields-stand fs base len (end f) (k .rest) (u .1) (k .ended) h (p .1) (s .1)))
 
   -- ---- data
 
-  data-stands : (at : ℕ) (a : Answer × ℕ) (rest : List Answer) (to : ℕ) → readData m at ≡ done a → Stands m (a .1) (dataOctets m rest) to
+  data-stands : (at : ℕ) (a : Answer × ℕ) (rest : List Answer) (to : ℕ) → readData m at ≡ done a
+      → Stands m (a .1) (dataOctets m rest) to
       → Stands m at (dataOctets m (a .0 ∷ rest)) to × (a .1 ≡ at + (2 + spanOf (a .0) .1))
   unfolding dataOctets spanOf
   data-stands at a rest to e s =
       let r = data-read m v at a e in
-      subst (λ (x : Answer × ℕ). Stands m (x .1) (dataOctets m rest) to → Stands m at (dataOctets m (x .0 ∷ rest)) to × (x .1 ≡ at + (2 + spanOf (x .0) .1))) (r .is)
+      subst (λ (x : Answer × ℕ). Stands m (x .1) (dataOctets m rest) to → Stands m at (dataOctets m (x .0 ∷ rest)) to
+      × (x .1 ≡ at + (2 + spanOf (x .0) .1))) (r .is)
       (λ o. (
-        join _ _ (octets-stand m octets 2 at (number16 m at) (r .head) refl) (join _ _ (slice-stands m (at + 2) (number16 m at) (r .fits)) o),
+        join _ _ (octets-stand m octets 2 at (number16 m at) (r .head) refl)
+            (join _ _ (slice-stands m (at + 2) (number16 m at) (r .fits)) o),
         omega arith,
       )) s
 
-  datas-stand : (ds : List Data) (at : ℕ) (r : List Answer × ℕ) → UpTo v (dataSinces ds) → at ≤ length m → readDatas m v ds 0 at ≡ done r
+  datas-stand : (ds : List Data) (at : ℕ) (r : List Answer × ℕ) → UpTo v (dataSinces ds) → at ≤ length m
+      → readDatas m v ds 0 at ≡ done r
       → Stands m at (dataOctets m (r .0)) (r .1) × (r .1 ≡ at + datasLength (r .0))
   unfolding Each datasLength
   datas-stand [] at r u h e =
-      subst (λ (x : List Answer × ℕ). Stands m at (dataOctets m (x .0)) (x .1) × (x .1 ≡ at + datasLength (x .0))) (done-inj (sym (no-datas m v at) ∙ e))
+      subst (λ (x : List Answer × ℕ). Stands m at (dataOctets m (x .0)) (x .1) × (x .1 ≡ at + datasLength (x .0)))
+      (done-inj (sym (no-datas m v at) ∙ e))
       (unfold dataOctets in nothing-stands m at h, omega arith)
   datas-stand (d ∷ ds) at r u h e =
       let w = datas-read m v d ds at r (u .0) e in
@@ -120,7 +131,8 @@ module _ (m : List ℕ) (v : ℕ) (octets : AllOctets m) where
       let fits : w .first .1 ≤ length m = subst (λ (x : Answer × ℕ). x .1 ≤ length m) (k .is) (k .fits) in
       let ih = datas-stand ds (w .first .1) (w .rest) (u .1) fits (w .after) in
       let b = data-stands at (w .first) (w .rest .0) (w .rest .1) (w .reads) (ih .0) in
-      subst (λ (x : List Answer × ℕ). Stands m at (dataOctets m (x .0)) (x .1) × (x .1 ≡ at + datasLength (x .0))) (w .is)
+      subst (λ (x : List Answer × ℕ). Stands m at (dataOctets m (x .0)) (x .1) × (x .1 ≡ at + datasLength (x .0)))
+      (w .is)
       (b .0, omega (arith, b .1, ih .1))
 
   -- ---- blocks, entries, groups
@@ -131,13 +143,17 @@ module _ (m : List ℕ) (v : ℕ) (octets : AllOctets m) where
 
   abbrev Reprints : Shape → Groups → (ℕ → Result (Values × ℕ)) → Type 0
   Reprints s gs f =
-      (at : ℕ) (r : Values × ℕ) → at ≤ length m → OwnBlocks m s gs at (r .0) → ValuesInRange (r .0) → f at ≡ done r → Printed s gs at r
+      (at : ℕ) (r : Values × ℕ) → at ≤ length m → OwnBlocks m s gs at (r .0) → ValuesInRange (r .0) → f at ≡ done r
+      → Printed s gs at r
 
   abbrev pub entryPrinted : Shape → Groups → Entry → List ℕ
-  entryPrinted s gs b = blockOctets m (s .length) 0 (s .fields) (b .0) ++ (rowOctets m s gs (b .1) ++ dataOctets m (b .2))
+  entryPrinted s gs b = blockOctets m (s .length) 0 (s .fields) (b .0)
+      ++ (rowOctets m s gs (b .1) ++ dataOctets m (b .2))
 
-  pub block-stands : (s : Shape) (gs : Groups) (f : ℕ → Result (Values × ℕ)) (at : ℕ) (b : Entry) → GoodShape v s → Reprints s gs f
-      → ZeroPadding m at (s .length) 0 (s .fields) → OwnBlocks m s gs (at + s .length) (b .1) → Each InRange (b .0) → ValuesInRange (b .1)
+  pub block-stands : (s : Shape) (gs : Groups) (f : ℕ → Result (Values × ℕ)) (at : ℕ) (b : Entry) → GoodShape v s
+      → Reprints s gs f
+      → ZeroPadding m at (s .length) 0 (s .fields) → OwnBlocks m s gs (at + s .length) (b .1) → Each InRange (b .0)
+      → ValuesInRange (b .1)
       → readBlock m v s f 0 (s .length) at ≡ done b
       → Stands m at (entryPrinted s gs b) (b .3) × (b .3 ≡ at + rowLength s gs (entry (b .0) (b .1) (b .2) nil))
   unfolding readBlock rowLength
@@ -147,11 +163,13 @@ module _ (m : List ℕ) (v : ℕ) (octets : AllOctets m) where
       let k = inv-bind _ _ _ (q .next) in
       let fits : at + s .length ≤ length m = leb-true (at + s .length) (length m) (inv-must _ _ _ _ (p .first)) in
       subst (λ (x : Entry). OwnBlocks m s gs (at + s .length) (x .1) → Each InRange (x .0) → ValuesInRange (x .1)
-      → Stands m at (entryPrinted s gs x) (x .3) × (x .3 ≡ at + (s .length + (rowLength s gs (x .1) + (datasLength (x .2) + 0))))) (done-inj (k .next))
+      → Stands m at (entryPrinted s gs x) (x .3)
+      × (x .3 ≡ at + (s .length + (rowLength s gs (x .1) + (datasLength (x .2) + 0))))) (done-inj (k .next))
       (λ own′ in₁′ in₂′.
       let g = ih (at + s .length) (q .value) fits own′ in₂′ (q .first) in
       let d = datas-stand (s .datas) (q .value .1) (k .value) (good .datasIn) (g .0 .fits) (k .first) in (
-        join _ _ (to-zero (fields-stand (s .fields) at (s .length) 0 (good .fields) (good .fieldsIn) (omega arith) fits pad in₁′)) (join _ _ (g .0) (d .0)),
+        join _ _ (to-zero (fields-stand (s .fields) at (s .length) 0 (good .fields) (good .fieldsIn)
+            (omega arith) fits pad in₁′)) (join _ _ (g .0) (d .0)),
         omega (arith, g .1, d .1),
       )) own in₁ in₂
     where
@@ -161,31 +179,37 @@ module _ (m : List ℕ) (v : ℕ) (octets : AllOctets m) where
   entries-stand : (s : Shape) (gs : Groups) (f : ℕ → Result (Values × ℕ)) (k : ℕ) → GoodShape v s → Reprints s gs f
       → Reprints s gs (readEntries k (readBlock m v s f 0 (s .length)))
   unfolding readEntries OwnBlocks ValuesInRange rowOctets rowLength
-  entries-stand s gs f zero good ih at r h own ranges e = subst (Printed s gs at) (done-inj e) (nothing-stands m at h, omega arith)
+  entries-stand s gs f zero good ih at r h own ranges e =
+      subst (Printed s gs at) (done-inj e) (nothing-stands m at h, omega arith)
   entries-stand s gs f (suc k) good ih at r h own ranges e =
       let p = inv-bind _ _ _ e in
       let q = inv-bind _ _ _ (p .next) in
-      subst (λ (x : Values × ℕ). OwnBlocks m s gs at (x .0) → ValuesInRange (x .0) → Printed s gs at x) (done-inj (q .next))
+      subst (λ (x : Values × ℕ). OwnBlocks m s gs at (x .0) → ValuesInRange (x .0) → Printed s gs at x)
+      (done-inj (q .next))
       (λ o i.
       let b = block-stands s gs f at (p .value) good ih (o .0) (o .1) (i .0) (i .1) (p .first) in
       let rest = entries-stand s gs f k good ih (p .value .3) (q .value) (b .0 .fits)
-          (subst (λ (x : ℕ). OwnBlocks m s gs x (q .value .0)) (sym (b .1)) (o .2)) (i .2) (q .first) in
+      (subst (λ (x : ℕ). OwnBlocks m s gs x (q .value .0)) (sym (b .1)) (o .2)) (i .2) (q .first) in
       (join _ _ (b .0) (rest .0), omega (arith, b .1, rest .1))) own ranges
 
-  group-stands : (i since : ℕ) (s : Shape) (inner rest : Groups) (s₀ : Shape) (at : ℕ) (d : ℕ × ℕ) (es others : Values × ℕ)
-      → DimensionRead m v (need v s) at d → number16 m at ≡ s .length → Printed s inner (at + dimensionSize) es → Printed s₀ rest (es .1) others
+  group-stands : (i since : ℕ) (s : Shape) (inner rest : Groups) (s₀ : Shape) (at : ℕ) (d : ℕ × ℕ)
+      (es others : Values × ℕ)
+      → DimensionRead m v (need v s) at d → number16 m at ≡ s .length → Printed s inner (at + dimensionSize) es
+      → Printed s₀ rest (es .1) others
       → Printed s₀ (more i since s inner rest) at (group (Group (d .1)) (es .0) (others .0), others .1)
   unfolding rowOctets rowLength entriesIn AreAt
   group-stands i since s inner rest s₀ at d es others r n a b = (
-    join _ _ (numbers-stand m octets at (at + dimensionSize) (s .length ∷ d .1 ∷ []) (omega arith) (r .fits) (n, (sym (r .count-is), tt)))
-    (join _ _ (a .0) (b .0)),
+    join _ _ (numbers-stand m octets at (at + dimensionSize) (s .length ∷ d .1 ∷ []) (omega arith) (r .fits)
+        (n, (sym (r .count-is), tt)))
+        (join _ _ (a .0) (b .0)),
     omega (arith, a .1, b .1),
   )
 
   pub groups-stand : (gs : Groups) (s₀ : Shape) → GoodGroups v gs → Reprints s₀ gs (readGroups m v gs 0)
   unfolding GoodGroups OwnBlocks ValuesInRange
   groups-stand none s₀ good at r h own ranges e =
-      subst (Printed s₀ none at) (done-inj (sym (no-groups m v at) ∙ e)) (unfold rowOctets rowLength in (nothing-stands m at h, omega arith))
+      subst (Printed s₀ none at) (done-inj (sym (no-groups m v at) ∙ e))
+      (unfold rowOctets rowLength in (nothing-stands m at h, omega arith))
   groups-stand (more i since s inner rest) s₀ good at r h own ranges e =
       let w = group-read m v i since s inner rest at r (good .0) e in
       let d = dimension-read m v (need v s) at (w .sizes) (w .dimension) in
@@ -195,9 +219,11 @@ module _ (m : List ℕ) (v : ℕ) (octets : AllOctets m) where
       let len : w .sizes .0 ≡ s .length = d .length-is ∙ o .0 in
       let one : ℕ → Result Entry = readBlock m v s (readGroups m v inner 0) 0 (s .length) in
       let reads : readEntries (w .sizes .1) one (at + dimensionSize) ≡ done (w .entries) =
-          ap (λ (x : ℕ). readEntries (w .sizes .1) (readBlock m v s (readGroups m v inner 0) 0 x) (at + dimensionSize)) (sym len) ∙ w .reads in
-      let a = entries-stand s inner (readGroups m v inner 0) (w .sizes .1) (good .1) (groups-stand inner s (good .2)) (at + dimensionSize) (w .entries)
-          (d .fits) (o .1) (k .0) reads in
+      ap (λ (x : ℕ). readEntries (w .sizes .1) (readBlock m v s (readGroups m v inner 0) 0 x) (at + dimensionSize))
+      (sym len) ∙ w .reads in
+      let a = entries-stand s inner (readGroups m v inner 0) (w .sizes .1) (good .1) (groups-stand inner s (good .2))
+      (at + dimensionSize) (w .entries)
+      (d .fits) (o .1) (k .0) reads in
       let c = groups-stand rest s₀ (good .3) (w .entries .1) (w .others) (a .0 .fits)
-          (subst (λ (x : ℕ). OwnBlocks m s₀ rest x (w .others .0)) (sym (a .1)) (o .2)) (k .1) (w .after) in
+      (subst (λ (x : ℕ). OwnBlocks m s₀ rest x (w .others .0)) (sym (a .1)) (o .2)) (k .1) (w .after) in
       group-stands i since s inner rest s₀ at (w .sizes) (w .entries) (w .others) d (o .0) a c) own ranges

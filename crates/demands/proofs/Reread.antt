@@ -55,7 +55,8 @@ module _ (l pool m : List ℕ) (v : ℕ) (small : Numbers64 l) where
   unfolding classify if_then_else_ _and_
   class-null k = rw (eq-eqb (k .null) (k .null) refl) refl
 
-  class-number : (k : TypeRow) (o : Bool) (x : ℕ) → inRange k x ≡ true → eqb x (k .null) ≡ false → classify k o x ≡ Number x
+  class-number : (k : TypeRow) (o : Bool) (x : ℕ) → inRange k x ≡ true → eqb x (k .null) ≡ false
+      → classify k o x ≡ Number x
   unfolding classify if_then_else_ _and_
   class-number k true x h n = rw (n, h) refl
   class-number k false x h n = rw h refl
@@ -66,7 +67,8 @@ module _ (l pool m : List ℕ) (v : ℕ) (small : Numbers64 l) where
       let k = typeAt (f .type) in
       classify k (isOptional f) (valueOf k (numberAt (k .width) m at)) ≡ a
 
-  null-back-at : (f : Field) (at to : ℕ) → f .type < 9 → isOptional f ≡ true → Stands m at (fieldOctets pool f Null) to → ReadAs f at Null
+  null-back-at : (f : Field) (at to : ℕ) → f .type < 9 → isOptional f ≡ true → Stands m at (fieldOctets pool f Null) to
+      → ReadAs f at Null
   unfolding fieldOctets
   null-back-at f at to t o s =
       let k = typeAt (f .type) in
@@ -83,7 +85,8 @@ module _ (l pool m : List ℕ) (v : ℕ) (small : Numbers64 l) where
       let e = ap (valueOf k) (number-stands (k .width) x s) ∙ number-back (f .type) x t b r in
       rw e (class-number k (isOptional f) x r (not-true _ (and-right _ _ h)))
 
-  number-field : (f : Field) (i at to : ℕ) (a : Answer) → f .type < 9 → isArray f ≡ false → judgeField l (length pool) f i ≡ done a
+  number-field : (f : Field) (i at to : ℕ) (a : Answer) → f .type < 9 → isArray f ≡ false
+      → judgeField l (length pool) f i ≡ done a
       → Stands m at (fieldOctets pool f a) to → ReadAs f at a × (contentOf m a ≡ contentOf pool a)
   unfolding if_then_else_ contentOf
   number-field f i at to a t y e s =
@@ -106,10 +109,12 @@ module _ (l pool m : List ℕ) (v : ℕ) (small : Numbers64 l) where
       let start = second l i in
       let len = third l i in
       let s′ : Stands m at (take len (drop start pool)) to = rw (← (q .is)) at s in
-      let w : take len (drop at m) ≡ take len (drop start pool) = rw (span-long pool start len (q .within)) at (s′ .whole) in
+      let w : take len (drop at m) ≡ take len (drop start pool) =
+      rw (span-long pool start len (q .within)) at (s′ .whole) in
       rw (← (q .is)) (ap (λ (r : List ℕ). 2 ∷ r) w)
 
-  array-octets : (f : Field) (start len : ℕ) → fieldOctets pool f (Octets start len) ≡ spanOctets pool (Octets start len)
+  array-octets : (f : Field) (start len : ℕ)
+      → fieldOctets pool f (Octets start len) ≡ spanOctets pool (Octets start len)
   unfolding fieldOctets
   array-octets f start len = refl
 
@@ -120,7 +125,8 @@ module _ (l pool m : List ℕ) (v : ℕ) (small : Numbers64 l) where
       let o : fieldOctets pool f a ≡ spanOctets pool a = rw (← (q .0 .is)) (array-octets f (second l i) (third l i)) in
       rw (← (q .1)) (octets-same a at to i (q .0) (rw o at s))
 
-  field-back : (f : Field) (i base to : ℕ) (a : Answer) → f .type < 9 → f .since ≤ v → judgeField l (length pool) f i ≡ done a
+  field-back : (f : Field) (i base to : ℕ) (a : Answer) → f .type < 9 → f .since ≤ v
+      → judgeField l (length pool) f i ≡ done a
       → Stands m (base + f .offset) (fieldOctets pool f a) to → contentOf m (readField m v base f) ≡ contentOf pool a
   unfolding readField if_then_else_
   field-back f i base to a t h e s = rw (le-leb (f .since) v h) (go (isArray f) refl)
@@ -129,7 +135,8 @@ module _ (l pool m : List ℕ) (v : ℕ) (small : Numbers64 l) where
       k = typeAt (f .type)
 
       go : (y : Bool) → isArray f ≡ y
-          → contentOf m (if y then Octets (base + f .offset) (f .length) else classify k (isOptional f) (valueOf k (numberAt (k .width) m (base + f .offset)))) ≡ contentOf pool a
+          → contentOf m (if y then Octets (base + f .offset) (f .length) else classify k (isOptional f)
+          (valueOf k (numberAt (k .width) m (base + f .offset)))) ≡ contentOf pool a
       go true y = array-field f i (base + f .offset) to a y e s
       go false y =
           let b = number-field f i (base + f .offset) to a t y e s in
@@ -138,7 +145,8 @@ module _ (l pool m : List ℕ) (v : ℕ) (small : Numbers64 l) where
   -- ---- the fields of a block that starts at base, from its octet `from` on
 
   fields-back : (fs : List Field) (len from i base to : ℕ) (r : List Answer × ℕ) → fieldsGood len from fs ≡ true
-      → UpTo v (fieldSinces fs) → judgeFields l (length pool) fs i ≡ done r → Stands m (base + from) (blockOctets pool len from fs (r .0)) to
+      → UpTo v (fieldSinces fs) → judgeFields l (length pool) fs i ≡ done r
+      → Stands m (base + from) (blockOctets pool len from fs (r .0)) to
       → contentsOf m (map (readField m v base) fs) ≡ contentsOf pool (r .0)
   unfolding Each judgeFields blockOctets
   fields-back [] len from i base to r g u e s = ap (λ (x : List Answer × ℕ). contentsOf pool (x .0)) (done-inj e)
@@ -152,7 +160,8 @@ module _ (l pool m : List ℕ) (v : ℕ) (small : Numbers64 l) where
       let xs = fieldOctets pool f a in
       let ys = blockOctets pool len (end f) fs (rest .0) in
       let pad = length-replicate {A = ℕ} (f .offset - from) 0 in
-      let o₁ = split-to (replicate (f .offset - from) 0) (xs ++ ys) (base + f .offset) (omega (arith, k .placed, pad)) (rw (← q) at s) in
+      let o₁ = split-to (replicate (f .offset - from) 0) (xs ++ ys) (base + f .offset) (omega (arith, k .placed, pad))
+      (rw (← q) at s) in
       let o₂ = split-to xs ys (base + end f) (omega (arith, field-long l pool f i a (k .length) (p .first))) (o₁ .1) in
       let b = field-back f i base (base + end f) a (k .type) (u .0) (p .first) (o₂ .0) in
       cons-same b (fields-back fs len (end f) (suc i) base to rest (k .rest) (u .1) (n .first) (o₂ .1))
@@ -160,12 +169,16 @@ module _ (l pool m : List ℕ) (v : ℕ) (small : Numbers64 l) where
 
   -- ---- data
 
-  data-at : (at len : ℕ) → number16 m at ≡ len → at + 2 ≤ length m → len < 65535 → at + 2 + len ≤ length m → readData m at ≡ done (Octets (at + 2) len, at + 2 + len)
+  data-at : (at len : ℕ) → number16 m at ≡ len → at + 2 ≤ length m → len < 65535 → at + 2 + len ≤ length m
+      → readData m at ≡ done (Octets (at + 2) len, at + 2 + len)
   unfolding readData must _>>=_
-  data-at at len n a b c = rw (n, le-leb (at + 2) (length m) a, lt-ltb len 65535 b, le-leb (at + 2 + len) (length m) c) refl
+  data-at at len n a b c = rw (n, le-leb (at + 2) (length m) a, lt-ltb len 65535 b, le-leb (at + 2 + len) (length m) c)
+      refl
 
-  data-back : (i at to : ℕ) (a : Answer) (ds : List Answer) → judgeData l (length pool) i ≡ done a → Stands m at (dataOctets pool (a ∷ ds)) to
-      → (b : Answer × ℕ) × (readData m at ≡ done b) × (contentOf m (b .0) ≡ contentOf pool a) × (Stands m (b .1) (dataOctets pool ds) to)
+  data-back : (i at to : ℕ) (a : Answer) (ds : List Answer) → judgeData l (length pool) i ≡ done a
+      → Stands m at (dataOctets pool (a ∷ ds)) to
+      → (b : Answer × ℕ) × (readData m at ≡ done b) × (contentOf m (b .0) ≡ contentOf pool a)
+      × (Stands m (b .1) (dataOctets pool ds) to)
   unfolding dataOctets spanOf
   data-back i at to a ds e s =
       let d = data-said l (length pool) i a e in
@@ -174,7 +187,8 @@ module _ (l pool m : List ℕ) (v : ℕ) (small : Numbers64 l) where
       let len = third l i in
       let long = span-long pool start len (q .within) in
       let xs = take len (drop start pool) in
-      let o₁ = split-to (octetsOf 2 len) (xs ++ dataOctets pool ds) (at + 2) (omega (arith, length-octets 2 len)) (rw (← (q .is)) at s) in
+      let o₁ = split-to (octetsOf 2 len) (xs ++ dataOctets pool ds) (at + 2) (omega (arith, length-octets 2 len))
+      (rw (← (q .is)) at s) in
       let o₂ = split-to xs (dataOctets pool ds) (at + 2 + len) (omega (arith, long)) (o₁ .1) in
       let n = number-stands 2 len (o₁ .0) ∙ mod-eq-of-lt (omega (arith, d .1)) in (
         (Octets (at + 2) len, at + 2 + len),
@@ -183,12 +197,14 @@ module _ (l pool m : List ℕ) (v : ℕ) (small : Numbers64 l) where
         o₂ .1,
       )
 
-  datas-next : (d : Data) (ds : List Data) (at to : ℕ) (b : Answer × ℕ) (w : List Answer) → d .since ≤ v → readData m at ≡ done b → readDatas m v ds 0 (b .1) ≡ done (w, to)
+  datas-next : (d : Data) (ds : List Data) (at to : ℕ) (b : Answer × ℕ) (w : List Answer) → d .since ≤ v
+      → readData m at ≡ done b → readDatas m v ds 0 (b .1) ≡ done (w, to)
       → readDatas m v (d ∷ ds) 0 at ≡ done (b .0 ∷ w, to)
   unfolding readDatas _>>=_ if_then_else_
   datas-next d ds at to b w h e q = rw (le-leb (d .since) v h, e, q) refl
 
-  datas-back : (ds : List Data) (i at to : ℕ) (r : List Answer × ℕ) → UpTo v (dataSinces ds) → judgeDatas l (length pool) ds i ≡ done r → Stands m at (dataOctets pool (r .0)) to
+  datas-back : (ds : List Data) (i at to : ℕ) (r : List Answer × ℕ) → UpTo v (dataSinces ds)
+      → judgeDatas l (length pool) ds i ≡ done r → Stands m at (dataOctets pool (r .0)) to
       → (b : List Answer) × (readDatas m v ds 0 at ≡ done (b, to)) × (contentsOf m b ≡ contentsOf pool (r .0))
   unfolding judgeDatas Each dataOctets
   datas-back [] i at to r u e s =
@@ -201,8 +217,12 @@ module _ (l pool m : List ℕ) (v : ℕ) (small : Numbers64 l) where
       let n = inv-bind _ _ _ (p .next) in
       let q : (p .value ∷ n .value .0, n .value .1) ≡ r = done-inj (n .next) in
       let b = data-back i at to (p .value) (n .value .0) (p .first) (rw (← q) at s) in
-      let w = datas-back ds (suc i) (b .0 .1) to (n .value) (u .1) (n .first) (b .3) in
-      (b .0 .0 ∷ w .0, datas-next d ds at to (b .0) (w .0) (u .0) (b .1) (w .1), cons-same (b .2) (w .2) ∙ ap (λ (x : List Answer × ℕ). contentsOf pool (x .0)) q)
+      let w = datas-back ds (suc i) (b .0 .1) to (n .value) (u .1) (n .first) (b .3) in (
+        b .0 .0 ∷ w .0,
+        datas-next d ds at to (b .0) (w .0) (u .0) (b .1) (w .1),
+        cons-same (b .2) (w .2)
+            ∙ ap (λ (x : List Answer × ℕ). contentsOf pool (x .0)) q,
+      )
 
   -- ---- blocks, entries, groups
 
@@ -229,22 +249,26 @@ module _ (l pool m : List ℕ) (v : ℕ) (small : Numbers64 l) where
       let q : at ≡ to = omega (arith, o .ends) in
       record { values = nil; reads = e ∙ ap (λ (x : ℕ). done (nil, x)) q; same = unfold treeContents in refl }
 
-  block-reads : (s : Shape) (f : ℕ → Result (Values × ℕ)) (n at x to : ℕ) (g : Values) (ds : List Answer) → at + n ≤ length m
+  block-reads : (s : Shape) (f : ℕ → Result (Values × ℕ)) (n at x to : ℕ) (g : Values) (ds : List Answer)
+      → at + n ≤ length m
       → f (at + n) ≡ done (g, x) → readDatas m v (s .datas) 0 x ≡ done (ds, to)
       → readBlock m v s f 0 n at ≡ done (map (readField m v at) (s .fields), g, ds, to)
   unfolding readBlock must _>>=_
   block-reads s f n at x to g ds h e q = rw (le-leb (at + n) (length m) h, e, q) refl
 
   module _ (s : Shape) (gs : Groups) (good : GoodShape v s) (f′ : ℕ → Result (Values × ℕ)) (f : ℕ → Result (Values × ℕ))
-      (ih : (i at to : ℕ) (r : Values × ℕ) → f′ i ≡ done r → Stands m at (rowOctets pool s gs (r .0)) to → RowBack (r .0) to (f at)) where
+      (ih : (i at to : ℕ) (r : Values × ℕ) → f′ i ≡ done r → Stands m at (rowOctets pool s gs (r .0)) to
+      → RowBack (r .0) to (f at)) where
     abbrev pub entryOctets : Entry → List ℕ
-    entryOctets b = blockOctets pool (s .length) 0 (s .fields) (b .0) ++ (rowOctets pool s gs (b .1) ++ dataOctets pool (b .2))
+    entryOctets b = blockOctets pool (s .length) 0 (s .fields) (b .0)
+        ++ (rowOctets pool s gs (b .1) ++ dataOctets pool (b .2))
 
     abbrev readOne : ℕ → Result Entry
     readOne at = readBlock m v s f 0 (s .length) at
 
     block-forth : (i j k e at to : ℕ) (fs : List Answer) (g : Values) (ds : List Answer)
-        → judgeFields l (length pool) (s .fields) i ≡ done (fs, j) → f′ j ≡ done (g, k) → judgeDatas l (length pool) (s .datas) k ≡ done (ds, e)
+        → judgeFields l (length pool) (s .fields) i ≡ done (fs, j) → f′ j ≡ done (g, k)
+        → judgeDatas l (length pool) (s .datas) k ≡ done (ds, e)
         → Stands m at (entryOctets (fs, g, ds, e)) to → EntryBack (fs, g, ds, e) to (readOne at)
     block-forth i j k e at to fs g ds a b c st =
         let xs = blockOctets pool (s .length) 0 (s .fields) fs in
@@ -259,8 +283,10 @@ module _ (l pool m : List ℕ) (v : ℕ) (small : Numbers64 l) where
           fields = map (readField m v at) (s .fields);
           groups = w₂ .values;
           datas = w₃ .0;
-          reads = block-reads s f (s .length) at (mid + length ys) to (w₂ .values) (w₃ .0) (o₁ .0 .fits) (w₂ .reads) (w₃ .1);
-          sameFields = fields-back (s .fields) (s .length) 0 i at mid (fs, j) (good .fields) (good .fieldsIn) a (from-zero (o₁ .0));
+          reads = block-reads s f (s .length) at (mid + length ys) to (w₂ .values) (w₃ .0) (o₁ .0 .fits) (w₂ .reads)
+              (w₃ .1);
+          sameFields = fields-back (s .fields) (s .length) 0 i at mid (fs, j) (good .fields) (good .fieldsIn) a
+              (from-zero (o₁ .0));
           sameGroups = w₂ .same;
           sameDatas = w₃ .2;
         }
@@ -268,7 +294,8 @@ module _ (l pool m : List ℕ) (v : ℕ) (small : Numbers64 l) where
         from-zero : {at to : ℕ} {xs : List ℕ} → Stands m at xs to → Stands m (at + 0) xs to
         from-zero {at} st = let q : at ≡ at + 0 = omega arith in rw (← q) st
 
-    pub block-back : (i at to : ℕ) (b : Entry) → judgeBlock l (length pool) s f′ i ≡ done b → Stands m at (entryOctets b) to
+    pub block-back : (i at to : ℕ) (b : Entry) → judgeBlock l (length pool) s f′ i ≡ done b
+        → Stands m at (entryOctets b) to
         → EntryBack b to (readOne at)
     unfolding judgeBlock
     block-back i at to b e st =
@@ -276,10 +303,12 @@ module _ (l pool m : List ℕ) (v : ℕ) (small : Numbers64 l) where
         let n = inv-bind _ _ _ (p .next) in
         let k = inv-bind _ _ _ (n .next) in
         subst (λ (x : Entry). Stands m at (entryOctets x) to → EntryBack x to (readOne at)) (done-inj (k .next))
-        (block-forth i (p .value .1) (n .value .1) (k .value .1) at to (p .value .0) (n .value .0) (k .value .0) (p .first) (n .first) (k .first))
+        (block-forth i (p .value .1) (n .value .1) (k .value .1) at to (p .value .0) (n .value .0) (k .value .0)
+        (p .first) (n .first) (k .first))
         st
 
-    entries-next : (k at x to : ℕ) (fs : List Answer) (g : Values) (ds : List Answer) (r : Values) → readOne at ≡ done (fs, g, ds, x)
+    entries-next : (k at x to : ℕ) (fs : List Answer) (g : Values) (ds : List Answer) (r : Values)
+        → readOne at ≡ done (fs, g, ds, x)
         → readEntries k readOne x ≡ done (r, to) → readEntries (suc k) readOne at ≡ done (entry fs g ds r, to)
     unfolding readEntries _>>=_
     entries-next k at x to fs g ds r e q = rw (e, q) refl
@@ -304,19 +333,24 @@ module _ (l pool m : List ℕ) (v : ℕ) (small : Numbers64 l) where
           same = four-same (w .sameFields) (w .sameGroups) (w .sameDatas) (z .same);
         }
 
-    entries-back : (k i at to : ℕ) (r : Values × ℕ) → judgeEntries l (length pool) k (judgeBlock l (length pool) s f′) i ≡ done r
+    entries-back : (k i at to : ℕ) (r : Values × ℕ)
+        → judgeEntries l (length pool) k (judgeBlock l (length pool) s f′) i ≡ done r
         → Stands m at (rowOctets pool s gs (r .0)) to → RowBack (r .0) to (readEntries k readOne at)
     unfolding judgeEntries
     entries-back zero i at to r e st =
-        subst (λ (x : Values × ℕ). Stands m at (rowOctets pool s gs (x .0)) to → RowBack (x .0) to (readEntries 0 readOne at)) (done-inj e)
+        subst (λ (x : Values × ℕ). Stands m at (rowOctets pool s gs (x .0)) to
+        → RowBack (x .0) to (readEntries 0 readOne at)) (done-inj e)
         (nothing-back s gs (readEntries 0 readOne) at to (entries-stop at)) st
     entries-back (suc k) i at to r e st =
         let p = inv-bind _ _ _ e in
         let n = inv-bind _ _ _ (p .next) in
-        subst (λ (x : Values × ℕ). Stands m at (rowOctets pool s gs (x .0)) to → RowBack (x .0) to (readEntries (suc k) readOne at)) (done-inj (n .next))
-        (entries-forth k i at to (p .value) (n .value) (p .first) (λ x o. entries-back k (p .value .3) x to (n .value) (n .first) o)) st
+        subst (λ (x : Values × ℕ). Stands m at (rowOctets pool s gs (x .0)) to
+        → RowBack (x .0) to (readEntries (suc k) readOne at)) (done-inj (n .next))
+        (entries-forth k i at to (p .value) (n .value) (p .first)
+        (λ x o. entries-back k (p .value .3) x to (n .value) (n .first) o)) st
 
-  dimension-reads : (least n k at : ℕ) → AreAt m at (n ∷ k ∷ []) → at + dimensionSize ≤ length m → n < null16 → k < null16 → least ≤ n
+  dimension-reads : (least n k at : ℕ) → AreAt m at (n ∷ k ∷ []) → at + dimensionSize ≤ length m → n < null16
+      → k < null16 → least ≤ n
       → readDimension m least at ≡ done (n, k)
   unfolding readDimension must _>>=_ _and_ AreAt
   dimension-reads least n k at a c d e f =
@@ -333,8 +367,10 @@ module _ (l pool m : List ℕ) (v : ℕ) (small : Numbers64 l) where
   three-same : {a a′ : List ℕ} {b b′ c c′ : List (List ℕ)} → a ≡ a′ → b ≡ b′ → c ≡ c′ → a ∷ (b ++ c) ≡ a′ ∷ (b′ ++ c′)
   three-same p q r = rw (p, q, r) refl
 
-  groups-forth : (i since : ℕ) (s : Shape) (inner rest : Groups) (s₀ : Shape) (k at to : ℕ) (es r : Values) → since ≤ v → GoodShape v s → k < null16
-      → ((x y : ℕ) → Stands m x (rowOctets pool s inner es) y → RowBack es y (readEntries k (readBlock m v s (readGroups m v inner 0) 0 (s .length)) x))
+  groups-forth : (i since : ℕ) (s : Shape) (inner rest : Groups) (s₀ : Shape) (k at to : ℕ) (es r : Values) → since ≤ v
+      → GoodShape v s → k < null16
+      → ((x y : ℕ) → Stands m x (rowOctets pool s inner es) y
+      → RowBack es y (readEntries k (readBlock m v s (readGroups m v inner 0) 0 (s .length)) x))
       → ((x y : ℕ) → Stands m x (rowOctets pool s₀ rest r) y → RowBack r y (readGroups m v rest 0 x))
       → Stands m at (rowOctets pool s₀ (more i since s inner rest) (group (Group k) es r)) to
       → RowBack (group (Group k) es r) to (readGroups m v (more i since s inner rest) 0 at)
@@ -346,21 +382,25 @@ module _ (l pool m : List ℕ) (v : ℕ) (small : Numbers64 l) where
       let mid = at + dimensionSize in
       let o₁ = split-to (numbers16 d) (xs ++ ys) mid (omega (arith, length-numbers d)) st in
       let o₂ = split-to xs ys (mid + length xs) refl (o₁ .1) in
-      let reads = dimension-reads (need v s) (s .length) k at (numbers-are d (good .short, (few, tt)) (o₁ .0)) (o₁ .0 .fits) (good .short) few
-          (need-within v (s .length) 0 0 (s .fields) (good .fields) (omega arith)) in
+      let reads = dimension-reads (need v s) (s .length) k at (numbers-are d (good .short, (few, tt)) (o₁ .0))
+      (o₁ .0 .fits) (good .short) few
+      (need-within v (s .length) 0 0 (s .fields) (good .fields) (omega arith)) in
       let w = entries mid (mid + length xs) (o₂ .0) in
       let z = after (mid + length xs) to (o₂ .1) in
       record {
         values = group (Group k) (w .values) (z .values);
-        reads = groups-next i since s inner rest at (mid + length xs) to (s .length) k (w .values) (z .values) h reads (w .reads) (z .reads);
+        reads = groups-next i since s inner rest at (mid + length xs) to (s .length) k (w .values) (z .values) h reads
+            (w .reads) (z .reads);
         same = three-same refl (w .same) (z .same);
       }
 
-  pub groups-back : (gs : Groups) (s₀ : Shape) (i at to : ℕ) (r : Values × ℕ) → GoodGroups v gs → judgeGroups l (length pool) gs i ≡ done r
+  pub groups-back : (gs : Groups) (s₀ : Shape) (i at to : ℕ) (r : Values × ℕ) → GoodGroups v gs
+      → judgeGroups l (length pool) gs i ≡ done r
       → Stands m at (rowOctets pool s₀ gs (r .0)) to → RowBack (r .0) to (readGroups m v gs 0 at)
   unfolding judgeGroups GoodGroups
   groups-back none s₀ i at to r good e st =
-      subst (λ (x : Values × ℕ). Stands m at (rowOctets pool s₀ none (x .0)) to → RowBack (x .0) to (readGroups m v none 0 at)) (done-inj e)
+      subst (λ (x : Values × ℕ). Stands m at (rowOctets pool s₀ none (x .0)) to
+      → RowBack (x .0) to (readGroups m v none 0 at)) (done-inj e)
       (nothing-back s₀ none (readGroups m v none 0) at to (no-groups m v at)) st
   groups-back (more id since s inner rest) s₀ i at to r good e st =
       let n = inv-bind _ _ _ (inv-bind _ _ _ e .next) in
@@ -368,8 +408,10 @@ module _ (l pool m : List ℕ) (v : ℕ) (small : Numbers64 l) where
       let q = inv-bind _ _ _ (p .next) in
       let k = second l i in
       let gs = more id since s inner rest in
-      subst (λ (x : Values × ℕ). Stands m at (rowOctets pool s₀ gs (x .0)) to → RowBack (x .0) to (readGroups m v gs 0 at)) (done-inj (q .next))
-      (groups-forth id since s inner rest s₀ k at to (p .value .0) (q .value .0) (good .0) (good .1) (ltb-true k null16 (inv-must _ _ _ _ (n .first)))
+      subst (λ (x : Values × ℕ). Stands m at (rowOctets pool s₀ gs (x .0)) to
+      → RowBack (x .0) to (readGroups m v gs 0 at)) (done-inj (q .next))
+      (groups-forth id since s inner rest s₀ k at to (p .value .0) (q .value .0) (good .0) (good .1)
+      (ltb-true k null16 (inv-must _ _ _ _ (n .first)))
       (λ x y o. entries-back s inner (good .1) (judgeGroups l (length pool) inner) (readGroups m v inner 0)
       (λ i′ at′ to′ r′ e′ o′. groups-back inner s i′ at′ to′ r′ (good .2) e′ o′) k (suc i) x y (p .value) (p .first) o)
       (λ x y o. groups-back rest s₀ (p .value .1) x y (q .value) (good .3) (q .first) o)) st

@@ -1,5 +1,5 @@
--- The second round trip, from octets to octets: a message that could have been written with the book, listed and written
--- back with itself as pool, is itself.
+-- The second round trip, from octets to octets: a message that could have been written with the book, listed and
+-- written back with itself as pool, is itself.
 use mathlib.Core.Path.{_∙_, _≡_, ap, refl, subst, sym}
 use mathlib.Core.Bool.{true}
 use mathlib.Core.List.{List}
@@ -16,13 +16,12 @@ use Rattle.layout.specs.BookRules.{bookOf}
 use Rattle.layout.specs.Values.{Values, entry, listing, nil}
 use Rattle.layout.specs.Message.{Entry, blockLength, checkHeader, countGood, dataCount, groupCount, headerSize}
 use Rattle.layout.specs.Message.{readBlock, readGroups, readMessage, readRoot, schemaId, templateId, versionOf}
-use Rattle.layout.specs.Writing.{judgeListing, messageOctets, rowOctets, writeOf}
+use Rattle.layout.specs.Writing.{headerOf, judgeListing, messageOctets, rowOctets, writeOf}
 use Rattle.layout.specs.Demands.{AsWritten, OwnBlocks, ValuesInRange}
 use Rattle.demands.proofs.Judged.{listing-judged}
 use Rattle.demands.proofs.Needs.{need-within}
 use Rattle.demands.proofs.Present.{UpTo, Writable, present-up, writable}
 use Rattle.demands.proofs.Reprinted.{block-stands, entryPrinted, groups-stand}
-use Rattle.demands.proofs.Written.{headerOf}
 use Rattle.layout.proofs.Accepted.{accepted}
 use Rattle.layout.proofs.Results.{and-left, and-right, bind-done, done-inj, inv-bind, inv-must}
 use Rattle.layout.proofs.Stands.{AreAt, Stands, join, nothing-stands, numbers-stand, stands-all}
@@ -33,7 +32,8 @@ record RootRead (b : Book) (t : Template) (m : List ℕ) (r : Values) : Type 0 w
   root : Entry
   groups-is : groupCount m ≡ length (groupSinces (t .groups))
   datas-is : dataCount m ≡ length (t .shape .datas)
-  reads : readBlock m (b .version) (t .shape) (readGroups m (b .version) (t .groups) 0) 0 (t .shape .length) headerSize ≡ done root
+  reads : readBlock m (b .version) (t .shape) (readGroups m (b .version) (t .groups) 0) 0 (t .shape .length) headerSize
+      ≡ done root
   ends : root .3 ≡ length m
   is : entry (root .0) (root .1) (root .2) nil ≡ r
 
@@ -41,7 +41,8 @@ count-is : (v : ℕ) (ss : List ℕ) (n : ℕ) → UpTo v ss → countGood v v s
 unfolding countGood if_then_else_
 count-is v ss n u e = eqb-true n (present v ss) (rw (le-leb v v (le-refl v)) at e)
 
-root-read : (b : Book) (t : Template) (m : List ℕ) (r : Values) → Writable b t → versionOf m ≡ b .version → blockLength m ≡ t .shape .length
+root-read : (b : Book) (t : Template) (m : List ℕ) (r : Values) → Writable b t → versionOf m ≡ b .version
+    → blockLength m ≡ t .shape .length
     → readRoot (b .version) t m ≡ done r → RootRead b t m r
 unfolding readRoot
 root-read b t m r w ve le e =
@@ -61,7 +62,8 @@ root-read b t m r w ve le e =
       groups-is = g ∙ present-up v gs (w .groupsIn);
       datas-is = d ∙ present-up v ds (w .shape .datasIn) ∙ length-map (t .shape .datas) (λ (x : Data). x .since);
       reads = ap (λ (x : ℕ). readBlock m v (t .shape) (readGroups m v (t .groups) x) 0 (t .shape .length) headerSize) zg
-          ∙ ap (λ (x : ℕ). readBlock m v (t .shape) (readGroups m v (t .groups) (groupCount m - present v gs)) x (t .shape .length) headerSize) zd
+          ∙ ap (λ (x : ℕ). readBlock m v (t .shape) (readGroups m v (t .groups) (groupCount m - present v gs)) x
+          (t .shape .length) headerSize) zd
           ∙ p₄ .first;
       ends = eqb-true (p₄ .value .3) (length m) (inv-must _ _ _ _ (p₅ .first));
       is = done-inj (p₅ .next);
@@ -70,22 +72,27 @@ root-read b t m r w ve le e =
 -- ---- the tree is printed as the message, and the listing judged to be the tree
 
 module _ (b : Book) (t : Template) (m : List ℕ) (octets : AllOctets m) (w : Writable b t) where
-  root-stands : (x : Entry) → let r = entry (x .0) (x .1) (x .2) nil in x .3 ≡ length m → OwnBlocks m (t .shape) (t .groups) headerSize r → ValuesInRange r
-      → readBlock m (b .version) (t .shape) (readGroups m (b .version) (t .groups) 0) 0 (t .shape .length) headerSize ≡ done x
+  root-stands : (x : Entry) → let r = entry (x .0) (x .1) (x .2) nil in x .3 ≡ length m
+      → OwnBlocks m (t .shape) (t .groups) headerSize r → ValuesInRange r
+      → readBlock m (b .version) (t .shape) (readGroups m (b .version) (t .groups) 0) 0 (t .shape .length) headerSize
+      ≡ done x
       → Stands m headerSize (rowOctets m (t .shape) (t .groups) r) (length m)
   unfolding OwnBlocks ValuesInRange rowOctets
   root-stands x e own ranges q =
       let v = b .version in
       let s = block-stands m v octets (t .shape) (t .groups) (readGroups m v (t .groups) 0) headerSize x (w .shape)
-          (groups-stand m v octets (t .groups) (t .shape) (w .groups)) (own .0) (own .1) (ranges .0) (ranges .1) q .0 in
-      join _ _ (subst (λ (y : ℕ). Stands m headerSize (entryPrinted m v octets (t .shape) (t .groups) x) y) e s) (nothing-stands m (length m) (le-refl (length m)))
+      (groups-stand m v octets (t .groups) (t .shape) (w .groups)) (own .0) (own .1) (ranges .0) (ranges .1) q .0 in
+      join _ _ (subst (λ (y : ℕ). Stands m headerSize (entryPrinted m v octets (t .shape) (t .groups) x) y) e s)
+      (nothing-stands m (length m) (le-refl (length m)))
 
-  printed : (r : Values) → headerSize ≤ length m → schemaId m ≡ b .schema → templateId m ≡ t .id → AsWritten b t m r → RootRead b t m r
+  printed : (r : Values) → headerSize ≤ length m → schemaId m ≡ b .schema → templateId m ≡ t .id → AsWritten b t m r
+      → RootRead b t m r
       → messageOctets b t m r ≡ m
   unfolding messageOctets AreAt
   printed r h schema id a k =
-      let root = subst (λ (x : Values). OwnBlocks m (t .shape) (t .groups) headerSize x → ValuesInRange x → Stands m headerSize (rowOctets m (t .shape) (t .groups) x) (length m)) (k .is)
-          (λ own ranges. root-stands (k .root) (k .ends) own ranges (k .reads)) (a .blocks) (a .ranges) in
+      let root = subst (λ (x : Values). OwnBlocks m (t .shape) (t .groups) headerSize x → ValuesInRange x
+      → Stands m headerSize (rowOctets m (t .shape) (t .groups) x) (length m)) (k .is)
+      (λ own ranges. root-stands (k .root) (k .ends) own ranges (k .reads)) (a .blocks) (a .ranges) in
       stands-all (join _ _ (numbers-stand m octets 0 headerSize (headerOf b t) (omega arith) h
       (a .length, (id, (schema, (a .version, (k .groups-is, (k .datas-is, tt))))))) root)
 
@@ -93,7 +100,8 @@ module _ (b : Book) (t : Template) (m : List ℕ) (octets : AllOctets m) (w : Wr
   judged r ranges k =
       subst (λ (x : Values). ValuesInRange x → judgeListing (listing x) (length m) t ≡ done x) (k .is)
       (λ i. listing-judged _ m (b .version) t (t .shape .length) headerSize (k .root) (w .shape) (w .groups)
-      (need-within (b .version) (t .shape .length) 0 0 (t .shape .fields) (w .shape .fields) (omega arith)) i (k .reads) refl) ranges
+      (need-within (b .version) (t .shape .length) 0 0 (t .shape .fields) (w .shape .fields) (omega arith)) i
+      (k .reads) refl) ranges
 
 -- ---- from the octets
 
@@ -114,15 +122,21 @@ header-read schema m u e =
       same = eqb-true (schemaId m) schema (inv-must _ _ _ u (inv-bind _ _ _ (p .next) .next));
     }
 
-message-read : (b : Book) (t : Template) (m : List ℕ) (r : Values) → findTemplate (templateId m) (b .templates) ≡ some t → readMessage b m ≡ done r
+message-read : (b : Book) (t : Template) (m : List ℕ) (r : Values) → findTemplate (templateId m) (b .templates) ≡ some t
+    → readMessage b m ≡ done r
     → HeaderRead (b .schema) m × (readRoot (b .version) t m ≡ done r)
 unfolding readMessage orRefuse
 message-read b t m r h q =
-    let p = inv-bind _ _ _ q in
-    (header-read (b .schema) m (p .value) (p .first), sym (bind-done t (λ x. readRoot (b .version) x m)) ∙ rw h at (p .next))
+    let p = inv-bind _ _ _ q in (
+      header-read (b .schema) m (p .value) (p .first),
+      sym (bind-done t (λ x. readRoot (b .version) x m))
+          ∙ rw h at (p .next),
+    )
 
-pub written-back : (book m : List ℕ) (room : ℕ) (b : Book) (t : Template) (r : Values) → AllOctets m → bookOf book ≡ done b
-    → findTemplate (templateId m) (b .templates) ≡ some t → readMessage b m ≡ done r → AsWritten b t m r → length m ≤ room
+pub written-back : (book m : List ℕ) (room : ℕ) (b : Book) (t : Template) (r : Values) → AllOctets m
+    → bookOf book ≡ done b
+    → findTemplate (templateId m) (b .templates) ≡ some t → readMessage b m ≡ done r → AsWritten b t m r
+    → length m ≤ room
     → writeOf book (templateId m) (listing r) m room ≡ done m
 unfolding writeOf must _>>=_ orRefuse _and_
 written-back book m room b t r octets e h q a fits =
@@ -131,4 +145,12 @@ written-back book m room b t r octets e h q a fits =
     let k = message-read b t m r h q in
     let root = root-read b t m r w (a .version) (a .length) (k .1) in
     let is = printed b t m octets w r (k .0 .long) (k .0 .same) (sym (c .0)) a root in
-    rw (e, h, judged b t m octets w r (a .ranges) root, is, le-leb (length m) room fits, le-leb (length m) 65535 (k .0 .short)) refl
+    rw (
+      e,
+      h,
+      judged b t m octets w r (a .ranges) root,
+      is,
+      le-leb (length m) room fits,
+      le-leb (length m) 65535
+          (k .0 .short),
+    ) refl

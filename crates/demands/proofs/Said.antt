@@ -1,4 +1,5 @@
--- What a record that was judged good says: its kind, and what it was judged to be. l is the listing, n the pool's length.
+-- What a record that was judged good says: its kind, and what it was judged to be. l is the listing, n the pool's
+-- length.
 use mathlib.Core.Path.{_≡_}
 use mathlib.Core.Bool.{Bool, false, true}
 use mathlib.Core.List.{List}
@@ -21,7 +22,8 @@ module _ (l : List ℕ) (n : ℕ) where
     pub within : second l i + third l i ≤ n
     pub is : Octets (second l i) (third l i) ≡ a
 
-  pub octets-said : (fits : Bool) (i : ℕ) (a : Answer) → judgeOctets l n fits i ≡ done a → OctetsSaid i a × (fits ≡ true)
+  pub octets-said : (fits : Bool) (i : ℕ) (a : Answer) → judgeOctets l n fits i ≡ done a → OctetsSaid i a
+      × (fits ≡ true)
   unfolding judgeOctets
   octets-said fits i a e =
       let p = inv-bind _ _ _ e in
@@ -53,7 +55,8 @@ module _ (l : List ℕ) (n : ℕ) where
     pub fits : numberFits l f i ≡ true
     pub is : (if eqb (first l i) 1 then Null else Number (second l i)) ≡ a
 
-  pub number-said : (f : Field) (i : ℕ) (a : Answer) → isArray f ≡ false → judgeField l n f i ≡ done a → NumberSaid f i a
+  pub number-said : (f : Field) (i : ℕ) (a : Answer) → isArray f ≡ false → judgeField l n f i ≡ done a
+      → NumberSaid f i a
   unfolding judgeNumber if_then_else_
   number-said f i a y e =
       let p = inv-bind _ _ _ (rw y at e) in

@@ -1,6 +1,6 @@
--- The theorems, over the definitions of document 01 in crates/layout/specs. Octets, words and numbers are natural numbers;
--- a book, a message and a pool are lists of octets, a listing is a list of numbers. An operation comes to `done` with its
--- result or `refused` with number and place.
+-- The theorems, over the definitions of document 01 in crates/layout/specs. Octets, words and numbers are natural
+-- numbers; a book, a message and a pool are lists of octets, a listing is a list of numbers. An operation comes to
+-- `done` with its result or `refused` with number and place.
 use mathlib.Core.Path.{_∙_, _≡_, refl, sym}
 use mathlib.Core.Bool.{true}
 use mathlib.Core.List.{List}
@@ -32,7 +32,8 @@ refused-leaves : (before : List ℕ) (x : Result (List ℕ)) (n p : ℕ) → x �
 unfolding roomAfter
 refused-leaves before x n p e = rw e refl
 
-pub refused-listing-alters-nothing : (book m before after : List ℕ) (r : Counted) (n p : ℕ) → Lists book m before r after
+pub refused-listing-alters-nothing : (book m before after : List ℕ) (r : Counted) (n p : ℕ)
+    → Lists book m before r after
     → listOf book m (length before) ≡ refused n p → after ≡ before
 refused-listing-alters-nothing book m before after r n p c e = c .room ∙ refused-leaves before _ n p e
 
@@ -46,12 +47,13 @@ listing-has-one-outcome book m before after after′ r r′ c c′ = (c .answer 
 
 pub writing-has-one-outcome : (book : List ℕ) (id : ℕ) (l pool before after after′ : List ℕ) (r r′ : Counted)
     → Writes book id l pool before r after → Writes book id l pool before r′ after′ → (r ≡ r′) × (after ≡ after′)
-writing-has-one-outcome book id l pool before after after′ r r′ c c′ = (c .answer ∙ sym (c′ .answer), c .room ∙ sym (c′ .room))
+writing-has-one-outcome book id l pool before after after′ r r′ c c′ =
+    (c .answer ∙ sym (c′ .answer), c .room ∙ sym (c′ .room))
 
 -- ---- demand 2
 
--- "What is written reads back with the same values": the message is accepted, its listing fits where the listing that it
--- was written from stood, and record by record the two say the same, "octets, not starts" compared.
+-- "What is written reads back with the same values": the message is accepted, its listing fits where the listing that
+-- it was written from stood, and record by record the two say the same, "octets, not starts" compared.
 pub written-reads-back : (book : List ℕ) (id : ℕ) (l pool : List ℕ) (room : ℕ) (m : List ℕ) → Numbers64 l
     → writeOf book id l pool room ≡ done m
     → (read : List ℕ) × (listOf book m (length l) ≡ done read) × (contents m read ≡ contents pool l)
@@ -61,14 +63,17 @@ written-reads-back book id l pool room m small e =
 
 -- "what is read writes back to the same octets if it carries the book's own version and block lengths, has zero padding
 -- and no value out of range": `AsWritten`. "writing back has the message as pool and room for it"
-pub read-writes-back : (book m : List ℕ) (room : ℕ) (b : Book) (t : Template) (r : Values) → AllOctets m → bookOf book ≡ done b
-    → findTemplate (templateId m) (b .templates) ≡ some t → readMessage b m ≡ done r → AsWritten b t m r → length m ≤ room
+pub read-writes-back : (book m : List ℕ) (room : ℕ) (b : Book) (t : Template) (r : Values) → AllOctets m
+    → bookOf book ≡ done b
+    → findTemplate (templateId m) (b .templates) ≡ some t → readMessage b m ≡ done r → AsWritten b t m r
+    → length m ≤ room
     → writeOf book (templateId m) (listing r) m room ≡ done m
 read-writes-back = written-back
 
--- "Its length is 12 plus the declared root block, 4 per group record, the declared block per entry, and 2 plus its length
--- per data": of the message for a listing that was judged to be r.
-pub written-length : (book : List ℕ) (id : ℕ) (l pool : List ℕ) (b : Book) (t : Template) (r : Values) → bookOf book ≡ done b
+-- "Its length is 12 plus the declared root block, 4 per group record, the declared block per entry, and 2 plus its
+-- length per data": of the message for a listing that was judged to be r.
+pub written-length : (book : List ℕ) (id : ℕ) (l pool : List ℕ) (b : Book) (t : Template) (r : Values)
+    → bookOf book ≡ done b
     → findTemplate id (b .templates) ≡ some t → judgeListing l (length pool) t ≡ done r
     → length (messageOctets b t pool r) ≡ writtenLength t r
 written-length book id l pool b t r e h j = written-long l pool b t r (accepted book b id t e h .1 .layout) j
@@ -76,13 +81,15 @@ written-length book id l pool b t r e h j = written-long l pool b t r (accepted 
 -- ---- demand 3: "For accepted books, the newer a legal extension of the older, and any message whose template is in both"
 
 module _ (older newer : List ℕ) (old new : Book) (isOlder : bookOf older ≡ done old) (isNewer : bookOf newer ≡ done new)
-    (extends : Extends old new) (m : List ℕ) (t : Template) (inBoth : findTemplate (templateId m) (old .templates) ≡ some t) where
+    (extends : Extends old new) (m : List ℕ) (t : Template)
+    (inBoth : findTemplate (templateId m) (old .templates) ≡ some t) where
   -- "if the newer accepts it, so does the older"
   pub older-accepts : checkOf newer m ≡ done tt → checkOf older m ≡ done tt
   older-accepts = accepts-too older newer old new isOlder isNewer extends m t inBoth
 
   -- "with the same answer for every element that the older has"
-  pub older-answers : checkOf newer m ≡ done tt → (p : List Step) (x : Element) → hasPlace p x (t .shape) (t .groups) ≡ true
+  pub older-answers : checkOf newer m ≡ done tt → (p : List Step) (x : Element)
+      → hasPlace p x (t .shape) (t .groups) ≡ true
       → placeOf older m p x ≡ placeOf newer m p x
   older-answers = same-answer older newer old new isOlder isNewer extends m t inBoth
 

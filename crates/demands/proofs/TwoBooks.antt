@@ -30,7 +30,8 @@ use Rattle.layout.specs.declared.Element as Element
 
 -- ---- the header's counts: so and sn are the groupSinces of the older and of the newer
 
-module _ (vo vn v : ℕ) (so sn : List ℕ) (newer : vo < vn) (all : rising vo 0 so ≡ true) (least : present v so ≤ present v sn)
+module _ (vo vn v : ℕ) (so sn : List ℕ) (newer : vo < vn) (all : rising vo 0 so ≡ true)
+    (least : present v so ≤ present v sn)
     (same : v ≤ vo → present v so ≡ present v sn) where
   -- The count that the newer book allows covers what it knows.
   count-covers : (n : ℕ) → countGood vn v sn n ≡ true → present v sn ≤ n
@@ -57,13 +58,16 @@ module _ (vo vn v : ℕ) (so sn : List ℕ) (newer : vo < vn) (all : rising vo 0
   unfolding countGood if_then_else_
   count-same n h = rw (le-leb v vo h, le-leb v vn (omega arith), same h) refl
 
-  sees-count : (strict : Bool) (n p : ℕ) → (strict ≡ true → v ≤ vo) → Sees strict (λ (u : Unit {0}). u) (must (countGood vo v so n) 15 p) (must (countGood vn v sn n) 15 p)
+  sees-count : (strict : Bool) (n p : ℕ) → (strict ≡ true → v ≤ vo)
+      → Sees strict (λ (u : Unit {0}). u) (must (countGood vo v so n) 15 p) (must (countGood vn v sn n) 15 p)
   sees-count strict n p h = sees-must strict _ _ 15 p (count-older n) (λ s. count-same n (h s))
 
 -- ---- the root
 
-present-datas : (v limit : ℕ) (old new : List Data) (a : AddsDatas limit old new) → present v (dataSinces new) ≡ present v (dataSinces old) + present v (dataSinces (a .added))
-present-datas v limit old new a = rw (a .first, map-append old (a .added)) (present-append v (dataSinces old) (dataSinces (a .added)))
+present-datas : (v limit : ℕ) (old new : List Data) (a : AddsDatas limit old new)
+    → present v (dataSinces new) ≡ present v (dataSinces old) + present v (dataSinces (a .added))
+present-datas v limit old new a = rw (a .first, map-append old (a .added))
+    (present-append v (dataSinces old) (dataSinces (a .added)))
   where
     map-append : (xs ys : List Data) → dataSinces (xs ++ ys) ≡ dataSinces xs ++ dataSinces ys
     map-append [] ys = refl
@@ -83,54 +87,79 @@ module _ (vo vn : ℕ) (old : Template) (news : List Template) (m : List ℕ) (s
       let d = present-datas v vo (old .shape .datas) (new .shape .datas) datas in
       let sinceDatas = and-left _ _ (and-right _ _ since) in
       let sinceGroups = and-left _ _ (and-right _ _ (and-right _ _ since)) in
-      let dl : present v (dataSinces (old .shape .datas)) ≤ present v (dataSinces (new .shape .datas)) = omega (arith, d) in
-      let de : v ≤ vo → present v (dataSinces (old .shape .datas)) ≡ present v (dataSinces (new .shape .datas)) = λ h. omega (arith, d, present-absent v vo (dataSinces (datas .added)) (datas .young) h) in
+      let dl : present v (dataSinces (old .shape .datas)) ≤ present v (dataSinces (new .shape .datas)) =
+      omega (arith, d) in
+      let de : v ≤ vo → present v (dataSinces (old .shape .datas)) ≡ present v (dataSinces (new .shape .datas)) =
+      λ h. omega (arith, d, present-absent v vo (dataSinces (datas .added)) (datas .young) h) in
       sees-bind strict (λ (u : Unit {0}). u) _ _ _ _ _
-      (sees-leb strict _ _ _ 14 0 (need-adds strict v vo (new .shape .length) (old .shape .fields) (new .shape .fields) fields (and-right _ _ (and-left _ _ layout)) early)) λ _.
+      (sees-leb strict _ _ _ 14 0 (need-adds strict v vo (new .shape .length) (old .shape .fields)
+      (new .shape .fields) fields (and-right _ _ (and-left _ _ layout)) early)) λ _.
       sees-then strict (λ (u : Unit {0}). u) _ _ _ _ _
-      (sees-count vo vn v (groupSinces (old .groups)) (groupSinces (new .groups)) newer sinceGroups (g .0) (g .1) strict (number16 m 8) 8 early) λ _ cg.
+      (sees-count vo vn v (groupSinces (old .groups)) (groupSinces (new .groups)) newer sinceGroups (g .0) (g .1) strict
+      (number16 m 8) 8 early) λ _ cg.
       sees-then strict (λ (u : Unit {0}). u) _ _ _ _ _
-      (sees-count vo vn v (dataSinces (old .shape .datas)) (dataSinces (new .shape .datas)) newer sinceDatas dl de strict (number16 m 10) 10 early) λ _ cd.
+      (sees-count vo vn v (dataSinces (old .shape .datas))
+      (dataSinces (new .shape .datas)) newer sinceDatas dl de strict (number16 m 10) 10 early) λ _ cd.
       sees-bind strict (keptBlock (old .shape) (old .groups)) _ _ _ _ _
       (sees-block m v strict vo (old .shape) (new .shape) (old .groups) _ _ _ _ (blockLength m) 12 fields datas
-      (omega (arith, d, count-covers vo vn v (dataSinces (old .shape .datas)) (dataSinces (new .shape .datas)) newer sinceDatas dl de (number16 m 10) (inv-must _ _ _ _ cd))) λ y.
-      sees-groups m v strict vo true (old .groups) (new .groups) (old .shape) _ _ y (x .groups) (and-right _ _ layout) early
-      (omega (arith, g .0, count-covers vo vn v (groupSinces (old .groups)) (groupSinces (new .groups)) newer sinceGroups (g .0) (g .1) (number16 m 8) (inv-must _ _ _ _ cg)))) λ b.
+      (omega (
+        arith,
+        d,
+        count-covers vo vn v (dataSinces (old .shape .datas))
+            (dataSinces (new .shape .datas)) newer sinceDatas dl de (number16 m 10) (inv-must _ _ _ _ cd),
+      )) λ y.
+      sees-groups m v strict vo true (old .groups) (new .groups) (old .shape) _ _ y (x .groups)
+      (and-right _ _ layout) early
+      (omega (
+        arith,
+        g .0,
+        count-covers vo vn v (groupSinces (old .groups))
+            (groupSinces (new .groups)) newer sinceGroups (g .0) (g .1) (number16 m 8) (inv-must _ _ _ _ cg),
+      ))) λ b.
       sees-bind strict (λ (u : Unit {0}). u) _ _ _ _ _ (sees-same strict _) λ _.
       sees-done strict _ (entry (b .0) (b .1) (b .2) nil) _ refl
 
 -- ---- every place that the older book has, the newer has
 
 module _ (limit : ℕ) where
-  groups-longer : (root : Bool) (old new : Groups) → ExtendsGroups limit root old new → length (groupSinces old) ≤ length (groupSinces new)
+  groups-longer : (root : Bool) (old new : Groups) → ExtendsGroups limit root old new
+      → length (groupSinces old) ≤ length (groupSinces new)
   unfolding ExtendsGroups groupSinces
   groups-longer root none new x = omega arith
   groups-longer root (more i since s inner rest) none x = absurd x
-  groups-longer root (more i since s inner rest) (more i′ since′ s′ inner′ rest′) x = omega (arith, groups-longer root rest rest′ (x .rest))
+  groups-longer root (more i since s inner rest) (more i′ since′ s′ inner′ rest′) x =
+      omega (arith, groups-longer root rest rest′ (x .rest))
 
-  has-element : (root : Bool) (x : Element) (s s′ : Shape) (gs gs′ : Groups) → ExtendsShape limit root s s′ → ExtendsGroups limit root gs gs′
+  has-element : (root : Bool) (x : Element) (s s′ : Shape) (gs gs′ : Groups) → ExtendsShape limit root s s′
+      → ExtendsGroups limit root gs gs′
       → hasElement x s gs ≡ true → hasElement x s′ gs′ ≡ true
   unfolding hasElement
   has-element root (Element.the-variants.Field k) s s′ gs gs′ a b h =
       rw (a .fields .first, length-append (s .fields) (a .fields .added)) (lt-ltb k _ (omega (arith, ltb-true k _ h)))
-  has-element root (Element.the-variants.Group k) s s′ gs gs′ a b h = lt-ltb k _ (omega (arith, ltb-true k _ h, groups-longer root gs gs′ b))
+  has-element root (Element.the-variants.Group k) s s′ gs gs′ a b h =
+      lt-ltb k _ (omega (arith, ltb-true k _ h, groups-longer root gs gs′ b))
   has-element root (Element.the-variants.Data k) s s′ gs gs′ a b h =
       rw (a .datas .first, length-append (s .datas) (a .datas .added)) (lt-ltb k _ (omega (arith, ltb-true k _ h)))
 
   has-group : (root : Bool) (gs gs′ : Groups) (g : ℕ) (k : Shape → Groups → Bool) → ExtendsGroups limit root gs gs′
-      → ((s s′ : Shape) (i i′ : Groups) → ExtendsShape limit false s s′ → ExtendsGroups limit false i i′ → k s i ≡ true → k s′ i′ ≡ true)
+      → ((s s′ : Shape) (i i′ : Groups) → ExtendsShape limit false s s′ → ExtendsGroups limit false i i′ → k s i ≡ true
+      → k s′ i′ ≡ true)
       → groupHas gs g k ≡ true → groupHas gs′ g k ≡ true
   unfolding groupHas ExtendsGroups
   has-group root none gs′ g k x ih h = absurd (false≢true h)
   has-group root (more i since s inner rest) none g k x ih h = absurd x
-  has-group root (more i since s inner rest) (more i′ since′ s′ inner′ rest′) zero k x ih h = ih s s′ inner inner′ (x .shape) (x .inner) h
-  has-group root (more i since s inner rest) (more i′ since′ s′ inner′ rest′) (suc g) k x ih h = has-group root rest rest′ g k (x .rest) ih h
+  has-group root (more i since s inner rest) (more i′ since′ s′ inner′ rest′) zero k x ih h =
+      ih s s′ inner inner′ (x .shape) (x .inner) h
+  has-group root (more i since s inner rest) (more i′ since′ s′ inner′ rest′) (suc g) k x ih h =
+      has-group root rest rest′ g k (x .rest) ih h
 
-  has-place : (p : List Step) (x : Element) (root : Bool) (s s′ : Shape) (gs gs′ : Groups) → ExtendsShape limit root s s′ → ExtendsGroups limit root gs gs′
+  has-place : (p : List Step) (x : Element) (root : Bool) (s s′ : Shape) (gs gs′ : Groups)
+      → ExtendsShape limit root s s′ → ExtendsGroups limit root gs gs′
       → hasPlace p x s gs ≡ true → hasPlace p x s′ gs′ ≡ true
   unfolding hasPlace
   has-place [] x root s s′ gs gs′ a b h = has-element root x s s′ gs gs′ a b h
-  has-place (q ∷ p) x root s s′ gs gs′ a b h = has-group root gs gs′ (q .group) (hasPlace p x) b (λ t t′ i i′ y z. has-place p x false t t′ i i′ y z) h
+  has-place (q ∷ p) x root s s′ gs gs′ a b h =
+      has-group root gs gs′ (q .group) (hasPlace p x) b (λ t t′ i i′ y z. has-place p x false t t′ i i′ y z) h
 
 -- ---- the message
 
@@ -183,8 +212,10 @@ module _ (o n : List ℕ) (old new : Book) (ao : bookOf o ≡ done old) (an : bo
   same-answer a p y h =
       let s = stands .1 in
       let r = newer-reads a in
-      let has = has-place (old .version) p y true (t .shape) (newer .shape) (t .groups) (newer .groups) (s .shape) (s .groups) h in
-      rw (ao, an, older-reads (r .0) (r .1), r .1, e, there, h, has, kept-answer p y (t .shape) (t .groups) (r .0) h) refl
+      let has = has-place (old .version) p y true (t .shape) (newer .shape) (t .groups) (newer .groups) (s .shape)
+      (s .groups) h in
+      rw (ao, an, older-reads (r .0) (r .1), r .1, e, there, h, has, kept-answer p y (t .shape) (t .groups) (r .0) h)
+      refl
 
   pub same-verdict : versionOf m ≤ old .version → checkOf o m ≡ checkOf n m
   unfolding checkOf

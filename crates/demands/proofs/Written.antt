@@ -16,9 +16,8 @@ use Rattle.layout.specs.Values.{Values, entry, listing, measure, nil}
 use Rattle.layout.specs.Message.{Entry, checkHeader, countGood, headerSize, headerWhole, readBlock, readGroups}
 use Rattle.layout.specs.Message.{readMessage, readRoot, schemaId}
 use Rattle.layout.specs.Reading.{listOf}
-use Rattle.layout.specs.Writing.{judgeBlock, judgeGroups, judgeListing, messageOctets, numbers16, rowOctets, writeOf}
-use Rattle.layout.specs.Writing.{writtenLength}
-use Rattle.layout.specs.Contracts.{found}
+use Rattle.layout.specs.Writing.{headerOf, judgeBlock, judgeGroups, judgeListing, messageOctets, numbers16, rowOctets}
+use Rattle.layout.specs.Writing.{writeOf, writtenLength}
 use Rattle.layout.specs.Demands.{contents}
 use Rattle.demands.proofs.Contents.{contents-measure, listing-says, treeContents}
 use Rattle.demands.proofs.Lengths.{written-long}
@@ -34,38 +33,49 @@ use Rattle.layout.specs.declared.Answer.{Answer}
 
 -- ---- the header
 
-header-whole : (m : List ℕ) (at : ℕ) (xs : List ℕ) → AreAt m at xs → AllWhole xs → headerWhole m (length xs) at ≡ done tt
+header-whole : (m : List ℕ) (at : ℕ) (xs : List ℕ) → AreAt m at xs → AllWhole xs
+    → headerWhole m (length xs) at ≡ done tt
 unfolding headerWhole AreAt Each must _>>=_
 header-whole m at [] a h = refl
 header-whole m at (x ∷ xs) a h = rw (a .0, lt-ltb x null16 (h .0)) (header-whole m (at + 2) xs (a .1) (h .1))
 
-abbrev pub headerOf : Book → Template → List ℕ
-headerOf b t = t .shape .length ∷ t .id ∷ b .schema ∷ b .version ∷ length (groupSinces (t .groups)) ∷ length (t .shape .datas) ∷ []
-
-header-good : (b : Book) (t : Template) (m : List ℕ) → headerSize ≤ length m → length m ≤ 65535 → AreAt m 0 (headerOf b t)
+header-good : (b : Book) (t : Template) (m : List ℕ) → headerSize ≤ length m → length m ≤ 65535
+    → AreAt m 0 (headerOf b t)
     → AllWhole (headerOf b t) → checkHeader (b .schema) m ≡ done tt
 unfolding checkHeader must _>>=_ _and_
 header-good b t m long few a h =
-    rw (le-leb 12 (length m) long, le-leb (length m) 65535 few, header-whole m 0 (headerOf b t) a h, schema a, eq-eqb (b .schema) (b .schema) refl) refl
+    rw (
+      le-leb 12 (length m) long,
+      le-leb (length m) 65535 few,
+      header-whole m 0 (headerOf b t) a h,
+      schema a,
+      eq-eqb
+          (b .schema) (b .schema) refl,
+    ) refl
   where
     schema : AreAt m 0 (headerOf b t) → schemaId m ≡ b .schema
     schema a = unfold AreAt in a .1 .1 .0
 
 -- The header stands at the start of what is written, and the root after it.
-header-stands : (b : Book) (t : Template) (pool : List ℕ) (r : Values) → AllWhole (headerOf b t) → let m = messageOctets b t pool r in
-    AreAt m 0 (headerOf b t) × (headerSize ≤ length m) × Stands m headerSize (rowOctets pool (t .shape) (t .groups) r) (length m)
+header-stands : (b : Book) (t : Template) (pool : List ℕ) (r : Values) → AllWhole (headerOf b t)
+    → let m = messageOctets b t pool r in
+    AreAt m 0 (headerOf b t) × (headerSize ≤ length m)
+    × Stands m headerSize (rowOctets pool (t .shape) (t .groups) r) (length m)
 unfolding messageOctets
 header-stands b t pool r h =
     let m = messageOctets b t pool r in
     let xs = headerOf b t in
-    let o = split-to (numbers16 xs) (rowOctets pool (t .shape) (t .groups) r) headerSize (omega (arith, length-numbers xs)) (all-stands m) in
+    let o = split-to (numbers16 xs) (rowOctets pool (t .shape) (t .groups) r) headerSize
+    (omega (arith, length-numbers xs)) (all-stands m) in
     (numbers-are xs h (o .0), o .0 .fits, o .1)
 
 -- ---- the root
 
-root-reads : (b : Book) (t : Template) (m : List ℕ) (fs : List Answer) (g : Values) (ds : List Answer) → let v = b .version in
+root-reads : (b : Book) (t : Template) (m : List ℕ) (fs : List Answer) (g : Values) (ds : List Answer)
+    → let v = b .version in
     AreAt m 0 (headerOf b t) → Writable b t
-    → readBlock m v (t .shape) (readGroups m v (t .groups) 0) 0 (t .shape .length) headerSize ≡ done (fs, g, ds, length m)
+    → readBlock m v (t .shape) (readGroups m v (t .groups) 0) 0 (t .shape .length) headerSize
+    ≡ done (fs, g, ds, length m)
     → readRoot v t m ≡ done (entry fs g ds nil)
 unfolding readRoot must _>>=_ countGood if_then_else_ AreAt
 root-reads b t m fs g ds a w e =
@@ -104,8 +114,19 @@ module _ (b : Book) (t : Template) (l pool : List ℕ) (small : Numbers64 l) (a 
   whole : AllWhole (headerOf b t)
   unfolding Each
   whole =
-      let w = writable b t a in
-      (w .shape .short, (a .id, (a .schema, (a .version, (omega (arith, a .fewGroups), (omega (arith, a .fewDatas), tt))))))
+      let w = writable b t a in (
+        w .shape .short,
+        (
+          a .id,
+          (
+            a .schema,
+            (
+              a .version,
+              (omega (arith, a .fewGroups), (omega (arith, a .fewDatas), tt)),
+            ),
+          ),
+        ),
+      )
 
   message-reads : (m : List ℕ) (r : Values) → checkHeader (b .schema) m ≡ done tt → AreAt m 0 (headerOf b t)
       → readRoot (b .version) t m ≡ done r → readMessage b m ≡ done r
@@ -122,24 +143,30 @@ module _ (b : Book) (t : Template) (l pool : List ℕ) (small : Numbers64 l) (a 
       let said = entry (x .0) (x .1) (x .2) nil in
       let m = messageOctets b t pool said in
       let h = header-stands b t pool said whole in
-      let xs = entryOctets l pool m v small (t .shape) (t .groups) (w .shape) (judgeGroups l (length pool) (t .groups)) (readGroups m v (t .groups) 0)
-          (λ i at to r e′ st. groups-back l pool m v small (t .groups) (t .shape) i at to r (w .groups) e′ st) x in
+      let xs = entryOctets l pool m v small (t .shape) (t .groups) (w .shape) (judgeGroups l (length pool) (t .groups))
+      (readGroups m v (t .groups) 0)
+      (λ i at to r e′ st. groups-back l pool m v small (t .groups) (t .shape) i at to r (w .groups) e′ st) x in
       let o = split-to xs [] (length m) (omega (arith, h .2 .ends, length-append xs [])) (h .2) in
-      let k = block-back l pool m v small (t .shape) (t .groups) (w .shape) (judgeGroups l (length pool) (t .groups)) (readGroups m v (t .groups) 0)
-          (λ i at to r e′ st. groups-back l pool m v small (t .groups) (t .shape) i at to r (w .groups) e′ st) 0 headerSize (length m) x e (o .0) in
+      let k = block-back l pool m v small (t .shape) (t .groups) (w .shape) (judgeGroups l (length pool) (t .groups))
+      (readGroups m v (t .groups) 0)
+      (λ i at to r e′ st. groups-back l pool m v small (t .groups) (t .shape) i at to r (w .groups) e′ st) 0 headerSize
+      (length m) x e (o .0) in
       record {
         values = entry (k .fields) (k .groups) (k .datas) nil;
-        accepts = message-reads m _ (header-good b t m (h .1) few (h .0) whole) (h .0) (root-reads b t m (k .fields) (k .groups) (k .datas) (h .0) w (k .reads));
+        accepts = message-reads m _ (header-good b t m (h .1) few (h .0) whole) (h .0)
+            (root-reads b t m (k .fields) (k .groups) (k .datas) (h .0) w (k .reads));
         same = four-same (k .sameFields) (k .sameGroups) (k .sameDatas) refl;
       }
 
-  listing-reads : (said : Values) → judgeListing l (length pool) t ≡ done said → length (messageOctets b t pool said) ≤ 65535
+  listing-reads : (said : Values) → judgeListing l (length pool) t ≡ done said
+      → length (messageOctets b t pool said) ≤ 65535
       → ReadsBack b (messageOctets b t pool said) pool said
   unfolding judgeListing
   listing-reads said e few =
       let p = inv-bind _ _ _ e in
       let q = inv-bind _ _ _ (p .next) in
-      subst (λ (x : Values). length (messageOctets b t pool x) ≤ 65535 → ReadsBack b (messageOctets b t pool x) pool x) (done-inj (q .next))
+      subst (λ (x : Values). length (messageOctets b t pool x) ≤ 65535 → ReadsBack b (messageOctets b t pool x) pool x)
+      (done-inj (q .next))
       (entry-reads (p .value) (p .first)) few
 
 -- ---- from the octets
@@ -155,7 +182,8 @@ pub record WrittenBy (book : List ℕ) (id : ℕ) (l pool m : List ℕ) : Type 0
   pub short : length (messageOctets by template pool said) ≤ 65535
   pub is : messageOctets by template pool said ≡ m
 
-pub written-by : (book : List ℕ) (id : ℕ) (l pool : List ℕ) (room : ℕ) (m : List ℕ) → writeOf book id l pool room ≡ done m
+pub written-by : (book : List ℕ) (id : ℕ) (l pool : List ℕ) (room : ℕ) (m : List ℕ)
+    → writeOf book id l pool room ≡ done m
     → WrittenBy book id l pool m
 unfolding writeOf
 written-by book id l pool room m e =
@@ -170,12 +198,14 @@ written-by book id l pool room m e =
       good = b .first;
       found = inv-found _ 50 0 (t .value) (t .first);
       judged = r .first;
-      short = leb-true (length (messageOctets (b .value) (t .value) pool (r .value))) 65535 (and-right _ _ (inv-must _ _ _ _ (k .first)));
+      short = leb-true (length (messageOctets (b .value) (t .value) pool (r .value))) 65535
+          (and-right _ _ (inv-must _ _ _ _ (k .first)));
       is = done-inj (k .next);
     }
 
 -- "Its length is ..": the formula's.
-pub length-is : (book : List ℕ) (id : ℕ) (l pool m : List ℕ) (w : WrittenBy book id l pool m) → length m ≡ writtenLength (w .template) (w .said)
+pub length-is : (book : List ℕ) (id : ℕ) (l pool m : List ℕ) (w : WrittenBy book id l pool m)
+    → length m ≡ writtenLength (w .template) (w .said)
 length-is book id l pool m w =
     let a = accepted book (w .by) id (w .template) (w .good) (w .found) .1 in
     ap length (sym (w .is)) ∙ written-long l pool (w .by) (w .template) (w .said) (a .layout) (w .judged)
@@ -186,7 +216,8 @@ pub record ReadsAgain (book l pool m : List ℕ) : Type 0 where
   pub lists : listOf book m (length l) ≡ done read
   pub same : contents m read ≡ contents pool l
 
-lists-within : (book m : List ℕ) (room : ℕ) (b : Book) (r : Values) → bookOf book ≡ done b → readMessage b m ≡ done r → 3 * measure r ≤ room
+lists-within : (book m : List ℕ) (room : ℕ) (b : Book) (r : Values) → bookOf book ≡ done b → readMessage b m ≡ done r
+    → 3 * measure r ≤ room
     → listOf book m room ≡ done (listing r)
 unfolding listOf must _>>=_
 lists-within book m room b r e q h = rw (e, q, le-leb (3 * measure r) room h) refl
@@ -196,10 +227,10 @@ pub reads-again : (book : List ℕ) (id : ℕ) (l pool m : List ℕ) → Numbers
 reads-again book id l pool m small w =
     let a = accepted book (w .by) id (w .template) (w .good) (w .found) .1 in
     let k = subst (λ (x : List ℕ). ReadsBack (w .by) x pool (w .said)) (w .is)
-        (listing-reads (w .by) (w .template) l pool small a (w .said) (w .judged) (w .short)) in
+    (listing-reads (w .by) (w .template) l pool small a (w .said) (w .judged) (w .short)) in
     let relists = relisted l (length pool) (w .template) (w .said) (w .judged) in
     let count : measure (k .values) ≡ measure (w .said) =
-        sym (contents-measure m (k .values)) ∙ ap length (k .same) ∙ contents-measure pool (w .said) in
+    sym (contents-measure m (k .values)) ∙ ap length (k .same) ∙ contents-measure pool (w .said) in
     let fits : 3 * measure (k .values) ≤ length l = omega (arith, count, listing-three (w .said), ap length relists) in
     record {
       read = listing (k .values);

@@ -72,7 +72,8 @@ body-few n id b t e =
 
 -- ---- what holds of each template holds of the one that is found
 
-pub found-holds : (P : Template → Type 0) (ts : List Template) → Each P ts → (id : ℕ) (t : Template) → findTemplate id ts ≡ some t
+pub found-holds : (P : Template → Type 0) (ts : List Template) → Each P ts → (id : ℕ) (t : Template)
+    → findTemplate id ts ≡ some t
     → (t .id ≡ id) × P t
 unfolding findTemplate if_then_else_ Each
 found-holds P [] a id t h = absurd (let z : _≡_ {A = ℕ} 0 1 = cc in omega arith)
@@ -93,7 +94,8 @@ each-good f n k (x ∷ xs) u e =
     let p = inv-bind _ _ _ e in
     (inv-must _ _ _ _ (p .first), each-good f n (suc k) xs u (p .next))
 
-each-few : (b : List ℕ) (n total low at : ℕ) (rows : List ContentsRow) (ts : List Template) → contentsGood total low at rows ≡ true
+each-few : (b : List ℕ) (n total low at : ℕ) (rows : List ContentsRow) (ts : List Template)
+    → contentsGood total low at rows ≡ true
     → parseBodies b n rows ≡ done ts → Each (λ t. (t .id < null16) × Few t) ts
 unfolding contentsGood parseBodies Each
 each-few b n total low at [] ts g e = subst (Each _) (done-inj e) tt
@@ -103,10 +105,14 @@ each-few b n total low at (r ∷ rs) ts g e =
     let f = body-few n (r .id) _ (p .value) (p .first) in
     let g₁ = and-right _ _ g in
     let g₂ = and-right _ _ (and-right _ _ g₁) in
-    subst (Each _) (done-inj (q .next))
-    ((rw (f .0) (ltb-true (r .id) null16 (and-left _ _ g₁)), f .1), each-few b (suc n) total (suc (r .id)) (at + r .words) rs (q .value) g₂ (q .first))
+    subst (Each _) (done-inj (q .next)) (
+      (rw (f .0) (ltb-true (r .id) null16 (and-left _ _ g₁)), f .1),
+      each-few b (suc n) total (suc (r .id))
+          (at + r .words) rs (q .value) g₂ (q .first),
+    )
 
-pub accepted : (octets : List ℕ) (b : Book) (id : ℕ) (t : Template) → bookOf octets ≡ done b → findTemplate id (b .templates) ≡ some t
+pub accepted : (octets : List ℕ) (b : Book) (id : ℕ) (t : Template) → bookOf octets ≡ done b
+    → findTemplate id (b .templates) ≡ some t
     → (t .id ≡ id) × Accepted b t
 unfolding bookOf
 accepted octets b id t e h =
@@ -118,7 +124,8 @@ accepted octets b id t e h =
     let head = and-right _ _ (inv-must _ _ _ _ (p₂ .first)) in
     subst (λ (x : Book). findTemplate id (x .templates) ≡ some t → (t .id ≡ id) × Accepted x t) (done-inj (p₆ .next))
     (λ q.
-    let few = found-holds _ (p₄ .value) (each-few _ 0 _ 0 _ _ (p₄ .value) (inv-must _ _ _ _ (p₃ .first)) (p₄ .first)) id t q in (
+    let few = found-holds _ (p₄ .value) (each-few _ 0 _ 0 _ _ (p₄ .value) (inv-must _ _ _ _ (p₃ .first)) (p₄ .first)) id
+    t q in (
       few .0,
       record {
         schema = ltb-true _ _ (and-left _ _ head);

@@ -6,7 +6,6 @@ use Prim.Native.Nat.{_<_, _≤_, ℕ}
 use native.Mathlib.Nat.{mul-one, one-mul}
 use native.Mathlib.Omega.{arith}
 use lib.Dec.{eqb}
-use lib.ListN.{length}
 use borrow.Author.Tests.{eqb-true, leb-true, ltb-false, ltb-true, ne-eqb}
 use Rattle.layout.specs.Result.{_or_}
 use Rattle.layout.specs.Types.{typeAt}

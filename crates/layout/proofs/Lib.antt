@@ -4,3 +4,4 @@ pub mod TypeLaws
 pub mod Accepted
 pub mod Fields
 pub mod Records
+pub mod Witness

@@ -30,7 +30,7 @@ split-to {m} {at} {to} xs ys mid e s =
     let front = take n (drop at m) in
     let back = take (length ys) (drop n (drop at m)) in
     let both : front ++ back ≡ xs ++ ys =
-        sym (take-add n (length ys) (drop at m)) ∙ ap (λ (k : ℕ). take k (drop at m)) (sym len) ∙ s .whole in
+    sym (take-add n (length ys) (drop at m)) ∙ ap (λ (k : ℕ). take k (drop at m)) (sym len) ∙ s .whole in
     let after : drop mid m ≡ drop n (drop at m) = ap (λ (k : ℕ). drop k m) e ∙ sym (drop-drop n at m) in (
       record {
         whole = sym (take-at front back n l) ∙ ap (take n) both ∙ take-at xs ys n refl;
@@ -49,7 +49,7 @@ pub join : {m : List ℕ} {at mid to : ℕ} (xs ys : List ℕ) → Stands m at x
 join {m} {at} {mid} {to} xs ys a b =
     let len : length (xs ++ ys) ≡ length xs + length ys = length-append xs ys in
     let q : drop (length xs) (drop at m) ≡ drop mid m =
-        drop-drop (length xs) at m ∙ ap (λ (k : ℕ). drop k m) (sym (a .ends)) in
+    drop-drop (length xs) at m ∙ ap (λ (k : ℕ). drop k m) (sym (a .ends)) in
     record {
       whole = rw (len, take-add (length xs) (length ys) (drop at m), q, a .whole, b .whole) refl;
       ends = omega (arith, len, a .ends, b .ends);
@@ -78,7 +78,12 @@ pub three-stand : (l : List ℕ) (at : ℕ) → at + 3 ≤ length l
     → Stands l at (getD l at 0 ∷ getD l (at + 1) 0 ∷ getD l (at + 2) 0 ∷ []) (at + 3)
 three-stand l at h =
     record {
-      whole = rw (next at (at + 1) (omega arith) (omega arith), next (at + 1) (at + 2) (omega arith) (omega arith), next (at + 2) (at + 3) (omega arith) (omega arith)) refl;
+      whole = rw (
+        next at (at + 1) (omega arith) (omega arith),
+        next (at + 1) (at + 2) (omega arith) (omega arith),
+        next
+            (at + 2) (at + 3) (omega arith) (omega arith),
+      ) refl;
       ends = refl;
       fits = h;
     }
@@ -145,7 +150,8 @@ AllWhole xs = Each (λ x. x < null16) xs
 pub length-numbers : (xs : List ℕ) → length (numbers16 xs) ≡ 2 * length xs
 unfolding numbers16
 length-numbers [] = refl
-length-numbers (x ∷ xs) = length-append (octetsOf 2 x) (numbers16 xs) ∙ omega (arith, length-octets 2 x, length-numbers xs)
+length-numbers (x ∷ xs) = length-append (octetsOf 2 x) (numbers16 xs)
+    ∙ omega (arith, length-octets 2 x, length-numbers xs)
 
 -- Written numbers are read.
 pub numbers-are : {m : List ℕ} {at to : ℕ} (xs : List ℕ) → AllWhole xs → Stands m at (numbers16 xs) to → AreAt m at xs

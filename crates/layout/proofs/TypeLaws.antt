@@ -64,8 +64,8 @@ module _ (w : ℕ) (a : Width w) (x : ℕ) where
       let y = x - a .above * 256 ^ w in
       let sum : a .above * 256 ^ w + y ≡ x = omega (arith, a .whole, a .even) in
       let m : x % 256 ^ w ≡ y =
-          ap (λ (z : ℕ). z % 256 ^ w) (sym sum) ∙ mul-add-mod-self-right (a .above) (256 ^ w) y
-          ∙ mod-eq-of-lt (omega (arith, a .whole)) in
+      ap (λ (z : ℕ). z % 256 ^ w) (sym sum) ∙ mul-add-mod-self-right (a .above) (256 ^ w) y
+      ∙ mod-eq-of-lt (omega (arith, a .whole)) in
       rw (m, le-leb (256 ^ w / 2) y (omega (arith, a .whole, a .even))) (omega (arith, a .whole, sum))
 
   int-back : inRange (int w) x ≡ true → x < 2 ^ 64 → valueOf (int w) (x % 256 ^ w) ≡ x
@@ -111,12 +111,17 @@ null-outside t h = each-type (λ k. inRange k (k .null) ≡ false) in-char in-in
     in-int w a =
         let n = 2 ^ 64 - 256 ^ w / 2 in
         unfold inRange if_then_else_ _or_ in
-        rw (lt-leb n (256 ^ w / 2 - 1) (omega (arith, a .even, a .whole, a .some-are)), lt-leb (n + 1) n (omega arith)) refl
+        rw (lt-leb n (256 ^ w / 2 - 1) (omega (arith, a .even, a .whole, a .some-are)), lt-leb (n + 1) n (omega arith))
+        refl
 
     in-uint : (w : ℕ) → Width w → inRange (uint w) (256 ^ w - 1) ≡ false
     in-uint w a =
         unfold inRange if_then_else_ _and_ in
-        rw (le-leb 0 (256 ^ w - 1) (omega arith), lt-leb (256 ^ w - 1) (256 ^ w - 2) (omega (arith, a .even, a .some-are))) refl
+        rw (
+          le-leb 0 (256 ^ w - 1) (omega arith),
+          lt-leb (256 ^ w - 1) (256 ^ w - 2)
+              (omega (arith, a .even, a .some-are)),
+        ) refl
 
 pub inside-not-null : (t x : ℕ) → t < 9 → inRange (typeAt t) x ≡ true → eqb x (typeAt t .null) ≡ false
 inside-not-null t x h r =

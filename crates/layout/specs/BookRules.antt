@@ -7,7 +7,8 @@ use lib.Dec.{leb, ltb, eqb}
 use lib.ListN.{length, getD, take, drop}
 use Rattle.layout.specs.Result.{Result, done, refused, _>>=_, must, _and_, _or_}
 use Rattle.layout.specs.Octets.{wordsOf, null16}
-use Rattle.layout.specs.Book.{Field, Data, Shape, Groups, none, more, Template, Book, end, fieldSinces, dataSinces, groupSinces}
+use Rattle.layout.specs.Book.{Field, Data, Shape, Groups, none, more, Template, Book}
+use Rattle.layout.specs.Book.{end, fieldSinces, dataSinces, groupSinces}
 
 -- ---- 4: the tree of a body, t being its template's number, b its words, and w a word of it
 
@@ -40,9 +41,12 @@ parseShape t b few w = do
   let f = word b (w + 1)
   let g = word b (w + 2)
   let d = word b (w + 3)
+  let fieldsAt = w + 4
+  let datasAt = fieldsAt + 6 * f
+  let groupsAt = datasAt + 2 * d
   _ ← must (leb few f and leb f 64 and leb g 16 and leb d 16) 4 t
-  _ ← must (leb (w + 4 + 6 * f + 2 * d) (length b)) 4 t
-  done (record { length = word b w; fields = parseFields b f (w + 4); datas = parseDatas b d (w + 4 + 6 * f) }, g, w + 4 + 6 * f + 2 * d)
+  _ ← must (leb groupsAt (length b)) 4 t
+  done (record { length = word b w; fields = parseFields b f fieldsAt; datas = parseDatas b d datasAt }, g, groupsAt)
 
 -- n groups in a row, `depth` more levels being left, and the word after them. "A group has at least one field."
 unfoldable pub parseGroups : ℕ → List ℕ → ℕ → ℕ → ℕ → Result (Groups × ℕ)
@@ -67,14 +71,16 @@ parseBody t id b = do
 
 -- "Length is 1; types 0 and 2 may have 2 to 1,024."
 abbrev pub lengthGood : Field → Bool
-lengthGood f = eqb (f .length) 1 or (leb 2 (f .length) and leb (f .length) 1024 and (eqb (f .type) 0 or eqb (f .type) 2))
+lengthGood f =
+    eqb (f .length) 1 or (leb 2 (f .length) and leb (f .length) 1024 and (eqb (f .type) 0 or eqb (f .type) 2))
 
 -- "An offset is at least the end of the field before it; every end is at most the declared block length": fields of a
 -- block of l octets, after one that ends at e.
 unfoldable pub fieldsGood : ℕ → ℕ → List Field → Bool
 fieldsGood l e [] = true
 fieldsGood l e (f ∷ fs) =
-    ltb (f .type) 9 and lengthGood f and leb (f .presence) 1 and leb e (f .offset) and leb (end f) l and fieldsGood l (end f) fs
+    ltb (f .type) 9 and lengthGood f and leb (f .presence) 1 and leb e (f .offset) and leb (end f) l
+    and fieldsGood l (end f) fs
 
 -- "No block length .. is 65535."
 abbrev pub shapeGood : Shape → Bool
@@ -121,7 +127,8 @@ pub record ContentsRow : Type 0 where
 
 unfoldable pub parseContents : List ℕ → ℕ → ℕ → List ContentsRow
 parseContents b zero w = []
-parseContents b (suc n) w = record { id = word b w; first = word b (w + 1); words = word b (w + 2) } ∷ parseContents b n (w + 3)
+parseContents b (suc n) w =
+    record { id = word b w; first = word b (w + 1); words = word b (w + 2) } ∷ parseContents b n (w + 3)
 
 -- "Ids rise strictly. Bodies lie back to back in contents order, from the first word after the contents to the book's
 -- end": rows with ids from `low` on, the first body being at word `at`.

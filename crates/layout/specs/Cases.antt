@@ -87,12 +87,18 @@ c says r = record { case = c; says = r }
 abbrev pub with16 : List ℕ → ℕ → ℕ → List ℕ
 with16 m at x = set (set m at (x % 256)) (at + 1) (x / 256)
 
+-- "negatives as 2^64 + value"
+abbrev pub minus5 : ℕ
+minus5 = 18446744073709551611
+
 unfoldable pub table : List Row
 table =
-    (listed bookA messageM says done (0 ∷ 1000 ∷ 0 ∷ 0 ∷ 18446744073709551611 ∷ 0 ∷ 4 ∷ 2 ∷ 0 ∷ 0 ∷ 1 ∷ 0 ∷ 0 ∷ 3 ∷ 0 ∷ 2 ∷ 30 ∷ 2 ∷ []))
+    (listed bookA messageM says
+    done (0 ∷ 1000 ∷ 0 ∷ 0 ∷ minus5 ∷ 0 ∷ 4 ∷ 2 ∷ 0 ∷ 0 ∷ 1 ∷ 0 ∷ 0 ∷ 3 ∷ 0 ∷ 2 ∷ 30 ∷ 2 ∷ []))
     ∷ (listed bookB messageM says
-    done (0 ∷ 1000 ∷ 0 ∷ 0 ∷ 18446744073709551611 ∷ 0 ∷ 3 ∷ 0 ∷ 0 ∷ 4 ∷ 2 ∷ 0 ∷ 0 ∷ 1 ∷ 0 ∷ 0 ∷ 3 ∷ 0 ∷ 3 ∷ 0 ∷ 0 ∷ 2 ∷ 30 ∷ 2 ∷ []))
-    ∷ (listed bookA messageB says done (0 ∷ 1000 ∷ 0 ∷ 0 ∷ 18446744073709551611 ∷ 0 ∷ 4 ∷ 2 ∷ 0 ∷ 0 ∷ 1 ∷ 0 ∷ 0 ∷ 3 ∷ 0 ∷ 2 ∷ 38 ∷ 2 ∷ []))
+    done (0 ∷ 1000 ∷ 0 ∷ 0 ∷ minus5 ∷ 0 ∷ 3 ∷ 0 ∷ 0 ∷ 4 ∷ 2 ∷ 0 ∷ 0 ∷ 1 ∷ 0 ∷ 0 ∷ 3 ∷ 0 ∷ 3 ∷ 0 ∷ 0 ∷ 2 ∷ 30 ∷ 2 ∷ []))
+    ∷ (listed bookA messageB says
+    done (0 ∷ 1000 ∷ 0 ∷ 0 ∷ minus5 ∷ 0 ∷ 4 ∷ 2 ∷ 0 ∷ 0 ∷ 1 ∷ 0 ∷ 0 ∷ 3 ∷ 0 ∷ 2 ∷ 38 ∷ 2 ∷ []))
     ∷ (listed bookA (take 31 messageM) says refused 16 28)
     ∷ (listed bookA (messageM ++ (0 ∷ [])) says refused 20 32)
     ∷ (listed bookA [] says refused 10 0)

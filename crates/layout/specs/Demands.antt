@@ -3,7 +3,7 @@ use mathlib.Core.Path.{_≡_}
 use mathlib.Core.List.{List, [], _∷_}
 use Prim.Native.Nat.{_+_, _-_, ℕ}
 use lib.Dec.{eqb}
-use lib.ListN.{drop, length, replicate, take}
+use lib.ListN.{drop, replicate, take}
 use Rattle.layout.specs.Result.{Each, if_then_else_}
 use Rattle.layout.specs.Octets.{number16}
 use Rattle.layout.specs.Book.{Book, Field, Groups, Shape, Template, end, more, none}

@@ -47,8 +47,8 @@ module _ (limit : ℕ) where
   AddsGroups true new = AddedGroups new
   AddsGroups false new = new ≡ none
 
-  -- "older groups come first with equal id and since, their blocks extended in turn": one pair of groups, of whose inner
-  -- groups Inner holds, and Rest of the groups after them.
+  -- "older groups come first with equal id and since, their blocks extended in turn": one pair of groups, Inner being
+  -- said of their inner groups and Rest of the groups after them.
   pub record ExtendsGroup (id id′ since since′ : ℕ) (s s′ : Shape) (Inner Rest : Type 0) : Type 0 where
     pub sameId : id ≡ id′
     pub sameSince : since ≡ since′
@@ -69,8 +69,8 @@ module _ (limit : ℕ) where
     pub shape : ExtendsShape true (old .shape) (newer .shape)
     pub groups : ExtendsGroups true (old .groups) (newer .groups)
 
--- "the schema id is equal, its version is greater, and each older template stands in it"; "templates that only the newer
--- book has are free"
+-- "the schema id is equal, its version is greater, and each older template stands in it"; "templates that only the
+-- newer book has are free"
 pub record Extends (old new : Book) : Type 0 where
   pub schema : old .schema ≡ new .schema
   pub version : old .version < new .version

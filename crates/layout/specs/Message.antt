@@ -8,7 +8,8 @@ use lib.ListN.{length}
 use Rattle.layout.specs.Result.{Result, done, must, orRefuse, if_then_else_, _and_, _>>=_}
 use Rattle.layout.specs.Octets.{numberAt, number16, null16}
 use Rattle.layout.specs.Types.{typeAt, valueOf, classify}
-use Rattle.layout.specs.Book.{Field, Data, Shape, Groups, none, more, Template, Book, findTemplate, isArray, isOptional, need, dataSinces, groupSinces, present}
+use Rattle.layout.specs.Book.{Field, Data, Shape, Groups, none, more, Template, Book, findTemplate}
+use Rattle.layout.specs.Book.{isArray, isOptional, need, dataSinces, groupSinces, present}
 use Rattle.layout.specs.Values.{Values, nil, entry, group}
 use Rattle.layout.specs.declared.Answer.{Answer}
 use Rattle.layout.specs.declared.Answer.the-variants.{Octets, Absent, Group}
@@ -62,8 +63,8 @@ module _ (m : List ℕ) where
     (a, x) ← readData at
     skipDatas n x
 
-  -- "A group is a dimension .. and its entries": its block length, which is at least `least`, and its entry count. "at a
-  -- dimension 16, 17, 18, then entries"
+  -- "A group is a dimension .. and its entries": its block length, which is at least `least`, and its entry count.
+  -- "at a dimension 16, 17, 18, then entries"
   unfoldable pub readDimension : ℕ → ℕ → Result (ℕ × ℕ)
   readDimension least at = do
     _ ← must (leb (at + dimensionSize) (length m)) 16 at
@@ -104,7 +105,9 @@ module _ (m : List ℕ) (v : ℕ) where
       let k = typeAt (f .type) in
       let start = at + f .offset in
       if leb (f .since) v
-      then (if isArray f then Octets start (f .length) else classify k (isOptional f) (valueOf k (numberAt (k .width) m start)))
+      then (if isArray f
+      then Octets start (f .length)
+      else classify k (isOptional f) (valueOf k (numberAt (k .width) m start)))
       else Absent
 
   -- The data of a block in order, and then n surplus ones.
@@ -178,7 +181,8 @@ readRoot version t m = do
   _ ← must (countGood version v datas (dataCount m)) 15 10
   let surplusGroups = groupCount m - present v groups
   let surplusDatas = dataCount m - present v datas
-  (fs, gs, ds, e) ← readBlock m v (t .shape) (readGroups m v (t .groups) surplusGroups) surplusDatas (blockLength m) headerSize
+  let root = readGroups m v (t .groups) surplusGroups
+  (fs, gs, ds, e) ← readBlock m v (t .shape) root surplusDatas (blockLength m) headerSize
   _ ← must (eqb e (length m)) 20 e
   done (entry fs gs ds nil)
 

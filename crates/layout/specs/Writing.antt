@@ -7,8 +7,8 @@ use lib.ListN.{drop, getD, length, replicate, take}
 use Rattle.layout.specs.Result.{Result, _>>=_, _and_, _or_, done, if_then_else_, must, orRefuse}
 use Rattle.layout.specs.Octets.{null16, octetsOf}
 use Rattle.layout.specs.Types.{inRange, typeAt}
-use Rattle.layout.specs.Book.{Book, Data, Field, Groups, Shape, Template, end, findTemplate, groupSinces, isArray}
-use Rattle.layout.specs.Book.{isOptional, more, none}
+use Rattle.layout.specs.Book.{Field, Data, Shape, Groups, none, more, Template, Book, findTemplate}
+use Rattle.layout.specs.Book.{end, isArray, isOptional, groupSinces}
 use Rattle.layout.specs.BookRules.{bookOf}
 use Rattle.layout.specs.Values.{Values, entry, group, nil}
 use Rattle.layout.specs.Message.{Entry, dimensionSize, headerSize}
@@ -50,7 +50,8 @@ module _ (l : List ℕ) where
 -- ---- 51 to 54, in the listing's order, for a pool of n octets
 
 module _ (l : List ℕ) (n : ℕ) where
-  -- "53: start plus length past the pool's end, length not the field's, or data over 65,534": octets, whose length `fits`.
+  -- "53: start plus length past the pool's end, length not the field's, or data over 65,534": octets, whose length
+  -- `fits`.
   unfoldable pub judgeOctets : Bool → ℕ → Result Answer
   judgeOctets fits i = do
     _ ← must (isOctets l i) 51 i
@@ -157,7 +158,8 @@ module _ (pool : List ℕ) where
   unfoldable pub blockOctets : ℕ → ℕ → List Field → List Answer → List ℕ
   blockOctets l at [] as′ = replicate (l - at) 0
   blockOctets l at (f ∷ fs) [] = replicate (l - at) 0
-  blockOctets l at (f ∷ fs) (a ∷ as′) = replicate (f .offset - at) 0 ++ (fieldOctets f a ++ blockOctets l (end f) fs as′)
+  blockOctets l at (f ∷ fs) (a ∷ as′) =
+      replicate (f .offset - at) 0 ++ (fieldOctets f a ++ blockOctets l (end f) fs as′)
 
   unfoldable pub dataOctets : List Answer → List ℕ
   dataOctets [] = []
@@ -173,13 +175,16 @@ module _ (pool : List ℕ) where
       numbers16 (sh .length ∷ entriesIn a ∷ []) ++ (rowOctets sh inner es ++ rowOctets s gs rest)
 
 -- "It writes the book's version, declared block lengths, the book's counts and zero padding."
+abbrev pub headerOf : Book → Template → List ℕ
+headerOf b t =
+    t .shape .length ∷ t .id ∷ b .schema ∷ b .version ∷ length (groupSinces (t .groups)) ∷ length (t .shape .datas) ∷ []
+
 unfoldable pub messageOctets : Book → Template → List ℕ → Values → List ℕ
 messageOctets b t pool r =
-    numbers16 (t .shape .length ∷ t .id ∷ b .schema ∷ b .version ∷ length (groupSinces (t .groups)) ∷ length (t .shape .datas) ∷ [])
-    ++ rowOctets pool (t .shape) (t .groups) r
+    numbers16 (headerOf b t) ++ rowOctets pool (t .shape) (t .groups) r
 
--- "Its length is 12 plus the declared root block, 4 per group record, the declared block per entry, and 2 plus its length
--- per data."
+-- "Its length is 12 plus the declared root block, 4 per group record, the declared block per entry, and 2 plus its
+-- length per data."
 unfoldable pub datasLength : List Answer → ℕ
 datasLength [] = 0
 datasLength (a ∷ ds) = 2 + spanOf a .1 + datasLength ds
@@ -193,8 +198,8 @@ rowLength s (more i since sh inner gs) (group a es rest) = dimensionSize + (rowL
 abbrev pub writtenLength : Template → Values → ℕ
 writtenLength t r = headerSize + rowLength (t .shape) (t .groups) r
 
--- "Writing: 50; then 51 to 54 at the first record at fault, 51 first within it; left-over records next; 55 last." `room`
--- is how many octets there is room for.
+-- "Writing: 50; then 51 to 54 at the first record at fault, 51 first within it; left-over records next; 55 last."
+-- `room` is how many octets there is room for.
 unfoldable pub writeOf : List ℕ → ℕ → List ℕ → List ℕ → ℕ → Result (List ℕ)
 writeOf book id l pool room = do
   b ← bookOf book
