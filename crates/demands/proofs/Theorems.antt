@@ -26,7 +26,7 @@ use Rattle.layout.proofs.Accepted.{accepted}
 use Rattle.layout.specs.declared.Counted.{Counted}
 use Rattle.layout.specs.declared.Element.{Element}
 
--- ---- demand 1: "a refused call alters no octet or number of any buffer", and every contract has one outcome
+-- ---- demand 1: "a refused call alters no octet or number of any buffer", and each contract has one outcome
 
 refused-leaves : (before : List ℕ) (x : Result (List ℕ)) (n p : ℕ) → x ≡ refused n p → roomAfter x before ≡ before
 unfolding roomAfter
@@ -34,19 +34,26 @@ refused-leaves before x n p e = rw e refl
 
 pub refused-listing-alters-nothing : (book m before after : List ℕ) (r : Counted) (n p : ℕ)
     → Lists book m before r after
-    → listOf book m (length before) ≡ refused n p → after ≡ before
+    → listOf book m (length before) ≡ refused n p
+    → after ≡ before
 refused-listing-alters-nothing book m before after r n p c e = c .room ∙ refused-leaves before _ n p e
 
 pub refused-writing-alters-nothing : (book : List ℕ) (id : ℕ) (l pool before after : List ℕ) (r : Counted) (n p : ℕ)
-    → Writes book id l pool before r after → writeOf book id l pool (length before) ≡ refused n p → after ≡ before
+    → Writes book id l pool before r after
+    → writeOf book id l pool (length before) ≡ refused n p
+    → after ≡ before
 refused-writing-alters-nothing book id l pool before after r n p c e = c .room ∙ refused-leaves before _ n p e
 
-pub listing-has-one-outcome : (book m before after after′ : List ℕ) (r r′ : Counted) → Lists book m before r after
-    → Lists book m before r′ after′ → (r ≡ r′) × (after ≡ after′)
+pub listing-has-one-outcome : (book m before after after′ : List ℕ) (r r′ : Counted)
+    → Lists book m before r after
+    → Lists book m before r′ after′
+    → (r ≡ r′) × (after ≡ after′)
 listing-has-one-outcome book m before after after′ r r′ c c′ = (c .answer ∙ sym (c′ .answer), c .room ∙ sym (c′ .room))
 
 pub writing-has-one-outcome : (book : List ℕ) (id : ℕ) (l pool before after after′ : List ℕ) (r r′ : Counted)
-    → Writes book id l pool before r after → Writes book id l pool before r′ after′ → (r ≡ r′) × (after ≡ after′)
+    → Writes book id l pool before r after
+    → Writes book id l pool before r′ after′
+    → (r ≡ r′) × (after ≡ after′)
 writing-has-one-outcome book id l pool before after after′ r r′ c c′ =
     (c .answer ∙ sym (c′ .answer), c .room ∙ sym (c′ .room))
 
@@ -54,7 +61,8 @@ writing-has-one-outcome book id l pool before after after′ r r′ c c′ =
 
 -- "What is written reads back with the same values": the message is accepted, its listing fits where the listing that
 -- it was written from stood, and record by record the two say the same, "octets, not starts" compared.
-pub written-reads-back : (book : List ℕ) (id : ℕ) (l pool : List ℕ) (room : ℕ) (m : List ℕ) → Numbers64 l
+pub written-reads-back : (book : List ℕ) (id : ℕ) (l pool : List ℕ) (room : ℕ) (m : List ℕ)
+    → Numbers64 l
     → writeOf book id l pool room ≡ done m
     → (read : List ℕ) × (listOf book m (length l) ≡ done read) × (contents m read ≡ contents pool l)
 written-reads-back book id l pool room m small e =
@@ -62,10 +70,13 @@ written-reads-back book id l pool room m small e =
     (r .read, r .lists, r .same)
 
 -- "what is read writes back to the same octets if it carries the book's own version and block lengths, has zero padding
--- and no value out of range": `AsWritten`. "writing back has the message as pool and room for it"
-pub read-writes-back : (book m : List ℕ) (room : ℕ) (b : Book) (t : Template) (r : Values) → AllOctets m
+-- and no value out of range": that is `AsWritten`. "writing back has the message as pool and room for it"
+pub read-writes-back : (book m : List ℕ) (room : ℕ) (b : Book) (t : Template) (r : Values)
+    → AllOctets m
     → bookOf book ≡ done b
-    → findTemplate (templateId m) (b .templates) ≡ some t → readMessage b m ≡ done r → AsWritten b t m r
+    → findTemplate (templateId m) (b .templates) ≡ some t
+    → readMessage b m ≡ done r
+    → AsWritten b t m r
     → length m ≤ room
     → writeOf book (templateId m) (listing r) m room ≡ done m
 read-writes-back = written-back
@@ -74,21 +85,30 @@ read-writes-back = written-back
 -- length per data": of the message for a listing that was judged to be r.
 pub written-length : (book : List ℕ) (id : ℕ) (l pool : List ℕ) (b : Book) (t : Template) (r : Values)
     → bookOf book ≡ done b
-    → findTemplate id (b .templates) ≡ some t → judgeListing l (length pool) t ≡ done r
+    → findTemplate id (b .templates) ≡ some t
+    → judgeListing l (length pool) t ≡ done r
     → length (messageOctets b t pool r) ≡ writtenLength t r
 written-length book id l pool b t r e h j = written-long l pool b t r (accepted book b id t e h .1 .layout) j
 
--- ---- demand 3: "For accepted books, the newer a legal extension of the older, and any message whose template is in both"
+-- ---- demand 3: "For accepted books, the newer a legal extension of the older, and any message whose template is in
+-- both"
 
-module _ (older newer : List ℕ) (old new : Book) (isOlder : bookOf older ≡ done old) (isNewer : bookOf newer ≡ done new)
-    (extends : Extends old new) (m : List ℕ) (t : Template)
+module _
+    (older newer : List ℕ)
+    (old new : Book)
+    (isOlder : bookOf older ≡ done old)
+    (isNewer : bookOf newer ≡ done new)
+    (extends : Extends old new)
+    (m : List ℕ)
+    (t : Template)
     (inBoth : findTemplate (templateId m) (old .templates) ≡ some t) where
   -- "if the newer accepts it, so does the older"
   pub older-accepts : checkOf newer m ≡ done tt → checkOf older m ≡ done tt
   older-accepts = accepts-too older newer old new isOlder isNewer extends m t inBoth
 
   -- "with the same answer for every element that the older has"
-  pub older-answers : checkOf newer m ≡ done tt → (p : List Step) (x : Element)
+  pub older-answers : checkOf newer m ≡ done tt
+      → (p : List Step) (x : Element)
       → hasPlace p x (t .shape) (t .groups) ≡ true
       → placeOf older m p x ≡ placeOf newer m p x
   older-answers = same-answer older newer old new isOlder isNewer extends m t inBoth

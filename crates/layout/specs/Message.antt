@@ -99,16 +99,16 @@ readEntries (suc n) f at = do
 
 -- "Let v be the message's version."
 module _ (m : List ℕ) (v : ℕ) where
-  -- A field of the block at `at`. "An element with since above v is absent, even where the block has octets for it."
-  unfoldable pub readField : ℕ → Field → Answer
-  readField at f =
+  -- A field that is present in the block at `at`. "such an array is plain octets, never null and not range-checked"
+  abbrev pub presentField : ℕ → Field → Answer
+  presentField at f =
       let k = typeAt (f .type) in
       let start = at + f .offset in
-      if leb (f .since) v
-      then (if isArray f
-      then Octets start (f .length)
-      else classify k (isOptional f) (valueOf k (numberAt (k .width) m start)))
-      else Absent
+      if isArray f then Octets start (f .length) else classify k (isOptional f) (valueOf k (numberAt (k .width) m start))
+
+  -- "An element with since above v is absent, even where the block has octets for it."
+  unfoldable pub readField : ℕ → Field → Answer
+  readField at f = if leb (f .since) v then presentField at f else Absent
 
   -- The data of a block in order, and then n surplus ones.
   unfoldable pub readDatas : List Data → ℕ → ℕ → Result (List Answer × ℕ)
