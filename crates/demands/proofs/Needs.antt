@@ -7,14 +7,14 @@ use native.Mathlib.Nat.{le-refl, le-trans}
 use native.Mathlib.Omega.{arith}
 use lib.Dec.{leb}
 use lib.ListN.{length}
-use borrow.Author.Tests.{le-leb, leb-true, lt-leb}
+use borrow.Author.Tests.{lt-leb}
 use Rattle.layout.specs.Result.{Each, if_then_else_}
 use Rattle.layout.specs.Book.{Field, end, fieldSinces, needAfter, present}
-use Rattle.layout.specs.BookRules.{fieldsGood, rising}
+use Rattle.layout.specs.BookRules.{fieldsGood}
 use Rattle.layout.specs.Extension.{AddsFields, AllAbove}
 use Rattle.demands.proofs.Sees.{AtLeast}
 use Rattle.layout.proofs.Fields.{field-good}
-use Rattle.layout.proofs.Results.{and-left, and-right, either}
+use Rattle.layout.proofs.Results.{either}
 
 -- ---- needs
 
@@ -86,13 +86,3 @@ unfolding present
 present-most v [] = le-refl 0
 present-most v (s ∷ ss) = either (λ (x : ℕ). x + present v ss ≤ suc (length ss)) (leb s v) 1 0
     (omega (arith, present-most v ss)) (omega (arith, present-most v ss))
-
--- Above the schema version all are present.
-pub present-all : (v version low : ℕ) (ss : List ℕ) → rising version low ss ≡ true → version ≤ v
-    → present v ss ≡ length ss
-unfolding present rising if_then_else_
-present-all v version low [] g h = refl
-present-all v version low (s ∷ ss) g h =
-    let small = and-left _ _ (and-right _ _ g) in
-    rw (le-leb s v (omega (arith, leb-true s version small)))
-    (omega (arith, present-all v version s ss (and-right _ _ (and-right _ _ g)) h))

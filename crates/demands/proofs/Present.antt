@@ -3,13 +3,14 @@ use mathlib.Core.Path.{_≡_, refl}
 use mathlib.Core.Bool.{true}
 use mathlib.Core.List.{List, [], _∷_}
 use Prim.Native.Nat.{_<_, _≤_, ℕ}
+use native.Mathlib.Nat.{le-refl}
 use native.Mathlib.Omega.{arith}
 use lib.ListN.{length}
-use borrow.Author.Tests.{eqb-true, le-leb, leb-true, ltb-true}
+use borrow.Author.Tests.{le-leb, leb-true, ltb-true}
 use Rattle.layout.specs.Result.{Each, if_then_else_}
 use Rattle.layout.specs.Octets.{null16}
 use Rattle.layout.specs.Book.{Book, Groups, Shape, Template, dataSinces, fieldSinces, groupSinces, more, none, present}
-use Rattle.layout.specs.BookRules.{allAre, fieldsGood, groupsGood, groupsSince, rising}
+use Rattle.layout.specs.BookRules.{fieldsGood, fieldsSince, groupsGood, groupsSince, rising, shapeGood, shapeSince}
 use Rattle.layout.proofs.Accepted.{Accepted}
 use Rattle.layout.proofs.Results.{and-left, and-right}
 
@@ -27,43 +28,49 @@ unfoldable pub GoodGroups : ℕ → Groups → Type 0
 GoodGroups v none = Unit {0}
 GoodGroups v (more i since s inner rest) = (since ≤ v) × GoodShape v s × GoodGroups v inner × GoodGroups v rest
 
-pub present-up : (v : ℕ) (ss : List ℕ) → UpTo v ss → present v ss ≡ length ss
+pub present-up : (v version : ℕ) (ss : List ℕ) → UpTo version ss → version ≤ v → present v ss ≡ length ss
 unfolding Each present if_then_else_
-present-up v [] u = refl
-present-up v (s ∷ ss) u = rw (le-leb s v (u .0)) (omega (arith, present-up v ss (u .1)))
+present-up v version [] u h = refl
+present-up v version (s ∷ ss) u h =
+    rw (le-leb s v (omega (arith, u .0))) (omega (arith, present-up v version ss (u .1) h))
 
-up-to : (v low : ℕ) (ss : List ℕ) → rising v low ss ≡ true → UpTo v ss
+up-to : (v high low : ℕ) (ss : List ℕ) → rising high low ss ≡ true → high ≤ v → UpTo v ss
 unfolding rising Each
-up-to v low [] g = tt
-up-to v low (s ∷ ss) g =
+up-to v high low [] g h = tt
+up-to v high low (s ∷ ss) g h =
     let r = and-right _ _ g in
-    (leb-true s v (and-left _ _ r), up-to v s ss (and-right _ _ r))
+    (omega (arith, leb-true s high (and-left _ _ r)), up-to v high s ss (and-right _ _ r) h)
 
-up-all : (v x : ℕ) (ss : List ℕ) → allAre x ss ≡ true → x ≤ v → UpTo v ss
-unfolding allAre Each
-up-all v x [] g h = tt
-up-all v x (s ∷ ss) g h = (omega (arith, eqb-true s x (and-left _ _ g)), up-all v x ss (and-right _ _ g) h)
+fields-up-to : (v low high : ℕ) (ss : List ℕ) → fieldsSince v low high ss ≡ true → high ≤ v → UpTo v ss
+unfolding fieldsSince Each
+fields-up-to v low high [] g h = tt
+fields-up-to v low high (s ∷ ss) g h =
+    let r = and-right _ _ g in
+    (omega (arith, leb-true s high (and-left _ _ r)), up-to v v s ss (and-right _ _ r) (le-refl v))
 
-good-groups : (v : ℕ) (gs : Groups) → groupsGood gs ≡ true → groupsSince v gs ≡ true → UpTo v (groupSinces gs)
-    → GoodGroups v gs
+good-shape : (v low high : ℕ) (s : Shape) → shapeGood s ≡ true → shapeSince v low high s ≡ true → high ≤ v
+    → GoodShape v s
+good-shape v low high s l g h =
+    record {
+      short = ltb-true (s .length) null16 (and-left _ _ l);
+      fields = and-right _ _ l;
+      fieldsIn = fields-up-to v low high (fieldSinces (s .fields)) (and-left _ _ g) h;
+      datasIn = up-to v high low (dataSinces (s .datas)) (and-right _ _ g) h;
+    }
+
+good-groups : (v low high : ℕ) (gs : Groups) → groupsGood gs ≡ true → groupsSince v low high gs ≡ true → high ≤ v
+    → GoodGroups v gs × UpTo v (groupSinces gs)
 unfolding groupsGood groupsSince Each groupSinces GoodGroups
-good-groups v none l g u = tt
-good-groups v (more i since s inner rest) l g u =
-    let shape = and-left _ _ l in
+good-groups v low high none l g h = (tt, tt)
+good-groups v low high (more i since s inner rest) l g h =
+    let l₁ = and-right _ _ l in
     let g₁ = and-right _ _ g in
     let g₂ = and-right _ _ g₁ in
-    let g₃ = and-right _ _ g₂ in (
-      u .0,
-      record {
-        short = ltb-true (s .length) null16 (and-left _ _ shape);
-        fields = and-right _ _ shape;
-        fieldsIn = up-to v since (fieldSinces (s .fields)) (and-left _ _ g₁);
-        datasIn = up-all v since (dataSinces (s .datas)) (and-left _ _ g₂) (u .0);
-      },
-      good-groups v inner (and-left _ _ (and-right _ _ l)) (and-left _ _ (and-right _ _ g₃))
-          (up-all v since (groupSinces inner) (and-left _ _ g₃) (u .0)),
-      good-groups v rest (and-right _ _ (and-right _ _ l)) (and-right _ _ (and-right _ _ g₃)) (u .1),
-    )
+    let g₃ = and-right _ _ g₂ in
+    let u : since ≤ v = omega (arith, leb-true since high (and-left _ _ g₁)) in
+    let below = good-groups v since since inner (and-left _ _ l₁) (and-left _ _ g₃) u in
+    let after = good-groups v since high rest (and-right _ _ l₁) (and-right _ _ g₃) h in
+    ((u, good-shape v since since s (and-left _ _ l) (and-left _ _ g₂) u, below .0, after .0), (u, after .1))
 
 -- What is written with a template of an accepted book.
 pub record Writable (b : Book) (t : Template) : Type 0 where
@@ -74,17 +81,9 @@ pub record Writable (b : Book) (t : Template) : Type 0 where
 pub writable : (b : Book) (t : Template) → Accepted b t → Writable b t
 writable b t a =
     let v = b .version in
-    let shape = and-left _ _ (a .layout) in
-    let s₁ = and-right _ _ (a .since) in
-    let s₂ = and-right _ _ s₁ in
-    let up = up-to v 0 (groupSinces (t .groups)) (and-left _ _ s₂) in
+    let gs = good-groups v 0 v (t .groups) (and-right _ _ (a .layout)) (and-right _ _ (a .since)) (le-refl v) in
     record {
-      shape = record {
-        short = ltb-true (t .shape .length) null16 (and-left _ _ shape);
-        fields = and-right _ _ shape;
-        fieldsIn = up-to v 0 (fieldSinces (t .shape .fields)) (and-left _ _ (a .since));
-        datasIn = up-to v 0 (dataSinces (t .shape .datas)) (and-left _ _ s₁);
-      };
-      groups = good-groups v (t .groups) (and-right _ _ (a .layout)) (and-right _ _ s₂) up;
-      groupsIn = up;
+      shape = good-shape v 0 v (t .shape) (and-left _ _ (a .layout)) (and-left _ _ (a .since)) (le-refl v);
+      groups = gs .0;
+      groupsIn = gs .1;
     }

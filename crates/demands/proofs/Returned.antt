@@ -59,8 +59,9 @@ root-read b t m r w ve le e =
     let zd : 0 ≡ dataCount m - present v ds = omega (arith, d) in
     record {
       root = p₄ .value;
-      groups-is = g ∙ present-up v gs (w .groupsIn);
-      datas-is = d ∙ present-up v ds (w .shape .datasIn) ∙ length-map (t .shape .datas) (λ (x : Data). x .since);
+      groups-is = g ∙ present-up v v gs (w .groupsIn) (le-refl v);
+      datas-is = d ∙ present-up v v ds (w .shape .datasIn) (le-refl v)
+          ∙ length-map (t .shape .datas) (λ (x : Data). x .since);
       reads = ap (λ (x : ℕ). readBlock m v (t .shape) (readGroups m v (t .groups) x) 0 (t .shape .length) headerSize) zg
           ∙ ap (λ (x : ℕ). readBlock m v (t .shape) (readGroups m v (t .groups) (groupCount m - present v gs)) x
           (t .shape .length) headerSize) zd

@@ -12,7 +12,7 @@ use Rattle.layout.specs.Result.{Result, _>>=_, done, if_then_else_, must, orRef
 use Rattle.layout.specs.Octets.{number16}
 use Rattle.layout.specs.Book.{Book, Data, Field, Groups, Shape, Template, dataSinces, findTemplate, groupSinces, more}
 use Rattle.layout.specs.Book.{none, present}
-use Rattle.layout.specs.BookRules.{bookOf, layoutGood, rising, sinceGood}
+use Rattle.layout.specs.BookRules.{bookOf, layoutGood}
 use Rattle.layout.specs.Values.{Step, Values, entry, nil}
 use Rattle.layout.specs.Message.{blockLength, countGood, readMessage, readRoot, templateId, versionOf}
 use Rattle.layout.specs.Reading.{checkOf, groupHas, hasElement, hasPlace, placeIn, placeOf}
@@ -20,7 +20,8 @@ use Rattle.layout.specs.Extension.{AddsDatas, Extends, ExtendsGroups, ExtendsSh
 use Rattle.layout.specs.All.{all}
 use Rattle.demands.proofs.Beside.{keptBlock, present-groups, sees-block, sees-groups}
 use Rattle.demands.proofs.Kept.{kept, kept-answer}
-use Rattle.demands.proofs.Needs.{need-adds, present-absent, present-all, present-append, present-most}
+use Rattle.demands.proofs.Needs.{need-adds, present-absent, present-append, present-most}
+use Rattle.demands.proofs.Present.{UpTo, present-up, writable}
 use Rattle.demands.proofs.Sees.{Sees, seen-done, sees-bind, sees-done, sees-leb, sees-must, sees-same, sees-then}
 use Rattle.layout.proofs.Accepted.{accepted, found-holds}
 use Rattle.layout.proofs.Results.{and-left, and-right, bind-done, inv-bind, inv-must}
@@ -30,7 +31,7 @@ use Rattle.layout.specs.declared.Element as Element
 
 -- ---- the header's counts: so and sn are the groupSinces of the older and of the newer
 
-module _ (vo vn v : ℕ) (so sn : List ℕ) (newer : vo < vn) (all : rising vo 0 so ≡ true)
+module _ (vo vn v : ℕ) (so sn : List ℕ) (newer : vo < vn) (all : UpTo vo so)
     (least : present v so ≤ present v sn)
     (same : v ≤ vo → present v so ≡ present v sn) where
   -- The count that the newer book allows covers what it knows.
@@ -52,7 +53,7 @@ module _ (vo vn v : ℕ) (so sn : List ℕ) (newer : vo < vn) (all : rising vo 0
           rw (same h) (rw (le-leb v vn (omega arith)) at e)
       go false q =
           let h : vo < v = leb-false v vo q in
-          le-leb (length so) n (omega (arith, count-covers n e, present-all v vo 0 so all (omega arith)))
+          le-leb (length so) n (omega (arith, count-covers n e, present-up v vo so all (omega arith)))
 
   count-same : (n : ℕ) → v ≤ vo → countGood vo v so n ≡ countGood vn v sn n
   unfolding countGood if_then_else_
@@ -74,7 +75,9 @@ present-datas v limit old new a = rw (a .first, map-append old (a .added))
     map-append (x ∷ xs) ys = ap (λ (r : List ℕ). x .since ∷ r) (map-append xs ys)
 
 module _ (vo vn : ℕ) (old : Template) (news : List Template) (m : List ℕ) (strict : Bool) (newer : vo < vn)
-    (x : StandsIn vo old news) (layout : layoutGood (x .newer) ≡ true) (since : sinceGood vo old ≡ true)
+    (x : StandsIn vo old news) (layout : layoutGood (x .newer) ≡ true)
+    (datasIn : UpTo vo (dataSinces (old .shape .datas)))
+    (groupsIn : UpTo vo (groupSinces (old .groups)))
     (early : strict ≡ true → versionOf m ≤ vo) where
   sees-root : Sees strict (kept (old .shape) (old .groups)) (readRoot vo old m) (readRoot vn (x .newer) m)
   unfolding readRoot kept
@@ -85,8 +88,6 @@ module _ (vo vn : ℕ) (old : Template) (news : List Template) (m : List ℕ) (s
       let datas = x .shape .datas in
       let g = present-groups m v strict vo true (old .groups) (new .groups) (x .groups) in
       let d = present-datas v vo (old .shape .datas) (new .shape .datas) datas in
-      let sinceDatas = and-left _ _ (and-right _ _ since) in
-      let sinceGroups = and-left _ _ (and-right _ _ (and-right _ _ since)) in
       let dl : present v (dataSinces (old .shape .datas)) ≤ present v (dataSinces (new .shape .datas)) =
       omega (arith, d) in
       let de : v ≤ vo → present v (dataSinces (old .shape .datas)) ≡ present v (dataSinces (new .shape .datas)) =
@@ -95,18 +96,18 @@ module _ (vo vn : ℕ) (old : Template) (news : List Template) (m : List ℕ) (s
       (sees-leb strict _ _ _ 14 0 (need-adds strict v vo (new .shape .length) (old .shape .fields)
       (new .shape .fields) fields (and-right _ _ (and-left _ _ layout)) early)) λ _.
       sees-then strict (λ (u : Unit {0}). u) _ _ _ _ _
-      (sees-count vo vn v (groupSinces (old .groups)) (groupSinces (new .groups)) newer sinceGroups (g .0) (g .1) strict
+      (sees-count vo vn v (groupSinces (old .groups)) (groupSinces (new .groups)) newer groupsIn (g .0) (g .1) strict
       (number16 m 8) 8 early) λ _ cg.
       sees-then strict (λ (u : Unit {0}). u) _ _ _ _ _
       (sees-count vo vn v (dataSinces (old .shape .datas))
-      (dataSinces (new .shape .datas)) newer sinceDatas dl de strict (number16 m 10) 10 early) λ _ cd.
+      (dataSinces (new .shape .datas)) newer datasIn dl de strict (number16 m 10) 10 early) λ _ cd.
       sees-bind strict (keptBlock (old .shape) (old .groups)) _ _ _ _ _
       (sees-block m v strict vo (old .shape) (new .shape) (old .groups) _ _ _ _ (blockLength m) 12 fields datas
       (omega (
         arith,
         d,
         count-covers vo vn v (dataSinces (old .shape .datas))
-            (dataSinces (new .shape .datas)) newer sinceDatas dl de (number16 m 10) (inv-must _ _ _ _ cd),
+            (dataSinces (new .shape .datas)) newer datasIn dl de (number16 m 10) (inv-must _ _ _ _ cd),
       )) λ y.
       sees-groups m v strict vo true (old .groups) (new .groups) (old .shape) _ _ y (x .groups)
       (and-right _ _ layout) early
@@ -114,7 +115,7 @@ module _ (vo vn : ℕ) (old : Template) (news : List Template) (m : List ℕ) (s
         arith,
         g .0,
         count-covers vo vn v (groupSinces (old .groups))
-            (groupSinces (new .groups)) newer sinceGroups (g .0) (g .1) (number16 m 8) (inv-must _ _ _ _ cg),
+            (groupSinces (new .groups)) newer groupsIn (g .0) (g .1) (number16 m 8) (inv-must _ _ _ _ cg),
       ))) λ b.
       sees-bind strict (λ (u : Unit {0}). u) _ _ _ _ _ (sees-same strict _) λ _.
       sees-done strict _ (entry (b .0) (b .1) (b .2) nil) _ refl
@@ -185,10 +186,11 @@ module _ (o n : List ℕ) (old new : Book) (ao : bookOf o ≡ done old) (an : bo
       → Sees strict (kept (t .shape) (t .groups)) (readMessage old m) (readMessage new m)
   unfolding readMessage orRefuse newer
   sees-message strict h =
+      let w = writable old t (accepted o old (templateId m) t ao e .1) in
       rw (x .schema, e, there, bind-done, bind-done)
       (sees-bind strict (λ (u : Unit {0}). u) _ _ _ _ _ (sees-same strict _) λ _.
       sees-root (old .version) (new .version) t (new .templates) m strict (x .version) (stands .1)
-      (accepted n new (templateId m) newer an there .1 .layout) (accepted o old (templateId m) t ao e .1 .since) h)
+      (accepted n new (templateId m) newer an there .1 .layout) (w .shape .datasIn) (w .groupsIn) h)
 
   older-reads : (r : Values) → readMessage new m ≡ done r → readMessage old m ≡ done (kept (t .shape) (t .groups) r)
   older-reads r q = seen-done false _ _ _ r (sees-message false λ z. absurd (false≢true z)) q

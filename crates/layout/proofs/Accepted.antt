@@ -8,11 +8,11 @@ use native.Mathlib.Omega.{arith}
 use lib.Dec.{eqb}
 use lib.ListN.{length}
 use borrow.Author.Tests.{eqb-true, leb-true, ltb-true}
-use Rattle.layout.specs.Result.{Each, done, if_then_else_}
+use Rattle.layout.specs.Result.{Each, Result, done, if_then_else_, refused}
 use Rattle.layout.specs.Octets.{null16}
 use Rattle.layout.specs.Book.{Book, Groups, Shape, Template, findTemplate, groupSinces}
-use Rattle.layout.specs.BookRules.{ContentsRow, bookOf, contentsGood, eachMust, layoutGood, parseBodies}
-use Rattle.layout.specs.BookRules.{parseBody, parseDatas, parseGroups, parseShape, sinceGood, word}
+use Rattle.layout.specs.BookRules.{ContentsRow, bookOf, contentsGood, eachMust, inTemplate, layoutGood}
+use Rattle.layout.specs.BookRules.{parseBodies, parseBody, parseDatas, parseGroups, parseShape, sinceGood, word}
 use Rattle.layout.proofs.Results.{and-left, and-right, done-inj, inv-bind, inv-must}
 
 pub record Accepted (b : Book) (t : Template) : Type 0 where
@@ -32,10 +32,10 @@ unfolding parseDatas
 datas-length b zero w = refl
 datas-length b (suc n) w = ap suc (datas-length b n (w + 2))
 
-shape-few : (t : ℕ) (b : List ℕ) (few w : ℕ) (r : Shape × ℕ × ℕ) → parseShape t b few w ≡ done r
+shape-few : (b : List ℕ) (few w : ℕ) (r : Shape × ℕ × ℕ) → parseShape b few w ≡ done r
     → (length (r .0 .datas) ≤ 16) × (r .1 ≤ 16)
 unfolding parseShape
-shape-few t b few w r e =
+shape-few b few w r e =
     let p = inv-bind _ _ _ (inv-bind _ _ _ e .next) in
     let h = and-right _ _ (and-right _ _ (inv-must _ _ _ _ (p .first))) in
     let f = word b (w + 1) in
@@ -44,31 +44,36 @@ shape-few t b few w r e =
     subst (λ (x : Shape × ℕ × ℕ). (length (x .0 .datas) ≤ 16) × (x .1 ≤ 16)) (done-inj (inv-bind _ _ _ (p .next) .next))
     (omega (arith, datas-length b d (w + 4 + 6 * f), leb-true d 16 (and-right _ _ h)), leb-true g 16 (and-left _ _ h))
 
-groups-length : (t : ℕ) (b : List ℕ) (depth n w : ℕ) (r : Groups × ℕ) → parseGroups t b depth n w ≡ done r
+groups-length : (b : List ℕ) (depth n w : ℕ) (r : Groups × ℕ) → parseGroups b depth n w ≡ done r
     → length (groupSinces (r .0)) ≡ n
 unfolding parseGroups groupSinces
-groups-length t b zero zero w r e = ap (λ (x : Groups × ℕ). length (groupSinces (x .0))) (sym (done-inj e))
-groups-length t b (suc depth) zero w r e = ap (λ (x : Groups × ℕ). length (groupSinces (x .0))) (sym (done-inj e))
-groups-length t b zero (suc n) w r e = cc
-groups-length t b (suc depth) (suc n) w r e =
+groups-length b zero zero w r e = ap (λ (x : Groups × ℕ). length (groupSinces (x .0))) (sym (done-inj e))
+groups-length b (suc depth) zero w r e = ap (λ (x : Groups × ℕ). length (groupSinces (x .0))) (sym (done-inj e))
+groups-length b zero (suc n) w r e = cc
+groups-length b (suc depth) (suc n) w r e =
     let p = inv-bind _ _ _ e in
     let q = inv-bind _ _ _ (p .next) in
     let k = inv-bind _ _ _ (q .next) in
     subst (λ (x : Groups × ℕ). length (groupSinces (x .0)) ≡ suc n) (done-inj (k .next))
-    (ap suc (groups-length t b (suc depth) n (q .value .1) (k .value) (k .first)))
+    (ap suc (groups-length b (suc depth) n (q .value .1) (k .value) (k .first)))
 
-abbrev Few : Template → Type 0
-Few t = (length (groupSinces (t .groups)) ≤ 16) × (length (t .shape .datas) ≤ 16)
+abbrev Few : Shape → Groups → Type 0
+Few s gs = (length (groupSinces gs) ≤ 16) × (length (s .datas) ≤ 16)
 
-body-few : (n id : ℕ) (b : List ℕ) (t : Template) → parseBody n id b ≡ done t → (t .id ≡ id) × Few t
+body-few : (b : List ℕ) (r : Shape × Groups) → parseBody b ≡ done r → Few (r .0) (r .1)
 unfolding parseBody
-body-few n id b t e =
+body-few b r e =
     let p = inv-bind _ _ _ e in
     let q = inv-bind _ _ _ (p .next) in
     let k = inv-bind _ _ _ (q .next) in
-    let s = shape-few n b 0 0 (p .value) (p .first) in
-    subst (λ (x : Template). (x .id ≡ id) × Few x) (done-inj (k .next))
-    (refl, (omega (arith, groups-length n b 4 (p .value .1) (p .value .2) (q .value) (q .first), s .1), s .0))
+    let s = shape-few b 0 0 (p .value) (p .first) in
+    subst (λ (x : Shape × Groups). Few (x .0) (x .1)) (done-inj (k .next))
+    (omega (arith, groups-length b 4 (p .value .1) (p .value .2) (q .value) (q .first), s .1), s .0)
+
+inv-template : {A : Type 0} (t : ℕ) (x : Result A) (a : A) → inTemplate t x ≡ done a → x ≡ done a
+unfolding inTemplate
+inv-template t (done b) a e = e
+inv-template t (refused n p) a e = cc
 
 -- ---- what holds of each template holds of the one that is found
 
@@ -95,20 +100,18 @@ each-good f n k (x ∷ xs) u e =
     (inv-must _ _ _ _ (p .first), each-good f n (suc k) xs u (p .next))
 
 each-few : (b : List ℕ) (n total low at : ℕ) (rows : List ContentsRow) (ts : List Template)
-    → contentsGood total low at rows ≡ true
-    → parseBodies b n rows ≡ done ts → Each (λ t. (t .id < null16) × Few t) ts
+    → contentsGood total low at rows ≡ true → parseBodies b n rows ≡ done ts
+    → Each (λ t. (t .id < null16) × Few (t .shape) (t .groups)) ts
 unfolding contentsGood parseBodies Each
 each-few b n total low at [] ts g e = subst (Each _) (done-inj e) tt
 each-few b n total low at (r ∷ rs) ts g e =
     let p = inv-bind _ _ _ e in
     let q = inv-bind _ _ _ (p .next) in
-    let f = body-few n (r .id) _ (p .value) (p .first) in
     let g₁ = and-right _ _ g in
     let g₂ = and-right _ _ (and-right _ _ g₁) in
     subst (Each _) (done-inj (q .next)) (
-      (rw (f .0) (ltb-true (r .id) null16 (and-left _ _ g₁)), f .1),
-      each-few b (suc n) total (suc (r .id))
-          (at + r .words) rs (q .value) g₂ (q .first),
+      (ltb-true (r .id) null16 (and-left _ _ g₁), body-few _ (p .value) (inv-template n _ _ (p .first))),
+      each-few b (suc n) total (suc (r .id)) (at + r .words) rs (q .value) g₂ (q .first),
     )
 
 pub accepted : (octets : List ℕ) (b : Book) (id : ℕ) (t : Template) → bookOf octets ≡ done b

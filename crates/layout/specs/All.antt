@@ -4,8 +4,8 @@ use Rattle.layout.specs.Octets.{numberOf, octetsOf, wordsOf}
 use Rattle.layout.specs.Types.{valueOf, inRange, classify}
 use Rattle.layout.specs.Book.{findTemplate, needAfter, groupSinces, present}
 use Rattle.layout.specs.BookRules.{parseFields, parseDatas, parseShape, parseGroups, parseBody, fieldsGood}
-use Rattle.layout.specs.BookRules.{groupsGood, rising, allAre, groupsSince, parseContents, contentsGood}
-use Rattle.layout.specs.BookRules.{parseBodies, eachMust, bookOf}
+use Rattle.layout.specs.BookRules.{groupsGood, rising, fieldsSince, groupsSince, parseContents, contentsGood}
+use Rattle.layout.specs.BookRules.{inTemplate, parseBodies, eachMust, bookOf}
 use Rattle.layout.specs.Values.{recordOf, recordsOf, listing, measure, groupOf, entriesOf, entriesFrom}
 use Rattle.layout.specs.Values.{groupsIn, elementOf, elementIn, answerAt}
 use Rattle.layout.specs.Message.{readData, skipDatas, readDimension, skipGroups, readEntries, readField}
@@ -23,8 +23,8 @@ unfolding
     numberOf octetsOf wordsOf
     valueOf inRange classify
     findTemplate needAfter groupSinces present
-    parseFields parseDatas parseShape parseGroups parseBody fieldsGood groupsGood rising allAre groupsSince
-    parseContents contentsGood parseBodies eachMust bookOf
+    parseFields parseDatas parseShape parseGroups parseBody fieldsGood groupsGood rising fieldsSince
+    groupsSince parseContents contentsGood inTemplate parseBodies eachMust bookOf
     recordOf recordsOf listing measure groupOf entriesOf entriesFrom groupsIn elementOf elementIn answerAt
     readData skipDatas readDimension skipGroups readEntries readField readDatas readBlock readGroup readGroups
     headerWhole checkHeader countGood readRoot readMessage

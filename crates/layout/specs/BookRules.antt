@@ -10,7 +10,7 @@ use Rattle.layout.specs.Octets.{wordsOf, null16}
 use Rattle.layout.specs.Book.{Field, Data, Shape, Groups, none, more, Template, Book}
 use Rattle.layout.specs.Book.{end, fieldSinces, dataSinces, groupSinces}
 
--- ---- 4: the tree of a body, t being its template's number, b its words, and w a word of it
+-- ---- 4: the tree of a body, b being its words and w one of them
 
 abbrev pub word : List ℕ → ℕ → ℕ
 word b w = getD b w 0
@@ -35,37 +35,37 @@ parseDatas b (suc n) w = record { id = word b w; since = word b (w + 1) } ∷ pa
 -- "Block: declared block length, number of fields (at most 64), of groups (at most 16), of data (at most 16); then the
 -- fields, the data, the groups": what precedes the groups, how many they are, and the word where they start. The block
 -- has at least `few` fields.
-unfoldable pub parseShape : ℕ → List ℕ → ℕ → ℕ → Result (Shape × ℕ × ℕ)
-parseShape t b few w = do
-  _ ← must (leb (w + 4) (length b)) 4 t
+unfoldable pub parseShape : List ℕ → ℕ → ℕ → Result (Shape × ℕ × ℕ)
+parseShape b few w = do
+  _ ← must (leb (w + 4) (length b)) 4 0
   let f = word b (w + 1)
   let g = word b (w + 2)
   let d = word b (w + 3)
   let fieldsAt = w + 4
   let datasAt = fieldsAt + 6 * f
   let groupsAt = datasAt + 2 * d
-  _ ← must (leb few f and leb f 64 and leb g 16 and leb d 16) 4 t
-  _ ← must (leb groupsAt (length b)) 4 t
+  _ ← must (leb few f and leb f 64 and leb g 16 and leb d 16) 4 0
+  _ ← must (leb groupsAt (length b)) 4 0
   done (record { length = word b w; fields = parseFields b f fieldsAt; datas = parseDatas b d datasAt }, g, groupsAt)
 
 -- n groups in a row, `depth` more levels being left, and the word after them. "A group has at least one field."
-unfoldable pub parseGroups : ℕ → List ℕ → ℕ → ℕ → ℕ → Result (Groups × ℕ)
-parseGroups t b zero zero w = done (none, w)
-parseGroups t b (suc depth) zero w = done (none, w)
-parseGroups t b zero (suc n) w = refused 4 t
-parseGroups t b (suc depth) (suc n) w = do
-  (s, g, x) ← parseShape t b 1 (w + 2)
-  (inner, y) ← parseGroups t b depth g x
-  (rest, z) ← parseGroups t b (suc depth) n y
+unfoldable pub parseGroups : List ℕ → ℕ → ℕ → ℕ → Result (Groups × ℕ)
+parseGroups b zero zero w = done (none, w)
+parseGroups b (suc depth) zero w = done (none, w)
+parseGroups b zero (suc n) w = refused 4 0
+parseGroups b (suc depth) (suc n) w = do
+  (s, g, x) ← parseShape b 1 (w + 2)
+  (inner, y) ← parseGroups b depth g x
+  (rest, z) ← parseGroups b (suc depth) n y
   done (more (word b w) (word b (w + 1)) s inner rest, z)
 
 -- "A body is one block." "Groups nest to depth four, a root group being depth one." "4: .. body words left over"
-unfoldable pub parseBody : ℕ → ℕ → List ℕ → Result Template
-parseBody t id b = do
-  (s, g, x) ← parseShape t b 0 0
-  (groups, y) ← parseGroups t b 4 g x
-  _ ← must (eqb y (length b)) 4 t
-  done (record { id = id; shape = s; groups = groups })
+unfoldable pub parseBody : List ℕ → Result (Shape × Groups)
+parseBody b = do
+  (s, g, x) ← parseShape b 0 0
+  (groups, y) ← parseGroups b 4 g x
+  _ ← must (eqb y (length b)) 4 0
+  done (s, groups)
 
 -- ---- 5: "block length, type, length, presence or offset rule"
 
@@ -95,27 +95,30 @@ layoutGood t = shapeGood (t .shape) and groupsGood (t .groups)
 
 -- ---- 6: "Since: never above the schema version; never falling along the fields, the groups or the data of a block."
 
--- From `low` on.
+-- From `low` up to `high`.
 unfoldable pub rising : ℕ → ℕ → List ℕ → Bool
-rising version low [] = true
-rising version low (s ∷ ss) = leb low s and leb s version and rising version s ss
+rising high low [] = true
+rising high low (s ∷ ss) = leb low s and leb s high and rising high s ss
 
-unfoldable pub allAre : ℕ → List ℕ → Bool
-allAre x [] = true
-allAre x (s ∷ ss) = eqb s x and allAre x ss
+-- The elements of a block have sinces from `low` to `high`, but for the fields after its first, which may be younger. In
+-- the root these are 0 and the version; in a group both are its own since: "its first field's since is the group's own;
+-- data and groups inside a group have the since of that group".
+unfoldable pub fieldsSince : ℕ → ℕ → ℕ → List ℕ → Bool
+fieldsSince version low high [] = true
+fieldsSince version low high (s ∷ ss) = leb low s and leb s high and rising version s ss
 
--- "its first field's since is the group's own; data and groups inside a group have the since of that group"
-unfoldable pub groupsSince : ℕ → Groups → Bool
-groupsSince version none = true
-groupsSince version (more i since s inner rest) =
-    eqb (getD (fieldSinces (s .fields)) 0 null16) since and rising version since (fieldSinces (s .fields))
-    and allAre since (dataSinces (s .datas)) and allAre since (groupSinces inner)
-    and groupsSince version inner and groupsSince version rest
+abbrev pub shapeSince : ℕ → ℕ → ℕ → Shape → Bool
+shapeSince version low high s =
+    fieldsSince version low high (fieldSinces (s .fields)) and rising high low (dataSinces (s .datas))
+
+unfoldable pub groupsSince : ℕ → ℕ → ℕ → Groups → Bool
+groupsSince version low high none = true
+groupsSince version low high (more i since s inner rest) =
+    leb low since and leb since high and shapeSince version since since s and groupsSince version since since inner
+    and groupsSince version since high rest
 
 abbrev pub sinceGood : ℕ → Template → Bool
-sinceGood version t =
-    rising version 0 (fieldSinces (t .shape .fields)) and rising version 0 (dataSinces (t .shape .datas))
-    and rising version 0 (groupSinces (t .groups)) and groupsSince version (t .groups)
+sinceGood version t = shapeSince version 0 version (t .shape) and groupsSince version 0 version (t .groups)
 
 -- ---- 1, 2 and 3, and the whole book
 
@@ -137,13 +140,18 @@ contentsGood total low at [] = eqb at total
 contentsGood total low at (r ∷ rs) =
     leb low (r .id) and ltb (r .id) null16 and eqb (r .first) at and contentsGood total (suc (r .id)) (at + r .words) rs
 
+-- 4 to 6 are placed at the "template's number".
+unfoldable pub inTemplate : {A : Type 0} → ℕ → Result A → Result A
+inTemplate t (done a) = done a
+inTemplate t (refused n p) = refused n t
+
 -- The templates of the rows, of which the first has number t.
 unfoldable pub parseBodies : List ℕ → ℕ → List ContentsRow → Result (List Template)
 parseBodies b t [] = done []
 parseBodies b t (r ∷ rs) = do
-  x ← parseBody t (r .id) (take (r .words) (drop (r .first) b))
+  (s, gs) ← inTemplate t (parseBody (take (r .words) (drop (r .first) b)))
   xs ← parseBodies b (suc t) rs
-  done (x ∷ xs)
+  done (record { id = r .id; shape = s; groups = gs } ∷ xs)
 
 -- Refusal n at the first template that fails the test, the first of these having number t.
 unfoldable pub eachMust : (Template → Bool) → ℕ → ℕ → List Template → Result (Unit {0})
