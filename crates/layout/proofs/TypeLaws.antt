@@ -9,7 +9,8 @@ use lib.Dec.{eqb, leb}
 use borrow.Author.Tests.{le-leb, leb-true, lt-leb, ne-eqb}
 use Rattle.layout.specs.Result.{_and_, _or_, if_then_else_}
 use Rattle.layout.specs.Octets.{octetsOf}
-use Rattle.layout.specs.Types.{TypeRow, char, inRange, int, typeAt, uint, valueOf}
+use Rattle.layout.specs.Types.{TypeRow, char, inRange, int, isWidth, typeAt, uint, valueOf}
+use Rattle.layout.specs.Cases.{listed}
 use Rattle.layout.proofs.Results.{and-right, either, or-right}
 
 -- A width of the table: its numbers are even in number, and 2 ^ 64 is a multiple of that.
@@ -18,21 +19,26 @@ pub record Width (w : ℕ) : Type 0 where
   pub whole : above * 256 ^ w + 256 ^ w ≡ 2 ^ 64
   pub even : 256 ^ w / 2 + 256 ^ w / 2 ≡ 256 ^ w
   pub some-are : 0 < 256 ^ w
+  pub listed : isWidth w ≡ true
 
 one : Width 1
-one = record { above = 256 ^ 7 - 1; whole = refl; even = refl; some-are = omega arith }
+unfolding _or_
+one = record { above = 256 ^ 7 - 1; whole = refl; even = refl; some-are = omega arith; listed = refl }
 
 two : Width 2
-two = record { above = 256 ^ 6 - 1; whole = refl; even = refl; some-are = omega arith }
+unfolding _or_
+two = record { above = 256 ^ 6 - 1; whole = refl; even = refl; some-are = omega arith; listed = refl }
 
 four : Width 4
-four = record { above = 256 ^ 4 - 1; whole = refl; even = refl; some-are = omega arith }
+unfolding _or_
+four = record { above = 256 ^ 4 - 1; whole = refl; even = refl; some-are = omega arith; listed = refl }
 
 eight : Width 8
-eight = record { above = 0; whole = refl; even = refl; some-are = omega arith }
+unfolding _or_
+eight = record { above = 0; whole = refl; even = refl; some-are = omega arith; listed = refl }
 
 -- What holds of char and, at every width, of the signed and the unsigned type holds of the table.
-each-type : (P : TypeRow → Type 0) → P char → ((w : ℕ) → Width w → P (int w)) → ((w : ℕ) → Width w → P (uint w))
+pub each-type : (P : TypeRow → Type 0) → P char → ((w : ℕ) → Width w → P (int w)) → ((w : ℕ) → Width w → P (uint w))
     → (t : ℕ) → t < 9 → P (typeAt t)
 each-type P c i u zero h = c
 each-type P c i u (suc zero) h = i 1 one

@@ -45,6 +45,10 @@ noType = record { width = 0; signed = false; least = 0; greatest = 0; null = 0 }
 abbrev pub typeAt : ℕ → TypeRow
 typeAt t = getD types t noType
 
+-- "1, 2, 4, 8"
+abbrev pub isWidth : ℕ → Bool
+isWidth w = eqb w 1 or eqb w 2 or eqb w 4 or eqb w 8
+
 -- "Signed numbers are two's complement": the value of the number x that a type's octets are.
 unfoldable pub valueOf : TypeRow → ℕ → ℕ
 valueOf k x = if k .signed and leb (256 ^ k .width / 2) x then x + (2 ^ 64 - 256 ^ k .width) else x
