@@ -1,11 +1,11 @@
 -- Everything that computes, under one name: what says `unfolding all` is evaluated to its answer.
-use Rattle.layout.specs.Result.{_>>=_, must, orRefuse, _and_, _or_, if_then_else_}
+use Rattle.layout.specs.Result.{_>>=_, must, orRefuse, asRefusal, _and_, _or_, if_then_else_}
 use Rattle.layout.specs.Octets.{numberOf, octetsOf, wordsOf}
 use Rattle.layout.specs.Types.{valueOf, inRange, classify}
 use Rattle.layout.specs.Book.{findTemplate, needAfter, groupSinces, present}
 use Rattle.layout.specs.BookRules.{parseFields, parseDatas, parseShape, parseGroups, parseBody, fieldsGood}
 use Rattle.layout.specs.BookRules.{groupsGood, rising, fieldsSince, groupsSince, parseContents, contentsGood}
-use Rattle.layout.specs.BookRules.{inTemplate, parseBodies, eachMust, bookOf}
+use Rattle.layout.specs.BookRules.{parseBodies, eachMust, bookOf}
 use Rattle.layout.specs.Values.{recordOf, recordsOf, listing, measure, groupOf, entriesOf, entriesFrom}
 use Rattle.layout.specs.Values.{groupsIn, elementOf, elementIn, answerAt}
 use Rattle.layout.specs.Message.{readData, skipDatas, readDimension, skipGroups, readEntries, readField}
@@ -19,12 +19,12 @@ use Rattle.layout.specs.Writing.{writeOf}
 
 unfoldable pub all : Unit {0}
 unfolding
-    _>>=_ must orRefuse _and_ _or_ if_then_else_
+    _>>=_ must orRefuse asRefusal _and_ _or_ if_then_else_
     numberOf octetsOf wordsOf
     valueOf inRange classify
     findTemplate needAfter groupSinces present
     parseFields parseDatas parseShape parseGroups parseBody fieldsGood groupsGood rising fieldsSince
-    groupsSince parseContents contentsGood inTemplate parseBodies eachMust bookOf
+    groupsSince parseContents contentsGood parseBodies eachMust bookOf
     recordOf recordsOf listing measure groupOf entriesOf entriesFrom groupsIn elementOf elementIn answerAt
     readData skipDatas readDimension skipGroups readEntries readField readDatas readBlock readGroup readGroups
     headerWhole checkHeader countGood readRoot readMessage

@@ -5,7 +5,7 @@ use mathlib.Core.List.{List, [], _∷_}
 use Prim.Native.Nat.{ℕ, zero, suc, _+_, _*_, _%_}
 use lib.Dec.{leb, ltb, eqb}
 use lib.ListN.{length, getD, take, drop}
-use Rattle.layout.specs.Result.{Result, done, refused, _>>=_, must, _and_, _or_}
+use Rattle.layout.specs.Result.{Result, done, refused, _>>=_, must, asRefusal, _and_, _or_}
 use Rattle.layout.specs.Octets.{wordsOf, null16}
 use Rattle.layout.specs.Book.{Field, Data, Shape, Groups, none, more, Template, Book}
 use Rattle.layout.specs.Book.{end, fieldSinces, dataSinces, groupSinces}
@@ -140,16 +140,11 @@ contentsGood total low at [] = eqb at total
 contentsGood total low at (r ∷ rs) =
     leb low (r .id) and ltb (r .id) null16 and eqb (r .first) at and contentsGood total (suc (r .id)) (at + r .words) rs
 
--- 4 to 6 are placed at the "template's number".
-unfoldable pub inTemplate : {A : Type 0} → ℕ → Result A → Result A
-inTemplate t (done a) = done a
-inTemplate t (refused n p) = refused n t
-
 -- The templates of the rows, of which the first has number t.
 unfoldable pub parseBodies : List ℕ → ℕ → List ContentsRow → Result (List Template)
 parseBodies b t [] = done []
 parseBodies b t (r ∷ rs) = do
-  (s, gs) ← inTemplate t (parseBody (take (r .words) (drop (r .first) b)))
+  (s, gs) ← asRefusal (parseBody (take (r .words) (drop (r .first) b))) 4 t
   xs ← parseBodies b (suc t) rs
   done (record { id = r .id; shape = s; groups = gs } ∷ xs)
 

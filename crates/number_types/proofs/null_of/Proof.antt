@@ -2,8 +2,8 @@
 use borrow.Author.Needs.{needs}
 use lib.ListN.{List·getD-map}
 use Rattle.layout.specs.Types.{TypeRow, noType, types}
-use Rattle.types.proofs.null_of.Statement.{statement}
-use Rattle.types.proofs.null_of.Tie as tie
+use Rattle.number_types.proofs.null_of.Statement.{statement}
+use Rattle.number_types.proofs.null_of.Tie as tie
 
 pub null-of-spec : {M : Type 1} → statement M
 null-of-spec =

@@ -2,8 +2,8 @@
 use borrow.Author.Needs.{needs}
 use Rattle.layout.specs.Result.{if_then_else_}
 use Rattle.layout.specs.Types.{classify}
-use Rattle.types.proofs.classify.Statement.{statement}
-use Rattle.types.proofs.classify.Tie as tie
+use Rattle.number_types.proofs.classify.Statement.{statement}
+use Rattle.number_types.proofs.classify.Tie as tie
 
 returns : tie.Need-returns
 unfolding classify if_then_else_

@@ -2,8 +2,8 @@
 use borrow.Author.Needs.{needs}
 use lib.ListN.{List·getD-map}
 use Rattle.layout.specs.Types.{TypeRow, noType, types}
-use Rattle.types.proofs.greatest_of.Statement.{statement}
-use Rattle.types.proofs.greatest_of.Tie as tie
+use Rattle.number_types.proofs.greatest_of.Statement.{statement}
+use Rattle.number_types.proofs.greatest_of.Tie as tie
 
 pub greatest-of-spec : {M : Type 1} → statement M
 greatest-of-spec =

@@ -3,8 +3,8 @@ use borrow.Author.Needs.{needs}
 use borrow.Author.Tests.{le-leb, lt-leb}
 use Rattle.layout.specs.Result.{_and_, _or_, if_then_else_}
 use Rattle.layout.specs.Types.{inRange}
-use Rattle.types.proofs.in_range.Statement.{statement}
-use Rattle.types.proofs.in_range.Tie as tie
+use Rattle.number_types.proofs.in_range.Statement.{statement}
+use Rattle.number_types.proofs.in_range.Tie as tie
 
 returns : tie.Need-returns
 unfolding inRange if_then_else_ _or_

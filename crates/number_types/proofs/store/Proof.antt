@@ -1,9 +1,9 @@
 -- Each arm stores the width that it names; the last one's is 8.
 use native.Mathlib.Omega.{arith}
 use borrow.Author.Needs.{needs}
-use Rattle.types.proofs.Laws.{width-eight}
-use Rattle.types.proofs.store.Statement.{statement}
-use Rattle.types.proofs.store.Tie as tie
+use Rattle.number_types.proofs.Laws.{width-eight}
+use Rattle.number_types.proofs.store.Statement.{statement}
+use Rattle.number_types.proofs.store.Tie as tie
 
 put8-requires : tie.Need-put8-requires
 put8-requires c κs =

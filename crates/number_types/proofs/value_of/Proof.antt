@@ -5,9 +5,9 @@ use native.Mathlib.Omega.{arith}
 use borrow.Author.Needs.{needs}
 use Rattle.layout.specs.Result.{_and_, if_then_else_}
 use Rattle.layout.specs.Types.{typeAt, valueOf}
-use Rattle.types.proofs.Laws.{Signed, signed, value-fits, value-high, value-low}
-use Rattle.types.proofs.value_of.Statement.{statement}
-use Rattle.types.proofs.value_of.Tie as tie
+use Rattle.number_types.proofs.Laws.{Signed, signed, value-fits, value-high, value-low}
+use Rattle.number_types.proofs.value_of.Statement.{statement}
+use Rattle.number_types.proofs.value_of.Tie as tie
 
 is-signed : (c : tie.Then1) → typeAt (c .before .before .args .t) .signed ≡ true
 is-signed c = sym (c .before .is-signed .ensures) ∙ c .if1 .taken

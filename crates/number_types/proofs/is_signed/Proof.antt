@@ -3,8 +3,8 @@ use mathlib.Core.Bool.{false}
 use borrow.Author.Needs.{needs}
 use lib.ListN.{List·getD-map}
 use Rattle.layout.specs.Types.{TypeRow, noType, types}
-use Rattle.types.proofs.is_signed.Statement.{statement}
-use Rattle.types.proofs.is_signed.Tie as tie
+use Rattle.number_types.proofs.is_signed.Statement.{statement}
+use Rattle.number_types.proofs.is_signed.Tie as tie
 
 pub is-signed-spec : {M : Type 1} → statement M
 is-signed-spec =

@@ -1,9 +1,9 @@
 -- Each arm reads the width that it names; the last one's is 8.
 use native.Mathlib.Omega.{arith}
 use borrow.Author.Needs.{needs}
-use Rattle.types.proofs.Laws.{width-eight}
-use Rattle.types.proofs.raw.Statement.{statement}
-use Rattle.types.proofs.raw.Tie as tie
+use Rattle.number_types.proofs.Laws.{width-eight}
+use Rattle.number_types.proofs.raw.Statement.{statement}
+use Rattle.number_types.proofs.raw.Tie as tie
 
 get8-requires : tie.Need-get8-requires
 get8-requires c κs =

@@ -1,8 +1,8 @@
 -- Each arm is the test by its first half.
 use borrow.Author.Needs.{needs}
 use Rattle.layout.specs.Result.{_and_}
-use Rattle.types.proofs.is_null.Statement.{statement}
-use Rattle.types.proofs.is_null.Tie as tie
+use Rattle.number_types.proofs.is_null.Statement.{statement}
+use Rattle.number_types.proofs.is_null.Tie as tie
 
 returns : tie.Need-returns
 unfolding _and_

@@ -2,9 +2,9 @@
 use mathlib.Core.Path.{refl}
 use native.Mathlib.Omega.{arith}
 use borrow.Author.Needs.{needs}
-use Rattle.types.proofs.Laws.{is-width}
-use Rattle.types.proofs.read.Statement.{statement}
-use Rattle.types.proofs.read.Tie as tie
+use Rattle.number_types.proofs.Laws.{is-width}
+use Rattle.number_types.proofs.read.Statement.{statement}
+use Rattle.number_types.proofs.read.Tie as tie
 
 raw-requires : tie.Need-raw-requires
 raw-requires c κs = (rw (c .width-of .ensures) (is-width _ (c .before .before .pre .0)), omega arith)

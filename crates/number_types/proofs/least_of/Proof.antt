@@ -2,8 +2,8 @@
 use borrow.Author.Needs.{needs}
 use lib.ListN.{List·getD-map}
 use Rattle.layout.specs.Types.{TypeRow, noType, types}
-use Rattle.types.proofs.least_of.Statement.{statement}
-use Rattle.types.proofs.least_of.Tie as tie
+use Rattle.number_types.proofs.least_of.Statement.{statement}
+use Rattle.number_types.proofs.least_of.Tie as tie
 
 pub least-of-spec : {M : Type 1} → statement M
 least-of-spec =
