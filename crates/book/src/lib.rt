@@ -1,29 +1,21 @@
 // Checks a schema book: accepted, or the refusal 1 to 6 with its place. One walk over the words of each body finds
-// whether the body is whole (4) and, for a whole one, whether it keeps the rules of 5 and of 6.
+// whether the body is whole (4) and, if it is, whether it keeps the rules of 5 and of 6.
 use layout::Checked;
 use layout::Refusal;
-
-// What a row of groups, a block or a body comes to: not whole, or whole with the word after it, and whether the rules
-// of 5 and of 6 hold.
-pub enum Row {
-    Whole {
-        next: usize,
-        layout: bool,
-        since: bool,
-    },
-    Broken,
-}
-
-// What a block without its groups comes to: how many groups follow, and where they start.
-pub enum Block {
-    Whole {
-        groups: usize,
-        next: usize,
-        layout: bool,
-        since: bool,
-    },
-    Broken,
-}
+ghost use mathlib.Core.Path.{_≡_};
+ghost use mathlib.Core.Bool.{true};
+ghost use Prim.Native.Nat.{_+_, _*_, _/_, _%_, _<_, _≤_};
+ghost use lib.Dec.{leb, ltb, eqb};
+ghost use lib.ListN.{length};
+ghost use Rattle.layout.specs.Result.{_and_, _or_};
+ghost use Rattle.layout.specs.Octets.{wordsOf};
+ghost use Rattle.layout.specs.Types.{typeAt};
+ghost use Rattle.layout.specs.Book.{dataSinces};
+ghost use Rattle.layout.specs.BookRules.{fieldAt, parseFields, parseDatas, parseShape, parseGroups, parseBody};
+ghost use Rattle.layout.specs.BookRules.{rising, sizeGood, headGood};
+ghost use Rattle.layout.specs.Contracts.{checked, refusal, ChecksBook};
+ghost use Rattle.book.specs.Answers.{IsWord, allRules, groupRules, fieldOf, fieldsRules, blockOf, rowOf, bodyOf};
+ghost use Rattle.book.specs.Answers.{firstOf, verdictOf, BookHead, contentsKept, bodiesOf};
 
 // Whether the rules of 5 and of 6 hold.
 pub struct Rules {
@@ -31,68 +23,125 @@ pub struct Rules {
     pub since: bool,
 }
 
-fn refuse(number: u8, place: usize) -> Checked {
+// A field: whether it keeps the rules, its end and its since.
+pub struct Field {
+    pub rules: Rules,
+    pub end: usize,
+    pub since: usize,
+}
+
+// A block without its groups: how many they are, and the word where they start.
+pub enum Block {
+    Whole {
+        groups: usize,
+        next: usize,
+        rules: Rules,
+    },
+    Broken,
+}
+
+// Groups in a row: the word after them.
+pub enum Row {
+    Whole { next: usize, rules: Rules },
+    Broken,
+}
+
+pub enum Body {
+    Whole(Rules),
+    Broken,
+}
+
+// The first templates that break a rule of 5 and of 6.
+pub struct Faults {
+    pub five: usize,
+    pub six: usize,
+}
+
+// No template has this number.
+const NO_TEMPLATE: usize = 64;
+
+fn refuse(number: u8, place: usize) -> Checked
+    ensures { λ r. ⌜ r ≡ Checked.Refused (refusal number place) ⌝ }
+{
     Checked::Refused(Refusal { number, place })
 }
 
-fn both(a: bool, b: bool) -> bool {
+fn both(a: bool, b: bool) -> bool
+    ensures { λ r. ⌜ r ≡ (a and b) ⌝ }
+{
     if a { b } else { false }
 }
 
+fn either(a: bool, b: bool) -> bool
+    ensures { λ r. ⌜ r ≡ (a or b) ⌝ }
+{
+    if a { true } else { b }
+}
+
+fn between(low: usize, x: usize, high: usize) -> bool
+    ensures { λ r. ⌜ r ≡ (leb low x and leb x high) ⌝ }
+{
+    both(low <= x, x <= high)
+}
+
+fn all_rules(a: Rules, b: Rules) -> Rules
+    ensures { λ r. ⌜ r ≡ allRules a b ⌝ }
+{
+    Rules {
+        layout: both(a.layout, b.layout),
+        since: both(a.since, b.since),
+    }
+}
+
 // Word w.
-pub fn word(s: &[u8], w: usize) -> usize {
+pub fn word(s: &[u8], w: usize) -> usize
+    requires { ⌜ w + 1 ≤ length (now s) / 2 ⌝ }
+    ensures { λ r. ⌜ IsWord (now (s .entry)) w r ⌝ }
+{
     octets::get2(s, 2 * w) as usize
 }
 
-fn length_good(t: usize, n: usize) -> bool {
-    if n == 1 {
-        return true;
-    }
-    if n < 2 {
-        return false;
-    }
-    if 1024 < n {
-        return false;
-    }
-    if t == 0 {
-        return true;
-    }
-    t == 2
-}
+// ---- fields and data
 
-// The end of a field of type t; of a type that there is not, its offset.
-fn field_end(t: usize, n: usize, offset: usize) -> usize {
+// The end of a field of type t; its offset, if there is no such type.
+fn field_end(t: usize, n: usize, offset: usize) -> usize
+    requires { ⌜ (n < 65536) × (offset < 65536) ⌝ }
+    ensures { λ r. ⌜ r ≡ offset + typeAt t .width * n ⌝ }
+{
     if t < 9 {
         return offset + number_types::width_of(t) * n;
     }
     offset
 }
 
-// The rule of 5 for one field of a block of l octets, after one that ends at e.
-fn field_good(body: &[u8], w: usize, l: usize, e: usize) -> bool {
+fn length_good(t: usize, n: usize) -> bool
+    ensures { λ r. ⌜ r ≡ (eqb n 1 or (leb 2 n and leb n 1024 and (eqb t 0 or eqb t 2))) ⌝ }
+{
+    let array = both(n <= 1024, either(t == 0, t == 2));
+    either(n == 1, both(2 <= n, array))
+}
+
+// The field at word w of a block of l octets, after one that ends at e; its since lies from `low` to `high`.
+fn check_field(body: &[u8], w: usize, l: usize, e: usize, low: usize, high: usize) -> Field
+    requires { ⌜ w + 6 ≤ length (now body) / 2 ⌝ }
+    ensures { λ r. ⌜ r ≡ fieldOf l e low high (fieldAt (wordsOf (now (body .entry))) w) ⌝ }
+{
     let t = word(body, w + 1);
     let n = word(body, w + 2);
     let offset = word(body, w + 3);
-    if 9 <= t {
-        return false;
-    }
-    if length_good(t, n) {
-        if 1 < word(body, w + 4) {
-            return false;
-        }
-        if offset < e {
-            return false;
-        }
-        return field_end(t, n, offset) <= l;
-    }
-    false
+    let presence = word(body, w + 4);
+    let since = word(body, w + 5);
+    let end = field_end(t, n, offset);
+    let placed = both(e <= offset, end <= l);
+    let layout = both(t < 9, both(length_good(t, n), both(presence <= 1, placed)));
+    let rules = Rules {
+        layout,
+        since: between(low, since, high),
+    };
+    Field { rules, end, since }
 }
 
-fn between(low: usize, x: usize, high: usize) -> bool {
-    if low <= x { x <= high } else { false }
-}
-
-// The fields at word `from`, n of them, of a block of l octets.
+// The n fields at word `from` of a block of l octets.
 fn check_fields(
     body: &[u8],
     from: usize,
@@ -101,91 +150,115 @@ fn check_fields(
     version: usize,
     low: usize,
     high: usize,
-) -> Rules {
+) -> Rules
+    requires { ⌜ from + 6 * n ≤ length (now body) / 2 ⌝ }
+    ensures { λ r. ⌜ r ≡ fieldsRules version low high l 0 (parseFields (wordsOf (now (body .entry))) n from) ⌝ }
+{
     let mut w = from;
     let mut left = n;
     let mut e = 0;
     let mut least = low;
     let mut most = high;
-    let mut layout = true;
-    let mut since = true;
+    let mut rules = Rules {
+        layout: true,
+        since: true,
+    };
     while 0 < left {
-        let s = word(body, w + 5);
-        layout = both(layout, field_good(body, w, l, e));
-        since = both(since, between(least, s, most));
-        e = field_end(word(body, w + 1), word(body, w + 2), word(body, w + 3));
-        least = s;
+        let field = check_field(body, w, l, e, least, most);
+        rules = all_rules(rules, field.rules);
+        e = field.end;
+        least = field.since;
         most = version;
         w = w + 6;
         left = left - 1;
     }
-    Rules { layout, since }
+    rules
 }
 
 // Whether the sinces of the n data at word `from` rise from `low` to `high`.
-fn check_datas(body: &[u8], from: usize, n: usize, low: usize, high: usize) -> bool {
+fn check_datas(body: &[u8], from: usize, n: usize, low: usize, high: usize) -> bool
+    requires { ⌜ from + 2 * n ≤ length (now body) / 2 ⌝ }
+    ensures { λ r. ⌜ r ≡ rising high low (dataSinces (parseDatas (wordsOf (now (body .entry))) n from)) ⌝ }
+{
     let mut w = from;
     let mut left = n;
     let mut least = low;
     while 0 < left {
-        let s = word(body, w + 1);
-        if s < least {
+        let since = word(body, w + 1);
+        if between(least, since, high) {
+            least = since;
+            w = w + 2;
+            left = left - 1;
+        } else {
             return false;
         }
-        if high < s {
-            return false;
-        }
-        least = s;
-        w = w + 2;
-        left = left - 1;
     }
     true
 }
 
+// ---- blocks, groups and bodies
+
+fn counts_good(few: usize, f: usize, g: usize, d: usize) -> bool
+    ensures { λ r. ⌜ r ≡ (leb few f and leb f 64 and leb g 16 and leb d 16) ⌝ }
+{
+    let others = both(g <= 16, d <= 16);
+    both(few <= f, both(f <= 64, others))
+}
+
 // The block at word w up to its groups. It has at least `few` fields.
-fn check_block(
-    body: &[u8],
-    few: usize,
-    w: usize,
-    version: usize,
-    low: usize,
-    high: usize,
-) -> Block {
+fn check_block(body: &[u8], few: usize, w: usize, version: usize, low: usize, high: usize) -> Block
+    requires { ⌜ w ≤ length (now body) / 2 ⌝ }
+    ensures { λ r. ⌜ r ≡ blockOf version low high (parseShape (wordsOf (now (body .entry))) few w) ⌝ }
+{
     let size = body.len() / 2;
-    if size < 4 {
-        return Block::Broken;
-    }
-    if size - 4 < w {
+    if size < w + 4 {
         return Block::Broken;
     }
     let f = word(body, w + 1);
     let g = word(body, w + 2);
     let d = word(body, w + 3);
-    if f < few {
-        return Block::Broken;
+    if counts_good(few, f, g, d) {
+        let datas = w + 4 + 6 * f;
+        let next = datas + 2 * d;
+        if size < next {
+            return Block::Broken;
+        }
+        let l = word(body, w);
+        let fields = check_fields(body, w + 4, f, l, version, low, high);
+        let whole = Rules {
+            layout: l < 65535,
+            since: true,
+        };
+        let others = Rules {
+            layout: true,
+            since: check_datas(body, datas, d, low, high),
+        };
+        let rules = all_rules(whole, all_rules(fields, others));
+        return Block::Whole {
+            groups: g,
+            next,
+            rules,
+        };
     }
-    if 64 < f {
-        return Block::Broken;
-    }
-    if 16 < g {
-        return Block::Broken;
-    }
-    if 16 < d {
-        return Block::Broken;
-    }
-    let datas = w + 4 + 6 * f;
-    let next = datas + 2 * d;
-    if size < next {
-        return Block::Broken;
-    }
-    let l = word(body, w);
-    let fields = check_fields(body, w + 4, f, l, version, low, high);
-    Block::Whole {
-        groups: g,
-        next,
-        layout: both(l < 65535, fields.layout),
-        since: both(fields.since, check_datas(body, datas, d, low, high)),
-    }
+    Block::Broken
+}
+
+// The rules of the groups so far and of one more, which has this since: its block's and its inner groups'.
+fn more_rules(
+    before: Rules,
+    least: usize,
+    since: usize,
+    high: usize,
+    block: Rules,
+    inner: Rules,
+) -> Rules
+    ensures { λ r. ⌜ r ≡ allRules before (groupRules least since high block inner) ⌝ }
+{
+    let own = Rules {
+        layout: true,
+        since: between(least, since, high),
+    };
+    all_rules(before, all_rules(own, all_rules(block, inner)))
 }
 
 // The n groups in a row at word `from`, `depth` more levels being left.
@@ -197,176 +270,159 @@ fn check_groups(
     version: usize,
     low: usize,
     high: usize,
-) -> Row {
+) -> Row
+    requires { ⌜ from ≤ length (now body) / 2 ⌝ }
+    ensures { λ r. ⌜ r ≡ rowOf version low high (parseGroups (wordsOf (now (body .entry))) depth n from) ⌝ }
+{
     let mut w = from;
     let mut left = n;
     let mut least = low;
-    let mut layout = true;
-    let mut since = true;
+    let mut rules = Rules {
+        layout: true,
+        since: true,
+    };
     while 0 < left {
         if depth == 0 {
             return Row::Broken;
         }
-        let size = body.len() / 2;
-        if size < w + 2 {
+        if body.len() / 2 < w + 2 {
             return Row::Broken;
         }
-        let s = word(body, w + 1);
-        match check_block(body, 1, w + 2, version, s, s) {
-            Block::Broken => {
-                return Row::Broken;
-            }
-            Block::Whole {
-                groups,
-                next,
-                layout: a,
-                since: b,
-            } => {
-                match check_groups(body, next, groups, depth - 1, version, s, s) {
-                    Row::Broken => {
-                        return Row::Broken;
-                    }
-                    Row::Whole {
-                        next: after,
-                        layout: c,
-                        since: d,
-                    } => {
-                        layout = both(layout, both(a, c));
-                        since = both(since, both(between(least, s, high), both(b, d)));
-                        w = after;
-                    }
-                }
-            }
-        }
-        least = s;
+        let since = word(body, w + 1);
+        let block = check_block(body, 1, w + 2, version, since, since);
+        let Block::Whole {
+            groups,
+            next: inside,
+            rules: own,
+        } = block
+        else {
+            return Row::Broken;
+        };
+        let inner = check_groups(body, inside, groups, depth - 1, version, since, since);
+        let Row::Whole { next, rules: below } = inner else {
+            return Row::Broken;
+        };
+        rules = more_rules(rules, least, since, high, own, below);
+        least = since;
+        w = next;
         left = left - 1;
     }
-    Row::Whole {
-        next: w,
-        layout,
-        since,
-    }
+    Row::Whole { next: w, rules }
 }
 
-// A body: one block, and nothing after it.
-fn check_body(body: &[u8], version: usize) -> Row {
-    match check_block(body, 0, 0, version, 0, version) {
-        Block::Broken => Row::Broken,
-        Block::Whole {
-            groups,
-            next,
-            layout,
-            since,
-        } => match check_groups(body, next, groups, 4, version, 0, version) {
-            Row::Broken => Row::Broken,
-            Row::Whole {
-                next: end,
-                layout: a,
-                since: b,
-            } => {
-                if end == body.len() / 2 {
-                    return Row::Whole {
-                        next: end,
-                        layout: both(layout, a),
-                        since: both(since, b),
-                    };
-                }
-                Row::Broken
-            }
-        },
+// A body is one block, and nothing after it.
+fn check_body(body: &[u8], version: usize) -> Body
+    ensures { λ r. ⌜ r ≡ bodyOf version (parseBody (wordsOf (now (body .entry)))) ⌝ }
+{
+    let block = check_block(body, 0, 0, version, 0, version);
+    let Block::Whole {
+        groups,
+        next: inside,
+        rules: own,
+    } = block
+    else {
+        return Body::Broken;
+    };
+    let row = check_groups(body, inside, groups, 4, version, 0, version);
+    let Row::Whole { next, rules: below } = row else {
+        return Body::Broken;
+    };
+    if next == body.len() / 2 {
+        return Body::Whole(all_rules(own, below));
     }
+    Body::Broken
 }
 
-// No template has this number.
-const NONE: usize = 64;
+// ---- the book
 
-fn check_bodies(book: &[u8]) -> Checked {
-    let version = word(book, 1);
-    let n = word(book, 2);
-    let mut t = 0;
-    let mut five = NONE;
-    let mut six = NONE;
-    while t < n {
-        let first = word(book, 4 + 3 * t + 1);
-        let words = word(book, 4 + 3 * t + 2);
-        let start = 2 * first;
-        let end = start + 2 * words;
-        match check_body(&book[start..end], version) {
-            Row::Broken => {
-                return refuse(4, t);
-            }
-            Row::Whole {
-                next: _,
-                layout,
-                since,
-            } => {
-                if five == NONE {
-                    if layout {} else {
-                        five = t;
-                    }
-                }
-                if six == NONE {
-                    if since {} else {
-                        six = t;
-                    }
-                }
-            }
-        }
-        t = t + 1;
+// The first template that breaks a rule, `seen` being the first before template t.
+fn first_of(seen: usize, keeps: bool, t: usize) -> usize
+    ensures { λ r. ⌜ r ≡ firstOf seen keeps t ⌝ }
+{
+    if seen < NO_TEMPLATE {
+        return seen;
     }
-    if five < NONE {
+    if keeps {
+        return NO_TEMPLATE;
+    }
+    t
+}
+
+fn verdict(five: usize, six: usize) -> Checked
+    ensures { λ r. ⌜ r ≡ verdictOf five six ⌝ }
+{
+    if five < NO_TEMPLATE {
         return refuse(5, five);
     }
-    if six < NONE {
+    if six < NO_TEMPLATE {
         return refuse(6, six);
     }
     Checked::Accepted
 }
 
-fn size_good(book: &[u8]) -> bool {
-    let n = book.len();
-    if n % 2 == 0 {
-        return between(8, n, 8192);
+// The bodies of all templates: 4 where one is broken, else 5 at the first that breaks its rule, else 6.
+fn check_bodies(book: &[u8]) -> Checked
+    requires { ⌜ BookHead (now book) ⌝ }
+    requires { ⌜ contentsKept (wordsOf (now book)) ≡ true ⌝ }
+    ensures { λ r. ⌜ r ≡ checked (bodiesOf (wordsOf (now (book .entry)))) ⌝ }
+{
+    let version = word(book, 1);
+    let mut left = word(book, 2);
+    let mut t = 0;
+    let mut w = 4;
+    let mut five = NO_TEMPLATE;
+    let mut six = NO_TEMPLATE;
+    while 0 < left {
+        let start = 2 * word(book, w + 1);
+        let end = start + 2 * word(book, w + 2);
+        let body = check_body(&book[start..end], version);
+        let Body::Whole(rules) = body else {
+            return refuse(4, t);
+        };
+        five = first_of(five, rules.layout, t);
+        six = first_of(six, rules.since, t);
+        t = t + 1;
+        w = w + 3;
+        left = left - 1;
     }
-    false
+    verdict(five, six)
 }
 
-fn head_good(book: &[u8]) -> bool {
+fn size_good(book: &[u8]) -> bool
+    ensures { λ r. ⌜ r ≡ sizeGood (now (book .entry)) ⌝ }
+{
+    let n = book.len();
+    both(n % 2 == 0, between(8, n, 8192))
+}
+
+fn head_good(book: &[u8]) -> bool
+    requires { ⌜ 8 ≤ length (now book) ⌝ }
+    ensures { λ r. ⌜ r ≡ headGood (wordsOf (now (book .entry))) ⌝ }
+{
     let size = book.len() / 2;
     let n = word(book, 2);
-    if word(book, 3) == size {
-        if 65535 <= word(book, 0) {
-            return false;
-        }
-        if 65535 <= word(book, 1) {
-            return false;
-        }
-        if n < 1 {
-            return false;
-        }
-        if 64 < n {
-            return false;
-        }
-        return 4 + 3 * n <= size;
-    }
-    false
+    let room = both(1 <= n, both(n <= 64, 4 + 3 * n <= size));
+    let whole = both(word(book, 0) < 65535, both(word(book, 1) < 65535, room));
+    both(word(book, 3) == size, whole)
 }
 
-fn contents_good(book: &[u8]) -> bool {
-    let n = word(book, 2);
-    let mut left = n;
+fn row_good(low: usize, id: usize, at: usize, first: usize) -> bool
+    ensures { λ r. ⌜ r ≡ (leb low id and ltb id 65535 and eqb first at) ⌝ }
+{
+    both(low <= id, both(id < 65535, first == at))
+}
+
+fn contents_good(book: &[u8]) -> bool
+    requires { ⌜ BookHead (now book) ⌝ }
+    ensures { λ r. ⌜ r ≡ contentsKept (wordsOf (now (book .entry))) ⌝ }
+{
+    let mut left = word(book, 2);
     let mut w = 4;
     let mut low = 0;
-    let mut at = 4 + 3 * n;
+    let mut at = 4 + 3 * left;
     while 0 < left {
         let id = word(book, w);
-        if id < low {
-            return false;
-        }
-        if 65535 <= id {
-            return false;
-        }
-        if word(book, w + 1) == at {
+        if row_good(low, id, at, word(book, w + 1)) {
             low = id + 1;
             at = at + word(book, w + 2);
             w = w + 3;
@@ -379,7 +435,9 @@ fn contents_good(book: &[u8]) -> bool {
 }
 
 // Checks a book.
-pub fn check(book: &[u8]) -> Checked {
+pub fn check(book: &[u8]) -> Checked
+    ensures { λ r. ⌜ ChecksBook (now (book .entry)) r ⌝ }
+{
     if size_good(book) {
         if head_good(book) {
             if contents_good(book) {

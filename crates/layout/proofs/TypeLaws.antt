@@ -20,22 +20,47 @@ pub record Width (w : ℕ) : Type 0 where
   pub even : 256 ^ w / 2 + 256 ^ w / 2 ≡ 256 ^ w
   pub some-are : 0 < 256 ^ w
   pub listed : isWidth w ≡ true
+  pub few : w ≤ 8
 
 one : Width 1
 unfolding _or_
-one = record { above = 256 ^ 7 - 1; whole = refl; even = refl; some-are = omega arith; listed = refl }
+one = record {
+  above = 256 ^ 7 - 1;
+  whole = refl;
+  even = refl;
+  some-are = omega arith;
+  listed = refl;
+  few =
+      omega arith;
+}
 
 two : Width 2
 unfolding _or_
-two = record { above = 256 ^ 6 - 1; whole = refl; even = refl; some-are = omega arith; listed = refl }
+two = record {
+  above = 256 ^ 6 - 1;
+  whole = refl;
+  even = refl;
+  some-are = omega arith;
+  listed = refl;
+  few =
+      omega arith;
+}
 
 four : Width 4
 unfolding _or_
-four = record { above = 256 ^ 4 - 1; whole = refl; even = refl; some-are = omega arith; listed = refl }
+four = record {
+  above = 256 ^ 4 - 1;
+  whole = refl;
+  even = refl;
+  some-are = omega arith;
+  listed = refl;
+  few =
+      omega arith;
+}
 
 eight : Width 8
 unfolding _or_
-eight = record { above = 0; whole = refl; even = refl; some-are = omega arith; listed = refl }
+eight = record { above = 0; whole = refl; even = refl; some-are = omega arith; listed = refl; few = omega arith }
 
 -- What holds of char and, at every width, of the signed and the unsigned type holds of the table.
 pub each-type : (P : TypeRow → Type 0) → P char → ((w : ℕ) → Width w → P (int w)) → ((w : ℕ) → Width w → P (uint w))
@@ -50,6 +75,9 @@ each-type P c i u (suc (suc (suc (suc (suc (suc zero)))))) h = u 4 four
 each-type P c i u (suc (suc (suc (suc (suc (suc (suc zero))))))) h = i 8 eight
 each-type P c i u (suc (suc (suc (suc (suc (suc (suc (suc zero)))))))) h = u 8 eight
 each-type P c i u (suc (suc (suc (suc (suc (suc (suc (suc (suc t))))))))) h = absurd (omega arith)
+
+pub width-few : (t : ℕ) → t < 9 → typeAt t .width ≤ 8
+width-few t h = each-type (λ k. k .width ≤ 8) (omega arith) (λ w a. a .few) (λ w a. a .few) t h
 
 -- ---- written and read again
 

@@ -220,7 +220,7 @@ pub M-written-back : writeOf bookA 1 (listing valuesM) messageM 32 ≡ done mess
 unfolding all valuesM
 M-written-back = refl
 
--- ---- "Readings that look right": M under B and B's message under A, of the worked cases, shut out the first and the third
+-- ---- "Readings that look right": two of the worked cases shut out the first and the third, and these the others
 
 -- "Stepping by the declared block length and not by the wire's": entries of three octets where A declares two.
 abbrev wideEntries : List ℕ

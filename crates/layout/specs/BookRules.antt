@@ -15,9 +15,8 @@ use Rattle.layout.specs.Book.{end, fieldSinces, dataSinces, groupSinces}
 abbrev pub word : List ℕ → ℕ → ℕ
 word b w = getD b w 0
 
-unfoldable pub parseFields : List ℕ → ℕ → ℕ → List Field
-parseFields b zero w = []
-parseFields b (suc n) w =
+abbrev pub fieldAt : List ℕ → ℕ → Field
+fieldAt b w =
     record {
       id = word b w;
       type = word b (w + 1);
@@ -26,7 +25,10 @@ parseFields b (suc n) w =
       presence = word b (w + 4);
       since = word b (w + 5);
     }
-    ∷ parseFields b n (w + 6)
+
+unfoldable pub parseFields : List ℕ → ℕ → ℕ → List Field
+parseFields b zero w = []
+parseFields b (suc n) w = fieldAt b w ∷ parseFields b n (w + 6)
 
 unfoldable pub parseDatas : List ℕ → ℕ → ℕ → List Data
 parseDatas b zero w = []
@@ -100,9 +102,9 @@ unfoldable pub rising : ℕ → ℕ → List ℕ → Bool
 rising high low [] = true
 rising high low (s ∷ ss) = leb low s and leb s high and rising high s ss
 
--- The elements of a block have sinces from `low` to `high`, but for the fields after its first, which may be younger. In
--- the root these are 0 and the version; in a group both are its own since: "its first field's since is the group's own;
--- data and groups inside a group have the since of that group".
+-- The elements of a block have sinces from `low` to `high`, but for the fields after its first, which may be younger.
+-- In the root these are 0 and the version; in a group both are its own since: "its first field's since is the group's
+-- own; data and groups inside a group have the since of that group".
 unfoldable pub fieldsSince : ℕ → ℕ → ℕ → List ℕ → Bool
 fieldsSince version low high [] = true
 fieldsSince version low high (s ∷ ss) = leb low s and leb s high and rising version s ss
@@ -159,9 +161,13 @@ headGood b =
     eqb (word b 3) (length b) and ltb (word b 0) null16 and ltb (word b 1) null16
     and leb 1 (word b 2) and leb (word b 2) 64 and leb (4 + 3 * word b 2) (length b)
 
+-- "1: book octets odd, under 8 or over 8,192"
+abbrev pub sizeGood : List ℕ → Bool
+sizeGood octets = eqb (length octets % 2) 0 and leb 8 (length octets) and leb (length octets) 8192
+
 unfoldable pub bookOf : List ℕ → Result Book
 bookOf octets = do
-  _ ← must (eqb (length octets % 2) 0 and leb 8 (length octets) and leb (length octets) 8192) 1 0
+  _ ← must (sizeGood octets) 1 0
   let b = wordsOf octets
   _ ← must (headGood b) 2 0
   let rows = parseContents b (word b 2) 4

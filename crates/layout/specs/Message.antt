@@ -104,7 +104,8 @@ module _ (m : List ℕ) (v : ℕ) where
   presentField at f =
       let k = typeAt (f .type) in
       let start = at + f .offset in
-      if isArray f then Octets start (f .length) else classify k (isOptional f) (valueOf k (numberAt (k .width) m start))
+      let value = valueOf k (numberAt (k .width) m start) in
+      if isArray f then Octets start (f .length) else classify k (isOptional f) value
 
   -- "An element with since above v is absent, even where the block has octets for it."
   unfoldable pub readField : ℕ → Field → Answer

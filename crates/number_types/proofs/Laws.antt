@@ -25,7 +25,8 @@ pub record Signed (k : TypeRow) : Type 0 where
   pub whole : 256 ^ k .width ≤ 2 ^ 64
 
 pub signed : (t : ℕ) → t < 9 → typeAt t .signed ≡ true → Signed (typeAt t)
-signed t h = each-type (λ k. k .signed ≡ true → Signed k) (λ e. absurd (false≢true e)) int-signed (λ w a e. absurd (false≢true e)) t h
+signed t h = each-type (λ k. k .signed ≡ true → Signed k) (λ e. absurd (false≢true e)) int-signed
+    (λ w a e. absurd (false≢true e)) t h
   where
     int-signed : (w : ℕ) → Width w → true ≡ true → Signed (int w)
     int-signed w a e =

@@ -7,9 +7,10 @@ ghost use lib.Dec.{eqb};
 ghost use lib.ListN.{length};
 ghost use lib.Seq.{sets};
 ghost use Rattle.layout.specs.Result.{_and_};
-ghost use Rattle.layout.specs.Octets.{numberAt, octetsOf};
+ghost use Rattle.layout.specs.Octets.{octetsOf};
 ghost use Rattle.layout.specs.Types.{typeAt, isWidth, valueOf, inRange, classify as classOf};
 ghost use Rattle.octets.specs.Spelt.{Spelt};
+ghost use Rattle.number_types.specs.Value.{valueAt};
 
 const WIDTH: [usize; 9] = [1, 1, 1, 2, 2, 4, 4, 8, 8];
 
@@ -173,7 +174,7 @@ pub fn classify(t: usize, optional: bool, x: u64) -> Answer
 // What the octets of a field of type t at `at` are.
 pub fn read(s: &[u8], at: usize, t: usize, optional: bool) -> Answer
     requires { ⌜ (t < 9) × (at + typeAt t .width ≤ length (now s)) ⌝ }
-    ensures { λ r. ⌜ r ≡ classOf (typeAt t) optional (valueOf (typeAt t) (numberAt (typeAt t .width) (now (s .entry)) at)) ⌝ }
+    ensures { λ r. ⌜ r ≡ classOf (typeAt t) optional (valueAt (now (s .entry)) at t) ⌝ }
 {
     let x = raw(s, at, width_of(t));
     classify(t, optional, value_of(t, x))

@@ -10,7 +10,13 @@ returns : tie.Need-returns
 unfolding inRange if_then_else_ _or_
 returns c =
     let s = c .before .before in
-    simp (← (s .is-signed .ensures), c .before .if1 .taken, ← (s .before .greatest-of .ensures), le-leb _ _ (c .if2 .taken))
+    simp (
+      ← (s .is-signed .ensures),
+      c .before .if1 .taken,
+      ← (s .before .greatest-of .ensures),
+      le-leb _ _
+          (c .if2 .taken),
+    )
 
 returns-2 : tie.Need-returns-2
 unfolding inRange if_then_else_ _or_
@@ -40,9 +46,16 @@ returns-4 : tie.Need-returns-4
 unfolding inRange if_then_else_ _and_
 returns-4 c =
     let s = c .before .before in
-    simp (← (s .is-signed .ensures), c .before .if1 .left, ← (s .before .before .least-of .ensures), lt-leb _ _ (c .if3 .left))
+    simp (
+      ← (s .is-signed .ensures),
+      c .before .if1 .left,
+      ← (s .before .before .least-of .ensures),
+      lt-leb _ _
+          (c .if3 .left),
+    )
 
 pub in-range-spec : {M : Type 1} → statement M
 in-range-spec =
     tie.close
-    (tie.spec (λ c κs. search needs) (λ c κs. search needs) (λ c κs. search needs) returns returns-2 returns-3 returns-4)
+    (tie.spec (λ c κs. search needs) (λ c κs. search needs)
+    (λ c κs. search needs) returns returns-2 returns-3 returns-4)

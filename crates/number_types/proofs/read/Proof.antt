@@ -16,7 +16,8 @@ value-of-requires c κs =
 returns : tie.Need-returns
 returns c =
     let raw = c .before .before in
-    rw (c .classify .ensures, c .before .value-of .ensures, raw .raw .ensures .value, raw .before .width-of .ensures) refl
+    rw (c .classify .ensures, c .before .value-of .ensures, raw .raw .ensures .value, raw .before .width-of .ensures)
+    refl
 
 pub read-spec : {M : Type 1} → statement M
 read-spec =

@@ -21,7 +21,10 @@ sub-result c = omega (arith, row (c .before .before) .small, c .before .greatest
 add-result : tie.Need-add-result
 add-result c =
     let s = c .before .before in
-    record { fits = value-fits _ _ _ (is-signed s) (row s) (c .before .greatest-of .ensures) (s .before .before .pre .1) }
+    record {
+      fits = value-fits _ _ _ (is-signed s) (row s) (c .before .greatest-of .ensures)
+          (s .before .before .pre .1);
+    }
 
 returns : tie.Need-returns
 returns c =

@@ -1,0 +1,224 @@
+-- A row of groups, as the code's tests and calls find it.
+use mathlib.Core.Path.{_∙_, _≡_, ap, refl, subst, sym}
+use mathlib.Core.Bool.{true}
+use mathlib.Core.List.{List}
+use Prim.Native.Nat.{_+_, _-_, _<_, _≤_, suc, zero, ℕ}
+use native.Mathlib.Omega.{arith}
+use lib.Dec.{leb}
+use lib.ListN.{length}
+use borrow.Author.Tests.{leb-true}
+use Rattle.layout.specs.Result.{Result, _>>=_, _and_, done, refused}
+use Rattle.layout.specs.Book.{Groups, Shape, more}
+use Rattle.layout.specs.BookRules.{groupsGood, groupsSince, parseGroups, parseShape, shapeGood, shapeSince, word}
+use Rattle.book.specs.Answers.{allRules, blockOf, groupRules, groupsRules, rowOf, rulesAre, shapeRules}
+use Rattle.book.proofs.Blocks.{block-short}
+use Rattle.book.proofs.RuleLaws.{and-assoc, and-true, rules-assoc, rules-start}
+use Rattle.layout.proofs.Results.{bind-done, done-inj, inv-bind, inv-must}
+use Rattle.book.specs.declared.Rules.{Rules}
+use Rattle.book.specs.declared.Row.{Row}
+use Rattle.book.specs.declared.Row.the-variants as Row
+use Rattle.book.specs.declared.Block.the-variants as Block
+
+-- A row after others that have these rules.
+unfoldable pub after : Rules → Row → Row
+after r (Row.Whole w q) = Row.Whole w (allRules r q)
+after r Row.Broken = Row.Broken
+
+pub after-none : (x : Row) → after (rulesAre true true) x ≡ x
+unfolding after
+after-none (Row.Whole w q) = ap (Row.Whole w) (rules-start q)
+after-none Row.Broken = refl
+
+pub after-twice : (a b : Rules) (x : Row) → after a (after b x) ≡ after (allRules a b) x
+unfolding after
+after-twice a b (Row.Whole w q) = ap (Row.Whole w) (sym (rules-assoc a b q))
+after-twice a b Row.Broken = refl
+
+-- A whole row is broken where what is left of it is.
+pub row-breaks : (whole : Row) (r : Rules) (x : Row) → whole ≡ after r x → x ≡ Row.Broken → Row.Broken ≡ whole
+unfolding after
+row-breaks whole r x e b = rw (e, b) refl
+
+-- It is whole where nothing is left.
+pub row-stops : (whole : Row) (r : Rules) (x : Row) (w : ℕ) → whole ≡ after r x → x ≡ Row.Whole w (rulesAre true true)
+    → Row.Whole w r ≡ whole
+unfolding after allRules
+row-stops whole r x w e b = rw (e, b, and-true (r .layout), and-true (r .since)) refl
+
+-- ---- what an answer says of what was parsed
+
+pub record BlockIs (version low high g x : ℕ) (q : Rules) (r : Result (Shape × ℕ × ℕ)) : Type 0 where
+  pub shape : Shape
+  pub is : r ≡ done (shape, g, x)
+  pub rules : q ≡ shapeRules version low high shape
+
+pub block-is : (version low high g x : ℕ) (q : Rules) (r : Result (Shape × ℕ × ℕ))
+    → Block.Whole g x q ≡ blockOf version low high r
+    → BlockIs version low high g x q r
+unfolding blockOf
+block-is version low high g x q (done r) e =
+    let a : r .1 ≡ g = cc in
+    let b : r .2 ≡ x = cc in
+    record { shape = r .0; is = rw (← a, ← b) refl; rules = cc }
+block-is version low high g x q (refused n p) e = absurd (let z : _≡_ {A = ℕ} 0 1 = cc in omega arith)
+
+pub block-broken : (version low high : ℕ) (r : Result (Shape × ℕ × ℕ)) → Block.Broken ≡ blockOf version low high r
+    → (n : ℕ) × (p : ℕ) × (r ≡ refused n p)
+unfolding blockOf
+block-broken version low high (done r) e = absurd (let z : _≡_ {A = ℕ} 0 1 = cc in omega arith)
+block-broken version low high (refused n p) e = (n, p, refl)
+
+pub record RowIs (version low high y : ℕ) (q : Rules) (r : Result (Groups × ℕ)) : Type 0 where
+  pub groups : Groups
+  pub is : r ≡ done (groups, y)
+  pub rules : q ≡ groupsRules version low high groups
+
+pub row-is : (version low high y : ℕ) (q : Rules) (r : Result (Groups × ℕ)) → Row.Whole y q ≡ rowOf version low high r
+    → RowIs version low high y q r
+unfolding rowOf
+row-is version low high y q (done r) e =
+    let a : r .1 ≡ y = cc in
+    record { groups = r .0; is = rw (← a) refl; rules = cc }
+row-is version low high y q (refused n p) e = absurd (let z : _≡_ {A = ℕ} 0 1 = cc in omega arith)
+
+pub row-broken : (version low high : ℕ) (r : Result (Groups × ℕ)) → Row.Broken ≡ rowOf version low high r
+    → (n : ℕ) × (p : ℕ) × (r ≡ refused n p)
+unfolding rowOf
+row-broken version low high (done r) e = absurd (let z : _≡_ {A = ℕ} 0 1 = cc in omega arith)
+row-broken version low high (refused n p) e = (n, p, refl)
+
+-- ---- the parts of a body lie in it
+
+shape-within : (b : List ℕ) (few w : ℕ) (r : Shape × ℕ × ℕ) → parseShape b few w ≡ done r → r .2 ≤ length b
+unfolding parseShape
+shape-within b few w r e =
+    let p = inv-bind _ _ _ (inv-bind _ _ _ (inv-bind _ _ _ e .next) .next) in
+    subst (λ (x : Shape × ℕ × ℕ). x .2 ≤ length b) (done-inj (p .next)) (leb-true _ _ (inv-must _ _ _ _ (p .first)))
+
+groups-within : (b : List ℕ) (depth n w : ℕ) (r : Groups × ℕ) → parseGroups b depth n w ≡ done r → w ≤ length b
+    → r .1 ≤ length b
+unfolding parseGroups
+groups-within b zero zero w r e h = subst (λ (x : Groups × ℕ). x .1 ≤ length b) (done-inj e) h
+groups-within b (suc depth) zero w r e h = subst (λ (x : Groups × ℕ). x .1 ≤ length b) (done-inj e) h
+groups-within b zero (suc n) w r e h = absurd (let z : _≡_ {A = ℕ} 0 1 = cc in omega arith)
+groups-within b (suc depth) (suc n) w r e h =
+    let p = inv-bind _ _ _ e in
+    let q = inv-bind _ _ _ (p .next) in
+    let k = inv-bind _ _ _ (q .next) in
+    let y = groups-within b depth (p .value .1) (p .value .2) (q .value) (q .first)
+    (shape-within b 1 (w + 2) (p .value) (p .first)) in
+    subst (λ (x : Groups × ℕ). x .1 ≤ length b) (done-inj (k .next))
+    (groups-within b (suc depth) n (q .value .1) (k .value) (k .first) y)
+
+pub block-within : (b : List ℕ) (few w version low high g x : ℕ) (q : Rules)
+    → Block.Whole g x q ≡ blockOf version low high (parseShape b few w)
+    → x ≤ length b
+block-within b few w version low high g x q e = shape-within b few w _ (block-is version low high g x q _ e .is)
+
+pub row-within : (b : List ℕ) (depth n w version low high y : ℕ) (q : Rules)
+    → Row.Whole y q ≡ rowOf version low high (parseGroups b depth n w)
+    → w ≤ length b → y ≤ length b
+row-within b depth n w version low high y q e h = groups-within b depth n w _ (row-is version low high y q _ e .is) h
+
+-- ---- one group more
+
+pub row-end : (b : List ℕ) (depth n w version low high : ℕ) → n ≤ 0
+    → rowOf version low high (parseGroups b depth n w) ≡ Row.Whole w (rulesAre true true)
+unfolding parseGroups rowOf groupsGood groupsSince
+row-end b zero zero w version low high h = refl
+row-end b (suc depth) zero w version low high h = refl
+row-end b depth (suc n) w version low high h = absurd (omega arith)
+
+pub row-deep : (b : List ℕ) (depth n w version low high : ℕ) → 0 < n → depth ≡ 0
+    → rowOf version low high (parseGroups b depth n w) ≡ Row.Broken
+unfolding parseGroups rowOf
+row-deep b zero zero w version low high h e = absurd (omega arith)
+row-deep b zero (suc n) w version low high h e = refl
+row-deep b (suc depth) n w version low high h e = absurd (omega arith)
+
+groups-step : (b : List ℕ) (depth n w : ℕ) → 0 < depth → 0 < n → parseGroups b depth n w ≡ (parseShape b 1 (w + 2)
+    >>= λ s. parseGroups b (depth - 1) (s .1) (s .2) >>= λ i. parseGroups b depth (n - 1) (i .1)
+    >>= λ r. done (more (word b w) (word b (w + 1)) (s .0) (i .0) (r .0), r .1))
+unfolding parseGroups
+groups-step b zero n w deep h = absurd (omega arith)
+groups-step b (suc depth) zero w deep h = absurd (omega arith)
+groups-step b (suc depth) (suc n) w deep h =
+    let p : suc depth - 1 ≡ depth = omega arith in
+    let q : suc n - 1 ≡ n = omega arith in
+    rw (p, q) refl
+
+-- The rules of a group and of the groups after it.
+group-rules : (version low high id since : ℕ) (s : Shape) (i rest : Groups)
+    → groupsRules version low high (more id since s i rest)
+    ≡ allRules (groupRules low since high (shapeRules version since since s) (groupsRules version since since i))
+    (groupsRules version since high rest)
+unfolding groupsGood groupsSince allRules
+group-rules version low high id since s i rest =
+    rw (
+      and-assoc true,
+      and-assoc (shapeGood s),
+      and-assoc (leb low since and leb since high),
+      and-assoc (leb low since),
+      and-assoc (shapeSince version since since s),
+    ) (unfold _and_ in refl)
+
+row-joined : (version low high id since : ℕ) (s : Shape) (i : Groups) (r : Result (Groups × ℕ))
+    → rowOf version low high (r >>= λ r. done (more id since s i (r .0), r .1))
+    ≡ after (groupRules low since high (shapeRules version since since s) (groupsRules version since since i))
+    (rowOf version since high r)
+unfolding rowOf after _>>=_
+row-joined version low high id since s i (done r) =
+    ap (Row.Whole (r .1)) (group-rules version low high id since s i (r .0))
+row-joined version low high id since s i (refused n p) = refl
+
+module _ (b : List ℕ) (depth n w version low high : ℕ) (deep : 0 < depth) (some-left : 0 < n) where
+  abbrev since : ℕ
+  since = word b (w + 1)
+
+  pub row-block : Block.Broken ≡ blockOf version since since (parseShape b 1 (w + 2))
+      → rowOf version low high (parseGroups b depth n w) ≡ Row.Broken
+  unfolding rowOf _>>=_
+  row-block e =
+      let k = block-broken version since since _ e in
+      rw (groups-step b depth n w deep some-left, k .2) refl
+
+  pub row-short : length b < w + 2 → rowOf version low high (parseGroups b depth n w) ≡ Row.Broken
+  row-short h = row-block (sym (block-short b 1 (w + 2) version since since (omega arith)))
+
+  module _ (g x : ℕ) (q : Rules) (block : Block.Whole g x q ≡ blockOf version since since (parseShape b 1 (w + 2)))
+    where
+      abbrev inner : Result (Groups × ℕ)
+      inner = parseGroups b (depth - 1) g x
+
+      is-block : BlockIs version since since g x q (parseShape b 1 (w + 2))
+      is-block = block-is version since since g x q (parseShape b 1 (w + 2)) block
+
+      pub row-inner : Row.Broken ≡ rowOf version since since inner
+          → rowOf version low high (parseGroups b depth n w) ≡ Row.Broken
+      row-inner e =
+          let k = row-broken version since since inner e in
+          refused-inner (is-block .shape) (k .0) (k .1) (is-block .is) (k .2)
+        where
+          refused-inner : (s : Shape) (m p : ℕ) → parseShape b 1 (w + 2) ≡ done (s, g, x) → inner ≡ refused m p
+              → rowOf version low high (parseGroups b depth n w) ≡ Row.Broken
+          refused-inner s m p e i = rw (groups-step b depth n w deep some-left, e, bind-done, i)
+              (unfold rowOf _>>=_ in refl)
+
+      pub row-next : (y : ℕ) (p : Rules) → Row.Whole y p ≡ rowOf version since since inner
+          → rowOf version low high (parseGroups b depth n w)
+          ≡ after (groupRules low since high q p) (rowOf version since high (parseGroups b depth (n - 1) y))
+      row-next y p e =
+          let i = row-is version since since y p inner e in
+          let rest = rowOf version since high (parseGroups b depth (n - 1) y) in
+          whole (is-block .shape) (i .groups) y (is-block .is) (i .is)
+          ∙ ap (λ (r : Rules). after (groupRules low since high r (groupsRules version since since (i .groups))) rest)
+          (sym (is-block .rules))
+          ∙ ap (λ (r : Rules). after (groupRules low since high q r) rest) (sym (i .rules))
+        where
+          whole : (s : Shape) (i : Groups) (y : ℕ) → parseShape b 1 (w + 2) ≡ done (s, g, x) → inner ≡ done (i, y)
+              → rowOf version low high (parseGroups b depth n w)
+              ≡ after (groupRules low since high (shapeRules version since since s) (groupsRules version since since i))
+              (rowOf version since high (parseGroups b depth (n - 1) y))
+          whole s i y e j =
+              rw (groups-step b depth n w deep some-left, e, bind-done, j, bind-done)
+              (row-joined version low high (word b w) since s i (parseGroups b depth (n - 1) y))

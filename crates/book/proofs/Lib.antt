@@ -1,0 +1,7 @@
+pub mod Words
+pub mod Sizes
+pub mod RuleLaws
+pub mod Blocks
+pub mod Groups
+pub mod Bodies
+pub mod Books

@@ -1,0 +1,115 @@
+-- What the walk over a book's words answers, by cases on what the definitions make of them.
+use mathlib.Core.Path.{_≡_}
+use mathlib.Core.Bool.{Bool, true}
+use mathlib.Core.List.{List}
+use Prim.Native.Nat.{_*_, _+_, _<_, ℕ}
+use lib.Dec.{leb, ltb}
+use lib.ListN.{length}
+use Rattle.layout.specs.Result.{Result, _>>=_, _and_, done, if_then_else_, refused}
+use Rattle.layout.specs.Octets.{wordsOf}
+use Rattle.layout.specs.Book.{Field, Groups, Shape, Template, end, fieldSinces}
+use Rattle.layout.specs.BookRules.{contentsGood, eachMust, fieldsGood, fieldsSince, groupsGood, groupsSince, headGood}
+use Rattle.layout.specs.BookRules.{layoutGood, lengthGood, parseBodies, parseContents, shapeGood, shapeSince, sinceGood}
+use Rattle.layout.specs.BookRules.{word}
+use Rattle.layout.specs.Contracts.{checked}
+use Rattle.layout.specs.declared.Checked.{Checked}
+use Rattle.book.specs.declared.Rules.{Rules}
+use Rattle.book.specs.declared.Field.{Field as FieldChecked}
+use Rattle.book.specs.declared.Block as Block
+use Rattle.book.specs.declared.Block.{Block}
+use Rattle.book.specs.declared.Row as Row
+use Rattle.book.specs.declared.Row.{Row}
+use Rattle.book.specs.declared.Body as Body
+use Rattle.book.specs.declared.Body.{Body}
+
+-- r is word w of the octets s.
+pub record IsWord (s : List ℕ) (w r : ℕ) : Type 0 where
+  pub value : r ≡ word (wordsOf s) w
+  pub small : r < 65536
+
+-- ---- whether the rules of 5 and of 6 hold
+
+abbrev pub rulesAre : Bool → Bool → Rules
+rulesAre layout since = record { layout = layout; since = since }
+
+unfoldable pub allRules : Rules → Rules → Rules
+allRules a b = rulesAre (a .layout and b .layout) (a .since and b .since)
+
+-- A field of a block of l octets, after one that ends at e, with a since from `low` to `high`.
+abbrev pub fieldKept : ℕ → ℕ → Field → Bool
+fieldKept l e f =
+    ltb (f .type) 9 and lengthGood f and leb (f .presence) 1 and leb e (f .offset) and leb (end f) l
+
+abbrev pub fieldOf : ℕ → ℕ → ℕ → ℕ → Field → FieldChecked
+fieldOf l e low high f =
+    record {
+      rules = rulesAre (fieldKept l e f) (leb low (f .since) and leb (f .since) high);
+      end = end f;
+      since =
+          f .since;
+    }
+
+abbrev pub fieldsRules : ℕ → ℕ → ℕ → ℕ → ℕ → List Field → Rules
+fieldsRules version low high l e fs = rulesAre (fieldsGood l e fs) (fieldsSince version low high (fieldSinces fs))
+
+abbrev pub shapeRules : ℕ → ℕ → ℕ → Shape → Rules
+shapeRules version low high s = rulesAre (shapeGood s) (shapeSince version low high s)
+
+-- A group with this since, after one with the since `low`: its own rule, its block's and its inner groups'.
+abbrev pub groupRules : ℕ → ℕ → ℕ → Rules → Rules → Rules
+groupRules low since high block inner = allRules (rulesAre true (leb low since and leb since high))
+    (allRules block inner)
+
+abbrev pub groupsRules : ℕ → ℕ → ℕ → Groups → Rules
+groupsRules version low high gs = rulesAre (groupsGood gs) (groupsSince version low high gs)
+
+-- ---- a block, a row of groups, a body: not whole (4), or whole, where it ends and what rules hold
+
+unfoldable pub blockOf : ℕ → ℕ → ℕ → Result (Shape × ℕ × ℕ) → Block
+blockOf version low high (done r) = Block.the-variants.Whole (r .1) (r .2) (shapeRules version low high (r .0))
+blockOf version low high (refused n p) = Block.the-variants.Broken
+
+unfoldable pub rowOf : ℕ → ℕ → ℕ → Result (Groups × ℕ) → Row
+rowOf version low high (done r) = Row.the-variants.Whole (r .1) (groupsRules version low high (r .0))
+rowOf version low high (refused n p) = Row.the-variants.Broken
+
+unfoldable pub bodyOf : ℕ → Result (Shape × Groups) → Body
+bodyOf version (done r) =
+    Body.the-variants.Whole (allRules (shapeRules version 0 version (r .0)) (groupsRules version 0 version (r .1)))
+bodyOf version (refused n p) = Body.the-variants.Broken
+
+-- ---- all bodies: "lowest number found in any template, then the first template that has it"
+
+-- The head is good, and so the contents lie within the book.
+pub record BookHead (s : List ℕ) : Type 0 where
+  pub good : headGood (wordsOf s) ≡ true
+
+-- Rule 3, over the words of a book.
+abbrev pub contentsKept : List ℕ → Bool
+contentsKept b = contentsGood (length b) 0 (4 + 3 * word b 2) (parseContents b (word b 2) 4)
+
+-- No template has this number.
+abbrev pub noTemplate : ℕ
+noTemplate = 64
+
+-- The first template that breaks a rule, `seen` being the first before template t.
+unfoldable pub firstOf : ℕ → Bool → ℕ → ℕ
+firstOf seen keeps t = if ltb seen noTemplate then seen else if keeps then noTemplate else t
+
+-- Refusal n at a template seen before, or what comes of the others.
+unfoldable pub seenOr : ℕ → ℕ → Result (Unit {0}) → Result (Unit {0})
+seenOr seen n x = if ltb seen noTemplate then refused n seen else x
+
+-- 5 and 6 for the templates x from number t on, `five` and `six` being the first that broke a rule before them.
+unfoldable pub judged : ℕ → ℕ → ℕ → ℕ → Result (List Template) → Result (Unit {0})
+judged version t five six x = do
+  ts ← x
+  _ ← seenOr five 5 (eachMust layoutGood 5 t ts)
+  seenOr six 6 (eachMust (sinceGood version) 6 t ts)
+
+unfoldable pub verdictOf : ℕ → ℕ → Checked
+verdictOf five six = checked (seenOr five 5 (done tt) >>= λ _. seenOr six 6 (done tt))
+
+-- 4 to 6, over the words of a book.
+abbrev pub bodiesOf : List ℕ → Result (Unit {0})
+bodiesOf b = judged (word b 1) 0 noTemplate noTemplate (parseBodies b 0 (parseContents b (word b 2) 4))
