@@ -136,7 +136,7 @@ row-deep b zero zero w version low high h e = absurd (omega arith)
 row-deep b zero (suc n) w version low high h e = refl
 row-deep b (suc depth) n w version low high h e = absurd (omega arith)
 
-groups-step : (b : List ℕ) (depth n w : ℕ) → 0 < depth → 0 < n → parseGroups b depth n w ≡ (parseShape b 1 (w + 2)
+pub groups-step : (b : List ℕ) (depth n w : ℕ) → 0 < depth → 0 < n → parseGroups b depth n w ≡ (parseShape b 1 (w + 2)
     >>= λ s. parseGroups b (depth - 1) (s .1) (s .2) >>= λ i. parseGroups b depth (n - 1) (i .1)
     >>= λ r. done (more (word b w) (word b (w + 1)) (s .0) (i .0) (r .0), r .1))
 unfolding parseGroups
