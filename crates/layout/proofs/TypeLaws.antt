@@ -3,14 +3,13 @@
 use mathlib.Core.Path.{_∙_, _≡_, ap, refl, sym}
 use mathlib.Core.Bool.{Bool, false, false≢true, true}
 use Prim.Native.Nat.{_%_, _*_, _+_, _-_, _/_, _<_, _^_, _≤_, suc, zero, ℕ}
-use native.Mathlib.Nat.{mod-eq-of-lt, mul-add-mod-self-right, mul-left-comm, pow-succ'}
+use native.Mathlib.Nat.{mod-eq-of-lt, mul-add-mod-self-right, mul-left-comm, one-le-pow, pow-succ'}
 use native.Mathlib.Omega.{arith}
-use lib.Dec.{eqb, leb}
+use lib.Dec.{eqb, leb, lit<}
 use borrow.Author.Tests.{le-leb, leb-true, lt-leb, ne-eqb}
 use Rattle.layout.specs.Result.{_and_, _or_, if_then_else_}
 use Rattle.layout.specs.Octets.{octetsOf}
 use Rattle.layout.specs.Types.{TypeRow, char, inRange, int, isWidth, typeAt, uint, valueOf}
-use Rattle.layout.specs.Cases.{listed}
 use Rattle.layout.proofs.Results.{and-right, either, or-right}
 
 -- A width of the table: its numbers are even in number, and 2 ^ 64 is a multiple of that.
@@ -22,45 +21,26 @@ pub record Width (w : ℕ) : Type 0 where
   pub listed : isWidth w ≡ true
   pub few : w ≤ 8
 
+width : (w above : ℕ) → above * 256 ^ w + 256 ^ w ≡ 2 ^ 64 → 256 ^ w / 2 + 256 ^ w / 2 ≡ 256 ^ w → isWidth w ≡ true
+    → w ≤ 8 → Width w
+width w a whole even known few =
+    record { above = a; whole = whole; even = even; some-are = one-le-pow w 256 (lit< tt); listed = known; few = few }
+
 one : Width 1
 unfolding _or_
-one = record {
-  above = 256 ^ 7 - 1;
-  whole = refl;
-  even = refl;
-  some-are = omega arith;
-  listed = refl;
-  few =
-      omega arith;
-}
+one = width 1 (256 ^ 7 - 1) refl refl refl (omega arith)
 
 two : Width 2
 unfolding _or_
-two = record {
-  above = 256 ^ 6 - 1;
-  whole = refl;
-  even = refl;
-  some-are = omega arith;
-  listed = refl;
-  few =
-      omega arith;
-}
+two = width 2 (256 ^ 6 - 1) refl refl refl (omega arith)
 
 four : Width 4
 unfolding _or_
-four = record {
-  above = 256 ^ 4 - 1;
-  whole = refl;
-  even = refl;
-  some-are = omega arith;
-  listed = refl;
-  few =
-      omega arith;
-}
+four = width 4 (256 ^ 4 - 1) refl refl refl (omega arith)
 
 eight : Width 8
 unfolding _or_
-eight = record { above = 0; whole = refl; even = refl; some-are = omega arith; listed = refl; few = omega arith }
+eight = width 8 0 refl refl refl (omega arith)
 
 -- What holds of char and, at every width, of the signed and the unsigned type holds of the table.
 pub each-type : (P : TypeRow → Type 0) → P char → ((w : ℕ) → Width w → P (int w)) → ((w : ℕ) → Width w → P (uint w))
