@@ -1,7 +1,7 @@
 #!/usr/bin/env python3
 """borders.py: the borders of the book's rules, each with a name and, where there are two, both sides.
 
-Writes what the program check_books is run on (crates/check_books/stdin) and what it must write (crates/check_books/stdout).
+Writes what the program check_books is run on (its file stdin) and what it must write (stdout).
 `borders.py --names` prints the name beside each answer."""
 import os
 import struct
