@@ -16,5 +16,8 @@ abbrev μ-loop : tie.MeasureT-loop
 pub main-spec : {M : Type 1} → statement M
 main-spec =
     tie.close
-    (tie.spec Inv-loop μ-loop (λ c κs. tt) (λ c. (search (needs, c .large-buffer), omega arith)) (λ c. sym (c .before .before .loop .inv .0)) (λ c κs. tt) (λ c. tt)
-    (λ c. omega arith) (λ c. omega arith) (λ c. (search (needs, c .before .before .answer-next), omega arith)) (λ c. tt))
+    (tie.spec Inv-loop μ-loop (λ c κs. tt) (λ c. (search (needs, c .large-buffer), omega arith))
+    (λ c. sym (c .before .before .loop .inv .0))
+    (λ c κs. tt) (λ c. tt)
+    (λ c. omega arith) (λ c. omega arith)
+    (λ c. (search (needs, c .before .before .answer-next), omega arith)) (λ c. tt))
