@@ -85,7 +85,7 @@ fields-end b version low high l e (suc n) w so-far h = absurd (omega arith)
 
 -- ---- data
 
-datas-step : (b : List ℕ) (n w : ℕ) → 0 < n
+pub datas-step : (b : List ℕ) (n w : ℕ) → 0 < n
     → dataSinces (parseDatas b n w) ≡ word b (w + 1) ∷ dataSinces (parseDatas b (n - 1) (w + 2))
 unfolding parseDatas
 datas-step b zero w h = absurd (omega arith)

@@ -104,7 +104,7 @@ pub fn word(s: &[u8], w: usize) -> usize
 // ---- fields and data
 
 // The end of a field of type t; its offset, if there is no such type.
-fn field_end(t: usize, n: usize, offset: usize) -> usize
+pub fn field_end(t: usize, n: usize, offset: usize) -> usize
     requires { ⌜ (n < 65536) × (offset < 65536) ⌝ }
     ensures { λ r. ⌜ r ≡ offset + typeAt t .width * n ⌝ }
 {
