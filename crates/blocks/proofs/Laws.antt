@@ -85,7 +85,7 @@ module _ (b : List ℕ) (depth n w x g : ℕ) (o : Opened b depth n w) (at : x �
   row-inner = rw (at, group-count) (o .inner)
 
   module _ (y : ℕ) (is : y ≡ groupsEnd b (depth - 1) g x) where
-    inner-end : y ≡ groupsEnd b (depth - 1) (groupCount b (w + 2)) (groupsFrom b (w + 2))
+    pub inner-end : y ≡ groupsEnd b (depth - 1) (groupCount b (w + 2)) (groupsFrom b (w + 2))
     inner-end = rw (← at, ← group-count) is
 
     pub row-rest : IsRow b depth (n - 1) y × (groupsEnd b depth n w ≡ groupsEnd b depth (n - 1) y)

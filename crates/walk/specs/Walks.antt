@@ -1,0 +1,74 @@
+-- What walking a part of a message by an accepted body comes to: the definition's answer at word positions, and how
+-- far and how many it can be.
+use mathlib.Core.Path.{_≡_}
+use mathlib.Core.List.{List}
+use Prim.Native.Nat.{ℕ, _+_, _*_, _≤_}
+use lib.Dec.{leb}
+use lib.ListN.{length}
+use Rattle.layout.specs.Result.{Result, done, if_then_else_}
+use Rattle.layout.specs.Book.{Groups}
+use Rattle.layout.specs.BookRules.{word}
+use Rattle.layout.specs.Values.{Values, nil, measure}
+use Rattle.layout.specs.Message.{Entry, readEntries, readBlock, readGroup, readGroups}
+use Rattle.layout.specs.declared.Answer.{Answer}
+use Rattle.layout.specs.declared.Answer.the-variants.{Absent}
+use Rattle.templates.specs.Positions.{IsBlock, IsRow, shapeAt, groupsAt, groupsFrom, groupCount}
+use Rattle.wire.specs.declared.Walked.{Walked}
+use Rattle.wire.specs.declared.Walked.the-variants.{To, Refused}
+use Rattle.walk.specs.declared.OnWire.{OnWire}
+
+-- ---- the definitions at word positions: b is the body's words
+
+module _ (b : List ℕ) (depth w : ℕ) where
+  -- The groups of the block at word w.
+  abbrev pub innerAt : Groups
+  innerAt = groupsAt b depth (groupCount b w) (groupsFrom b w)
+
+  -- A block stands at word w, with its groups, `depth` more levels being left.
+  pub record BlockAt : Type 0 where
+    pub block : IsBlock b w
+    pub row : IsRow b depth (groupCount b w) (groupsFrom b w)
+
+  abbrev pub blockAt : List ℕ → ℕ → OnWire → ℕ → Result Entry
+  blockAt m v wire at =
+      readBlock m v (shapeAt b w) (readGroups m v innerAt (wire .groups)) (wire .datas) (wire .length) at
+
+  abbrev pub entriesAt : List ℕ → ℕ → ℕ → ℕ → ℕ → Result (Values × ℕ)
+  entriesAt m v l n at = readEntries n (readBlock m v (shapeAt b w) (readGroups m v innerAt 0) 0 l) at
+
+-- The group at word w, if it is present.
+abbrev pub groupAt : List ℕ → ℕ → ℕ → List ℕ → ℕ → ℕ → Result (Answer × Values × ℕ)
+groupAt b depth w m v at =
+    if leb (word b (w + 1)) v
+    then readGroup m v (shapeAt b (w + 2)) (readGroups m v (innerAt b depth (w + 2)) 0) at
+    else done (Absent, nil, at)
+
+-- ---- where each ends and how many records it has, `seen` having been counted before
+
+abbrev pub datasEnd : ℕ → List Answer × ℕ → ℕ × ℕ
+datasEnd seen (ds, x) = (x, seen + length ds)
+
+abbrev pub entryEnd : Entry → ℕ × ℕ
+entryEnd (fs, gs, ds, x) = (x, length fs + (measure gs + length ds))
+
+abbrev pub valuesEnd : ℕ → Values × ℕ → ℕ × ℕ
+valuesEnd seen (r, x) = (x, seen + measure r)
+
+abbrev pub groupEnd : Answer × Values × ℕ → ℕ × ℕ
+groupEnd (a, es, x) = (x, 1 + measure es)
+
+-- ---- how far, and how many
+
+-- A message that is not too long, and a place in it.
+pub record Lent (m : List ℕ) (at : ℕ) : Type 0 where
+  pub short : length m ≤ 65535
+  pub inside : at ≤ length m
+
+-- A dimension has 4 octets and at most 65,535 entries with at most 96 records of their own each: so many for an octet.
+abbrev pub rate : ℕ
+rate = 1572840
+
+-- It leads on, not past the end; it has at most `own` records, and those that octets are used for.
+unfoldable pub Bounded : List ℕ → ℕ → ℕ → Walked → Type 0
+Bounded m at own (To x k) = (at ≤ x) × (x ≤ length m) × (k + rate * at ≤ own + rate * x)
+Bounded m at own (Refused r) = Unit {0}
