@@ -12,8 +12,8 @@ use Rattle.layout.specs.Book.{Field, Shape, Groups, need}
 use Rattle.layout.specs.BookRules.{word, parseDatas, parseFields}
 use Rattle.layout.specs.Contracts.{refusal}
 use Rattle.layout.specs.Values.{Values, entry, group, measure, nil}
-use Rattle.layout.specs.Message.{Entry, readBlock, readData, readDatas, readDimension, readEntries, readField, readGroup}
-use Rattle.layout.specs.Message.{readGroups, skipDatas, skipGroups}
+use Rattle.layout.specs.Message.{Entry, readBlock, readData, readDatas, readDimension, readEntries, readField}
+use Rattle.layout.specs.Message.{readGroup, readGroups, skipDatas, skipGroups}
 use Rattle.layout.specs.declared.Answer.{Answer}
 use Rattle.layout.specs.declared.Answer.the-variants.{Absent, Group}
 use Rattle.layout.specs.declared.Refusal.{Refusal}

@@ -9,7 +9,7 @@ use Rattle.layout.specs.Result.{Result, done, if_then_else_}
 use Rattle.layout.specs.Book.{Groups}
 use Rattle.layout.specs.BookRules.{word}
 use Rattle.layout.specs.Values.{Values, nil, measure}
-use Rattle.layout.specs.Message.{Entry, readEntries, readBlock, readGroup, readGroups}
+use Rattle.layout.specs.Message.{Entry, readBlock, readDatas, readEntries, readGroup, readGroups}
 use Rattle.layout.specs.declared.Answer.{Answer}
 use Rattle.layout.specs.declared.Answer.the-variants.{Absent}
 use Rattle.templates.specs.Positions.{IsBlock, IsRow, shapeAt, groupsAt, groupsFrom, groupCount}
@@ -29,12 +29,21 @@ module _ (b : List ℕ) (depth w : ℕ) where
     pub block : IsBlock b w
     pub row : IsRow b depth (groupCount b w) (groupsFrom b w)
 
+  -- The block of l octets there, the groups and data of the book being followed by those that the wire has more.
   abbrev pub blockAt : List ℕ → ℕ → OnWire → ℕ → Result Entry
   blockAt m v wire at =
       readBlock m v (shapeAt b w) (readGroups m v innerAt (wire .groups)) (wire .datas) (wire .length) at
 
   abbrev pub entriesAt : List ℕ → ℕ → ℕ → ℕ → ℕ → Result (Values × ℕ)
   entriesAt m v l n at = readEntries n (readBlock m v (shapeAt b w) (readGroups m v innerAt 0) 0 l) at
+
+-- The data of the block at word w.
+abbrev pub datasAt : List ℕ → ℕ → List ℕ → ℕ → ℕ → ℕ → Result (List Answer × ℕ)
+datasAt b w m v surplus at = readDatas m v (shapeAt b w .datas) surplus at
+
+-- The n groups in a row at word w.
+abbrev pub rowAt : List ℕ → ℕ → ℕ → ℕ → List ℕ → ℕ → ℕ → ℕ → Result (Values × ℕ)
+rowAt b depth n w m v surplus at = readGroups m v (groupsAt b depth n w) surplus at
 
 -- The group at word w, if it is present.
 abbrev pub groupAt : List ℕ → ℕ → ℕ → List ℕ → ℕ → ℕ → Result (Answer × Values × ℕ)

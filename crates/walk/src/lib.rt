@@ -4,10 +4,9 @@ ghost use mathlib.Core.Path.{_≡_};
 ghost use Prim.Native.Nat.{_+_, _*_, _≤_};
 ghost use lib.ListN.{length};
 ghost use Rattle.layout.specs.Octets.{wordsOf};
-ghost use Rattle.layout.specs.Message.{readDatas, readGroups};
-ghost use Rattle.templates.specs.Positions.{IsBlock, IsRow, shapeAt, groupsAt};
+ghost use Rattle.templates.specs.Positions.{IsBlock, IsRow};
 ghost use Rattle.walk.specs.Walks.{Lent, BlockAt, datasEnd, entryEnd, groupEnd, valuesEnd, Bounded};
-ghost use Rattle.walk.specs.Walks.{blockAt, entriesAt, groupAt};
+ghost use Rattle.walk.specs.Walks.{blockAt, datasAt, entriesAt, groupAt, rowAt};
 ghost use Rattle.wire.specs.Walks.{walked};
 
 // What a block is on the wire: its length, and how many surplus groups and data follow its own.
@@ -20,7 +19,7 @@ pub struct OnWire {
 // The data of the block at word w of the body, and then the surplus ones.
 fn walk_datas(body: &[u8], w: usize, m: &[u8], v: usize, surplus: usize, start: usize) -> Walked
     requires { ⌜ IsBlock (wordsOf (now body)) w × Lent (now m) start ⌝ }
-    ensures { λ r. ⌜ r ≡ walked (datasEnd 0) (readDatas (now (m .entry)) v (shapeAt (wordsOf (now (body .entry))) w .datas) surplus start) ⌝ }
+    ensures { λ r. ⌜ r ≡ walked (datasEnd 0) (datasAt (wordsOf (now (body .entry))) w (now (m .entry)) v surplus start) ⌝ }
     ensures { λ r. ⌜ Bounded (now (m .entry)) start 16 r ⌝ }
 {
     let mut left = book::word(body, w + 3);
@@ -50,7 +49,7 @@ fn walk_datas(body: &[u8], w: usize, m: &[u8], v: usize, surplus: usize, start: 
 }
 
 // The block at word w, `depth` more levels being left: at `at`, its octets, its groups and its data.
-fn walk_block(
+pub fn walk_block(
     body: &[u8],
     w: usize,
     depth: usize,
@@ -164,7 +163,7 @@ fn walk_groups(
     start: usize,
 ) -> Walked
     requires { ⌜ IsRow (wordsOf (now body)) depth n from × Lent (now m) start × (n ≤ 16) ⌝ }
-    ensures { λ r. ⌜ r ≡ walked (valuesEnd 0) (readGroups (now (m .entry)) v (groupsAt (wordsOf (now (body .entry))) depth n from) surplus start) ⌝ }
+    ensures { λ r. ⌜ r ≡ walked (valuesEnd 0) (rowAt (wordsOf (now (body .entry))) depth n from (now (m .entry)) v surplus start) ⌝ }
     ensures { λ r. ⌜ Bounded (now (m .entry)) start n r ⌝ }
 {
     let mut w = from;

@@ -23,7 +23,8 @@ use Rattle.blocks.proofs.groups_from.Reads as groups-from-reads
 use Rattle.blocks.proofs.skip_row.Reads as skip-row-reads
 use Rattle.blocks.proofs.Laws.{block-fits, inner-end, row-inner}
 use Rattle.wire.proofs.Laws.{dimension-reached, lies-on}
-use Rattle.walk.proofs.Laws.{block-datas, block-groups, block-short, block-whole, denies, entries-end, entries-next}
+use Rattle.walk.proofs.Laws.{block-datas, block-groups, block-short, block-whole, denies, entries-end}
+use Rattle.walk.proofs.Laws.{entries-next}
 use Rattle.walk.proofs.Laws.{entries-refused, group-absent, group-dimension, group-entries, group-whole, leads}
 use Rattle.walk.proofs.Laws.{length-fields, row-end, row-end-refused, row-next, row-refused}
 use Rattle.walk.proofs.walk_datas.Reads as walk-datas-reads
