@@ -156,7 +156,7 @@ pub record Lies (b : List ℕ) (left w : ℕ) : Type 0 where
   pub at : ℕ
   pub good : contentsGood (length b) low at (parseContents b left w) ≡ true
 
-contents-within : (total low at : ℕ) (rows : List ContentsRow) → contentsGood total low at rows ≡ true → at ≤ total
+pub contents-within : (total low at : ℕ) (rows : List ContentsRow) → contentsGood total low at rows ≡ true → at ≤ total
 unfolding contentsGood
 contents-within total low at [] g = omega (arith, eqb-true at total g)
 contents-within total low at (r ∷ rs) g =

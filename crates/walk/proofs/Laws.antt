@@ -35,7 +35,7 @@ told (done a) k f g e = rw (e a) refl
 told (refused n p) k f g e = refl
 
 -- What follows on what was walked.
-then-to : {A B : Type 0} (r : Result A) (f : A → ℕ × ℕ) (x k : ℕ) → To x k ≡ walked f r → (next : A → Result B)
+pub then-to : {A B : Type 0} (r : Result A) (f : A → ℕ × ℕ) (x k : ℕ) → To x k ≡ walked f r → (next : A → Result B)
     (g : B → ℕ × ℕ) (y : Walked)
     → ((a : A) → f a .0 ≡ x → f a .1 ≡ k → walked g (next a) ≡ y) → walked g (r >>= next) ≡ y
 unfolding walked _>>=_
@@ -45,7 +45,7 @@ then-to (done a) f x k e next g y h =
     h a p q
 then-to (refused n p) f x k e next g y h = absurd (let z : _≡_ {A = ℕ} 0 1 = cc in omega arith)
 
-reached : {A : Type 0} (f : A → ℕ × ℕ) (a : A) {x k : ℕ} → f a .0 ≡ x → f a .1 ≡ k → walked f (done a) ≡ To x k
+pub reached : {A : Type 0} (f : A → ℕ × ℕ) (a : A) {x k : ℕ} → f a .0 ≡ x → f a .1 ≡ k → walked f (done a) ≡ To x k
 unfolding walked
 reached f a p q = rw (p, q) refl
 
@@ -64,15 +64,15 @@ leads m at own x k r b e = rw e at b
 -- ---- data
 
 module _ (m : List ℕ) (v : ℕ) (b : List ℕ) (s : ℕ) where
-  abbrev datasAt : ℕ → ℕ → ℕ → Result (List Answer × ℕ)
+  abbrev pub datasAt : ℕ → ℕ → ℕ → Result (List Answer × ℕ)
   datasAt n w at = readDatas m v (parseDatas b n w) s at
 
-  datas-none : (n w at : ℕ) → n ≤ 0 → datasAt n w at ≡ (skipDatas m s at >>= λ x. done ([], x))
+  pub datas-none : (n w at : ℕ) → n ≤ 0 → datasAt n w at ≡ (skipDatas m s at >>= λ x. done ([], x))
   unfolding readDatas parseDatas
   datas-none zero w at h = refl
   datas-none (suc n) w at h = absurd (omega arith)
 
-  datas-step : (n w at : ℕ) → 0 < n → datasAt n w at
+  pub datas-step : (n w at : ℕ) → 0 < n → datasAt n w at
       ≡ ((if leb (word b (w + 1)) v then readData m at else done (Absent, at)) >>= λ d. datasAt (n - 1) (w + 2) (d .1)
       >>= λ r. done (d .0 ∷ r .0, r .1))
   unfolding readDatas parseDatas
@@ -152,7 +152,7 @@ module _ (m : List ℕ) (v : ℕ) (s : Shape) (f : ℕ → Result (Values × ℕ
 
 -- ---- entries
 
-entries-step : (f : ℕ → Result Entry) (n at : ℕ) → 0 < n → readEntries n f at
+pub entries-step : (f : ℕ → Result Entry) (n at : ℕ) → 0 < n → readEntries n f at
     ≡ (f at >>= λ e. readEntries (n - 1) f (e .3) >>= λ r. done (entry (e .0) (e .1) (e .2) (r .0), r .1))
 unfolding readEntries
 entries-step f zero at h = absurd (omega arith)
@@ -221,10 +221,10 @@ module _ (m : List ℕ) (v : ℕ) (s : Shape) (f : ℕ → Result (Values × ℕ
 -- ---- groups in a row
 
 module _ (m : List ℕ) (v : ℕ) (b : List ℕ) (depth s seen n w at : ℕ) where
-  abbrev rowIs : Result (Values × ℕ)
+  abbrev pub rowIs : Result (Values × ℕ)
   rowIs = readGroups m v (groupsAt b depth n w) s at
 
-  row-none : n ≤ 0 → rowIs ≡ (skipGroups m s at >>= λ x. done (nil, x))
+  pub row-none : n ≤ 0 → rowIs ≡ (skipGroups m s at >>= λ x. done (nil, x))
   unfolding readGroups
   row-none h = rw (no-groups-at b depth n w h) refl
 
@@ -238,10 +238,10 @@ module _ (m : List ℕ) (v : ℕ) (b : List ℕ) (depth s seen n w at : ℕ) whe
   row-end-refused h z e = rw (row-none h) (refused-on _ skipEnd _ _ z e)
 
   module _ (o : Opened b depth n w) where
-    abbrev restFrom : ℕ
+    abbrev pub restFrom : ℕ
     restFrom = groupsEnd b (depth - 1) (groupCount b (w + 2)) (groupsFrom b (w + 2))
 
-    row-step : rowIs
+    pub row-step : rowIs
         ≡ (groupAt b (depth - 1) w m v at >>= λ g. readGroups m v (groupsAt b depth (n - 1) restFrom) s (g .2)
         >>= λ r. done (group (g .0) (g .1) (r .0), r .1))
     unfolding readGroups

@@ -1,0 +1,113 @@
+// Walks a whole message by an accepted book: how many records it has, or the refusal 10 to 20.
+use templates::Place;
+use walk::OnWire;
+use wire::Walked;
+ghost use mathlib.Core.Path.{_≡_};
+ghost use Prim.Native.Nat.{_≤_};
+ghost use lib.ListN.{length};
+ghost use Rattle.layout.specs.Octets.{wordsOf};
+ghost use Rattle.layout.specs.Book.{dataSinces, groupSinces};
+ghost use Rattle.layout.specs.Message.{groupCount, dataCount};
+ghost use Rattle.templates.specs.Lookup.{IsBook};
+ghost use Rattle.templates.specs.Positions.{shapeAt};
+ghost use Rattle.wire.specs.Walks.{walked};
+ghost use Rattle.walk.specs.Walks.{BlockAt, Lent, innerAt};
+ghost use Rattle.messages.specs.Whole.{leftOver, messageOf, rootEnd, rootAt, surplusOf, wholeAt};
+
+// How many groups or data the wire has more than are present, or that the header's count of them is wrong.
+pub enum Surplus {
+    Is(usize),
+    Wrong,
+}
+
+// Of `all` elements `present` are present, and the header counts n.
+fn left_over(version: usize, v: usize, all: usize, present: usize, n: usize) -> Surplus
+    requires { ⌜ present ≤ all ⌝ }
+    ensures { λ r. ⌜ r ≡ leftOver version v all present n ⌝ }
+{
+    if v <= version {
+        if n == present {
+            return Surplus::Is(0);
+        }
+        return Surplus::Wrong;
+    }
+    if n < all {
+        return Surplus::Wrong;
+    }
+    Surplus::Is(n - present)
+}
+
+fn surplus_groups(body: &[u8], version: usize, v: usize, m: &[u8]) -> Surplus
+    requires { ⌜ BlockAt (wordsOf (now body)) 4 0 × Lent (now m) 12 ⌝ }
+    ensures { λ r. ⌜ r ≡ surplusOf version v (groupSinces (innerAt (wordsOf (now (body .entry))) 4 0)) (groupCount (now (m .entry))) ⌝ }
+{
+    let all = book::word(body, 2);
+    let present = blocks::present_groups(body, blocks::groups_from(body, 0), all, 4, v);
+    left_over(version, v, all, present, octets::get2(m, 8) as usize)
+}
+
+fn surplus_datas(body: &[u8], version: usize, v: usize, m: &[u8]) -> Surplus
+    requires { ⌜ BlockAt (wordsOf (now body)) 4 0 × Lent (now m) 12 ⌝ }
+    ensures { λ r. ⌜ r ≡ surplusOf version v (dataSinces (shapeAt (wordsOf (now (body .entry))) 0 .datas)) (dataCount (now (m .entry))) ⌝ }
+{
+    let all = book::word(body, 3);
+    let present = blocks::present_datas(body, 4 + 6 * book::word(body, 1), all, v);
+    left_over(version, v, all, present, octets::get2(m, 10) as usize)
+}
+
+// The root block and what follows it, up to the message's end.
+fn walk_whole(body: &[u8], m: &[u8], v: usize, wire: OnWire) -> Walked
+    requires { ⌜ BlockAt (wordsOf (now body)) 4 0 × Lent (now m) 12 ⌝ }
+    ensures { λ r. ⌜ r ≡ walked (rootEnd (now (m .entry))) (wholeAt (wordsOf (now (body .entry))) (now (m .entry)) v wire) ⌝ }
+{
+    let root = walk::walk_block(body, 0, 4, m, v, wire, 12);
+    let Walked::To { next, .. } = root else {
+        return root;
+    };
+    if next == m.len() {
+        return root;
+    }
+    wire::refuse(20, next)
+}
+
+// A message by its template's body, in a book of this version: 14 to 20.
+fn walk_root(body: &[u8], version: usize, m: &[u8]) -> Walked
+    requires { ⌜ BlockAt (wordsOf (now body)) 4 0 × Lent (now m) 12 ⌝ }
+    ensures { λ r. ⌜ r ≡ walked (rootEnd (now (m .entry))) (rootAt (wordsOf (now (body .entry))) (now (m .entry)) version) ⌝ }
+{
+    let v = octets::get2(m, 6) as usize;
+    let length = octets::get2(m, 0) as usize;
+    if length < blocks::need(body, 0, v) {
+        return wire::refuse(14, 0);
+    }
+    let Surplus::Is(groups) = surplus_groups(body, version, v, m) else {
+        return wire::refuse(15, 8);
+    };
+    let Surplus::Is(datas) = surplus_datas(body, version, v, m) else {
+        return wire::refuse(15, 10);
+    };
+    let wire = OnWire {
+        length,
+        groups,
+        datas,
+    };
+    walk_whole(body, m, v, wire)
+}
+
+// A message by an accepted book.
+pub fn walk(book: &[u8], m: &[u8]) -> Walked
+    requires { ⌜ IsBook (now book) ⌝ }
+    ensures { λ r. ⌜ r ≡ walked (rootEnd (now (m .entry))) (messageOf (now (book .entry)) (now (m .entry))) ⌝ }
+{
+    let header = wire::read_header(m, book::word(book, 0));
+    let Walked::To { .. } = header else {
+        return header;
+    };
+    match templates::find(book, octets::get2(m, 2) as usize) {
+        Place::At { first, words } => {
+            let end = 2 * first + 2 * words;
+            walk_root(&book[2 * first..end], book::word(book, 1), m)
+        }
+        Place::Unknown => wire::refuse(13, 2),
+    }
+}
