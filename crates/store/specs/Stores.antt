@@ -1,0 +1,59 @@
+-- The parts of a message at word positions, as they are stored.
+use mathlib.Core.List.{List, _++_, map}
+use mathlib.Core.Bool.{Bool}
+use mathlib.Core.Path.{_≡_}
+use mathlib.Core.Bool.{true}
+use Prim.Native.Nat.{ℕ, _≤_}
+use Rattle.layout.specs.Result.{Each, if_then_else_, done}
+use Rattle.layout.specs.Book.{need}
+use Rattle.layout.specs.BookRules.{shapeGood, groupsGood}
+use Rattle.layout.specs.Values.{listing, recordOf, recordsOf}
+use Rattle.layout.specs.Message.{readData, readField}
+use Rattle.layout.specs.declared.Answer.the-variants.{Absent}
+use Rattle.templates.specs.Positions.{IsRow, groupsAt, shapeAt}
+use Rattle.walk.specs.Walks.{BlockAt, blockAt, datasAt, entriesAt, groupAt, innerAt, rowAt}
+use Rattle.walk.specs.declared.OnWire.{OnWire}
+use Rattle.wire.specs.declared.Walked.{Walked}
+use Rattle.wire.specs.declared.Walked.the-variants.{To, Refused}
+use Rattle.store.specs.declared.Cursor.{Cursor}
+use Rattle.store.specs.Prints.{Printed, got, printed}
+
+-- A block at word w, whose rules and whose groups' rules hold.
+pub record GoodBlock (b : List ℕ) (depth w : ℕ) : Type 0 where
+  pub stands : BlockAt b depth w
+  pub shape : shapeGood (shapeAt b w) ≡ true
+  pub groups : groupsGood (innerAt b depth w) ≡ true
+
+-- n groups in a row at word w, whose rules hold.
+pub record GoodRow (b : List ℕ) (depth n w : ℕ) : Type 0 where
+  pub stands : IsRow b depth n w
+  pub groups : groupsGood (groupsAt b depth n w) ≡ true
+
+-- ---- what each part prints
+
+abbrev pub fieldsPrint : List ℕ → ℕ → List ℕ → ℕ → ℕ → Printed
+fieldsPrint b w m v at = got at (recordsOf (map (readField m v at) (shapeAt b w .fields)))
+
+abbrev pub dataPrint : List ℕ → Bool → ℕ → Printed
+dataPrint m here at = printed (λ d. d .1) (λ d. recordOf (d .0)) (if here then readData m at else done (Absent, at))
+
+abbrev pub datasPrint : List ℕ → ℕ → List ℕ → ℕ → ℕ → ℕ → Printed
+datasPrint b w m v surplus at = printed (λ d. d .1) (λ d. recordsOf (d .0)) (datasAt b w m v surplus at)
+
+unfoldable pub blockPrint : List ℕ → ℕ → ℕ → List ℕ → ℕ → OnWire → ℕ → Printed
+blockPrint b depth w m v wire at =
+    printed (λ e. e .3) (λ e. recordsOf (e .0) ++ (listing (e .1) ++ recordsOf (e .2))) (blockAt b depth w m v wire at)
+
+unfoldable pub entriesPrint : List ℕ → ℕ → ℕ → List ℕ → ℕ → ℕ → ℕ → ℕ → Printed
+entriesPrint b depth w m v l n at = printed (λ r. r .1) (λ r. listing (r .0)) (entriesAt b depth w m v l n at)
+
+unfoldable pub groupPrint : List ℕ → ℕ → ℕ → List ℕ → ℕ → ℕ → Printed
+groupPrint b depth w m v at = printed (λ g. g .2) (λ g. recordOf (g .0) ++ listing (g .1)) (groupAt b depth w m v at)
+
+unfoldable pub rowPrint : List ℕ → ℕ → ℕ → ℕ → List ℕ → ℕ → ℕ → ℕ → Printed
+rowPrint b depth n w m v surplus at = printed (λ r. r .1) (λ r. listing (r .0)) (rowAt b depth n w m v surplus at)
+
+-- The cursor past surplus elements.
+unfoldable pub pastOf : Walked → Cursor → Cursor
+pastOf (To x k) c = record { at = x; n = c .n }
+pastOf (Refused r) c = c
