@@ -11,12 +11,13 @@ use borrow.Author.Tests.{eq-eqb, eqb-true, le-leb, leb-true, lt-leb, ne-eqb}
 use Rattle.layout.specs.Result.{_>>=_, _and_, done, if_then_else_, must, orRefuse}
 use Rattle.layout.specs.Octets.{wordsOf}
 use Rattle.layout.specs.Book.{Book, dataSinces, findTemplate, groupSinces, need, present}
-use Rattle.layout.specs.BookRules.{ContentsRow, bookOf, contentsGood, parseDatas, word}
+use Rattle.layout.specs.BookRules.{ContentsRow, bookOf, contentsGood, groupsGood, parseDatas, shapeGood, word}
 use Rattle.layout.specs.Contracts.{refusal}
 use Rattle.layout.specs.Message.{blockLength, checkHeader, countGood, dataCount, groupCount, readMessage, readRoot}
 use Rattle.layout.specs.Message.{templateId, versionOf}
 use Rattle.layout.specs.Values.{measure}
 use Rattle.layout.specs.declared.Refusal.{Refusal}
+use Rattle.layout.proofs.Accepted.{accepted}
 use Rattle.layout.proofs.Results.{and-left, and-right, done-inj, either, inv-bind, inv-must}
 use Rattle.book.proofs.Bodies.{contents-within}
 use Rattle.book.proofs.Words.{length-words}
@@ -124,7 +125,7 @@ module _ (b m : List ℕ) (version v l : ℕ) (e : v ≡ versionOf m) (f : l ≡
         rw (sym e, sym f, le-leb _ _ h, counts-good _ _ _ _ x g .0, counts-bad _ _ _ _ d) refl
 
     pub root-on : (x y : ℕ) → Is x ≡ groups → Is y ≡ datas
-        → answer ≡ walked (rootEnd m) (wholeAt b m v (record { length = l; groups = x; datas = y }))
+        → rootAt b m version ≡ wholeAt b m v (record { length = l; groups = x; datas = y })
     unfolding readRoot wholeAt must _>>=_
     root-on x y g d =
         let p = counts-good version v (groupSinces (innerAt b 4 0)) (groupCount m) x g in
@@ -195,7 +196,7 @@ module _ (s : List ℕ) (k : IsBook s) where
   abbrev b : List ℕ
   b = wordsOf s
 
-  book-numbers : (k .tree .schema ≡ word b 0) × (k .tree .version ≡ word b 1)
+  pub book-numbers : (k .tree .schema ≡ word b 0) × (k .tree .version ≡ word b 1)
   unfolding bookOf
   book-numbers =
       let p = inv-bind _ _ _ (inv-bind _ _ _ (inv-bind _ _ _ (inv-bind _ _ _ (k .is) .next) .next) .next) in
@@ -215,6 +216,12 @@ module _ (s : List ℕ) (k : IsBook s) where
 
     opened : OpenedBody body (leads .shape) (leads .groups)
     opened = open-body body _ (leads .body)
+
+    -- The rules of 5 hold of it.
+    pub body-rules : (shapeGood (shapeAt body 0) ≡ true) × (groupsGood (innerAt body 4 0) ≡ true)
+    body-rules =
+        let good = accepted s (k .tree) id _ (k .is) (leads .found) .1 .layout in
+        (rw (opened .shape) at (and-left _ _ good), rw (opened .groups) at (and-right _ _ good))
 
     pub body-block : BlockAt body 4 0
     body-block = record { block = opened .block; row = opened .row }
@@ -246,7 +253,7 @@ module _ (s : List ℕ) (k : IsBook s) where
 
       pub message-found : (id : ℕ) → id ≡ templateId m → (first words : ℕ)
           → (e : At first words ≡ placeOf (findRow id (rowsOf b))) → (version : ℕ) → version ≡ word b 1
-          → walked (rootEnd m) (messageOf s m) ≡ walked (rootEnd m) (rootAt (take words (drop first b)) m version)
+          → messageOf s m ≡ rootAt (take words (drop first b)) m version
       unfolding readMessage readRoot _>>=_ orRefuse
       message-found id i first words e version v =
           let o = opened id first words e in

@@ -37,7 +37,7 @@ fn left_over(version: usize, v: usize, all: usize, present: usize, n: usize) -> 
     Surplus::Is(n - present)
 }
 
-fn surplus_groups(body: &[u8], version: usize, v: usize, m: &[u8]) -> Surplus
+pub fn surplus_groups(body: &[u8], version: usize, v: usize, m: &[u8]) -> Surplus
     requires { ⌜ BlockAt (wordsOf (now body)) 4 0 × Lent (now m) 12 ⌝ }
     ensures { λ r. ⌜ r ≡ surplusOf version v (groupSinces (innerAt (wordsOf (now (body .entry))) 4 0)) (groupCount (now (m .entry))) ⌝ }
 {
@@ -46,7 +46,7 @@ fn surplus_groups(body: &[u8], version: usize, v: usize, m: &[u8]) -> Surplus
     left_over(version, v, all, present, octets::get2(m, 8) as usize)
 }
 
-fn surplus_datas(body: &[u8], version: usize, v: usize, m: &[u8]) -> Surplus
+pub fn surplus_datas(body: &[u8], version: usize, v: usize, m: &[u8]) -> Surplus
     requires { ⌜ BlockAt (wordsOf (now body)) 4 0 × Lent (now m) 12 ⌝ }
     ensures { λ r. ⌜ r ≡ surplusOf version v (dataSinces (shapeAt (wordsOf (now (body .entry))) 0 .datas)) (dataCount (now (m .entry))) ⌝ }
 {

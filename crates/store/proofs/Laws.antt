@@ -16,8 +16,9 @@ use Rattle.layout.specs.Values.{Values, entry, group, nil, listing, recordOf, r
 use Rattle.layout.specs.Message.{Entry, dimensionSize, readBlock, readData, readDatas, readDimension, readEntries}
 use Rattle.layout.specs.Message.{readField, readGroup, readGroups, skipDatas, skipGroups}
 use Rattle.layout.specs.declared.Answer.{Answer}
-use Rattle.layout.specs.declared.Answer.the-variants.{Absent, Group, Null, Number, Octets, OutOfRange}
+use Rattle.layout.specs.declared.Answer.the-variants.{Absent, Group, Octets}
 use Rattle.layout.proofs.Results.{and-left, and-right, done-inj, either, inv-bind, inv-must, or-right}
+use Rattle.layout.proofs.Records.{record-three}
 use Rattle.layout.proofs.Fields.{FieldGood, field-good}
 use Rattle.templates.specs.Positions.{Opened, groupCount, groupsAt, groupsEnd, groupsFrom, shapeAt}
 use Rattle.templates.proofs.Open.{no-groups-at}
@@ -47,7 +48,7 @@ unfolding printed endOf numbersOf
 room-done e p (done a) n k h = record { value = a; is = refl }
 room-done e p (refused c q) n k h = absurd (let z : _≡_ {A = ℕ} 0 1 = cc (h .whole) in omega arith)
 
-prints : {A : Type 0} (e : A → ℕ) (p : A → List ℕ) (r : Result A) (a : A) → r ≡ done a → printed e p r ≡ got (e a) (p a)
+pub prints : {A : Type 0} (e : A → ℕ) (p : A → List ℕ) (r : Result A) (a : A) → r ≡ done a → printed e p r ≡ got (e a) (p a)
 unfolding printed
 prints e p r a is = rw is refl
 
@@ -74,23 +75,14 @@ module _ {A B C : Type 0} (e : A → ℕ) (p : A → List ℕ) (e″ : B → ℕ
 
 -- ---- one answer
 
-pub length-record : (a : Answer) → length (recordOf a) ≡ 3
-unfolding recordOf
-length-record (Number x) = refl
-length-record Null = refl
-length-record (Octets start len) = refl
-length-record Absent = refl
-length-record (Group entries) = refl
-length-record (OutOfRange x) = refl
-
 module _ (x : Printed) (p : ℕ) (a : Answer) (same : x ≡ got p (recordOf a)) (n : ℕ) where
   pub answer-room : (k : ℕ) → Room x n k → n + 3 ≤ k
   unfolding numbersOf
-  answer-room k r = rw (same, length-record a) at (r .fits)
+  answer-room k r = rw (same, record-three a) at (r .fits)
 
   pub answer-stored : (d e : List ℕ) → e ≡ sets d n (recordOf a) → Stored x n d p (n + 3) e
   unfolding endOf numbersOf
-  answer-stored d e q = rw same (record { place = refl; taken = rw (length-record a) refl; room = q })
+  answer-stored d e q = rw same (record { place = refl; taken = rw (record-three a) refl; room = q })
 
 -- ---- fields
 

@@ -1,5 +1,5 @@
 -- The header, the template's place and its body, as the book's tree has them.
-use mathlib.Core.Path.{_∙_, _≡_, sym}
+use mathlib.Core.Path.{_∙_, _≡_, ap, sym}
 use Prim.Native.Nat.{_+_, _/_, _≤_}
 use native.Mathlib.Omega.{arith}
 use borrow.Author.Needs.{needs}
@@ -14,6 +14,7 @@ use Rattle.templates.proofs.Found.{contents}
 use Rattle.wire.specs.Walks.{headerEnd, walked}
 use Rattle.wire.specs.declared.Walked.the-variants.{To}
 use Rattle.walk.specs.Walks.{Lent}
+use Rattle.messages.specs.Whole.{rootEnd}
 use Rattle.messages.proofs.Laws.{body-block, body-within, header-lent, message-found, message-header}
 use Rattle.messages.proofs.Laws.{message-unknown}
 use Rattle.messages.proofs.walk.Statement.{statement}
@@ -72,8 +73,8 @@ returns-2 c =
     let word = get .before .before .before .before in
     rw (words-between (start known .args .book .now) (place .0) (place .1 .0))
     at (c .walk-root .ensures)
-    ∙ sym (message-found _ (start known .pre) _ _ (word .word .ensures .value) _ _ (told (get .before)) _
-    (get .get2 .ensures .value) _ _ (found known) _ (c .before .word2 .ensures .value))
+    ∙ ap (walked (rootEnd (start known .args .m .now))) (sym (message-found _ (start known .pre) _ _ (word .word .ensures .value) _ _ (told (get .before)) _
+    (get .get2 .ensures .value) _ _ (found known) _ (c .before .word2 .ensures .value)))
 
 returns-3 : tie.Need-returns-3
 returns-3 c =

@@ -1,6 +1,8 @@
 -- The header's tests in order, and then the whole.
-use mathlib.Core.Path.{_∙_, sym}
+use mathlib.Core.Path.{_∙_, ap, sym}
 use borrow.Author.Needs.{needs}
+use Rattle.wire.specs.Walks.{walked}
+use Rattle.messages.specs.Whole.{rootEnd}
 use Rattle.messages.proofs.Laws.{root-datas, root-groups, root-on, root-short}
 use Rattle.messages.proofs.walk_root.Statement.{statement}
 use Rattle.messages.proofs.walk_root.Tie as tie
@@ -51,10 +53,10 @@ returns-4 c =
     let l = need .before .get22 .ensures .value in
     let start = need .before .before .before .before .before in
     c .walk-whole .ensures
-    ∙ sym (root-on _ (start .args .m .now) _ _ _ v l
+    ∙ ap (walked (rootEnd (start .args .m .now))) (sym (root-on _ (start .args .m .now) _ _ _ v l
     (rw (need .need .ensures) at (groups .before .if1 .left))
     _ _ (sym (datas .before .before .groups .given .1) ∙ groups .surplus-groups .ensures)
-    (sym (told .before .datas .given .1) ∙ datas .surplus-datas .ensures))
+    (sym (told .before .datas .given .1) ∙ datas .surplus-datas .ensures)))
 
 pub walk-root-spec : {M : Type 1} → statement M
 walk-root-spec =

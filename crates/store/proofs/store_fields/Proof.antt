@@ -11,7 +11,8 @@ use Rattle.blocks.proofs.Laws.{block-fits}
 use Rattle.store.specs.Stores.{fieldsPrint}
 use Rattle.store.proofs.Going.{Going, going-end, going-long, going-none, going-put, going-room, room-put}
 use Rattle.store.proofs.Going.{stored-none}
-use Rattle.store.proofs.Laws.{fields-each, fields-end, fields-step, fieldsFrom, length-record}
+use Rattle.store.proofs.Laws.{fields-each, fields-end, fields-step, fieldsFrom}
+use Rattle.layout.proofs.Records.{record-three}
 use Rattle.store.proofs.store_fields.Statement.{statement}
 use Rattle.store.proofs.store_fields.Tie as tie
 
@@ -43,7 +44,7 @@ read-field-requires c κs =
 next : (c : tie.In-loop Inv-loop μ-loop) → c .before .loop .n + 3 ≤ length (c .before .loop .room)
 next c =
     let r = going-room (c .before .loop .inv .2) (c .before .before .before .before .before .before .pre .1) in
-    rw (length-record _) at (room-put _ _ _ _ (rw (fields-step _ _ _ _ _ _ (c .loop-test .taken)) at r))
+    rw (record-three _) at (room-put _ _ _ _ (rw (fields-step _ _ _ _ _ _ (c .loop-test .taken)) at r))
 
 add-n : tie.Need-add-n Inv-loop μ-loop
 add-n c =
@@ -57,7 +58,7 @@ loop-again c =
     let inv = i .before .loop .inv in (
       fields-each _ _ _ _ (i .loop-test .taken) (inv .0) .1,
       omega arith,
-      rw (length-record _) at
+      rw (record-three _) at
           (going-put (inv .2) _ _ _ (fields-step _ _ _ _ _ _ (i .loop-test .taken))
           (rw (read .read-field .ensures) at (c .before .before .put .ensures))),
     )
