@@ -151,16 +151,16 @@ fn store_entries(
     ensures { λ r. ⌜ Stored (entriesPrint (wordsOf (now (body .entry))) depth w (now (m .entry)) v l n (c .at)) (c .n) (now (room .entry)) (r .at) (r .n) (now (room .exit)) ⌝ }
     ensures { λ r. ⌜ r .at ≤ length (now (m .entry)) ⌝ }
 {
-    let mut left = n;
+    let mut due = n;
     let mut s = c;
-    while 0 < left {
+    while 0 < due {
         let wire = OnWire {
             length: l,
             groups: 0,
             datas: 0,
         };
         s = store_block(body, w, depth, m, v, wire, room, s);
-        left = left - 1;
+        due = due - 1;
     }
     s
 }

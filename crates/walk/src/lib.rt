@@ -100,10 +100,10 @@ fn walk_entries(
     ensures { λ r. ⌜ r ≡ walked (valuesEnd 0) (entriesAt (wordsOf (now (body .entry))) depth w (now (m .entry)) v l n start) ⌝ }
     ensures { λ r. ⌜ Bounded (now (m .entry)) start (96 * n) r ⌝ }
 {
-    let mut left = n;
+    let mut due = n;
     let mut at = start;
     let mut seen = 0;
-    while 0 < left {
+    while 0 < due {
         let wire = OnWire {
             length: l,
             groups: 0,
@@ -115,7 +115,7 @@ fn walk_entries(
         };
         at = next;
         seen = seen + records;
-        left = left - 1;
+        due = due - 1;
     }
     Walked::To {
         next: at,
