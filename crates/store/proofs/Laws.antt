@@ -1,5 +1,5 @@
--- What each part of a message prints, taken apart in the code's terms: that it was accepted is known, so no test is made.
-use mathlib.Core.Path.{_≡_, refl, sym, ap, _∙_}
+-- What each part of a message prints, taken apart in the code's terms. That it was accepted is known: no test is made.
+use mathlib.Core.Path.{_≡_, refl, sym, _∙_}
 use mathlib.Core.List.{List, [], _∷_, _++_, map, append-assoc}
 use mathlib.Core.Bool.{Bool, true, false}
 use Prim.Native.Nat.{ℕ, zero, suc, _+_, _-_, _≤_, _<_}
@@ -10,28 +10,26 @@ use lib.Seq.{sets}
 use borrow.Author.Tests.{eqb-true, le-leb, lt-leb, leb-true}
 use Rattle.layout.specs.Result.{Each, Result, done, refused, must, if_then_else_, _>>=_}
 use Rattle.layout.specs.Octets.{number16}
-use Rattle.layout.specs.Book.{Field, Shape, Groups, end, need, needAfter}
-use Rattle.layout.specs.BookRules.{fieldAt, fieldsGood, groupsGood, lengthGood, parseDatas, parseFields, shapeGood, word}
-use Rattle.layout.specs.Values.{Values, entry, group, nil, listing, recordOf, recordsOf}
-use Rattle.layout.specs.Message.{Entry, dimensionSize, readBlock, readData, readDatas, readDimension, readEntries}
+use Rattle.layout.specs.Book.{Field, end, need, needAfter}
+use Rattle.layout.specs.BookRules.{fieldAt, fieldsGood, groupsGood, lengthGood, parseDatas, parseFields, word}
+use Rattle.layout.specs.Values.{Values, group, nil, listing, recordOf, recordsOf}
+use Rattle.layout.specs.Message.{readBlock, readData, readDatas, readDimension, readEntries}
 use Rattle.layout.specs.Message.{readField, readGroup, readGroups, skipDatas, skipGroups}
 use Rattle.layout.specs.declared.Answer.{Answer}
 use Rattle.layout.specs.declared.Answer.the-variants.{Absent, Group, Octets}
-use Rattle.layout.proofs.Results.{and-left, and-right, done-inj, either, inv-bind, inv-must, or-right}
+use Rattle.layout.proofs.Results.{and-left, and-right, either, inv-bind, inv-must, or-right}
 use Rattle.layout.proofs.Records.{record-three}
 use Rattle.layout.proofs.Fields.{FieldGood, field-good}
 use Rattle.templates.specs.Positions.{Opened, groupCount, groupsAt, groupsEnd, groupsFrom, shapeAt}
-use Rattle.templates.proofs.Open.{no-groups-at}
 use Rattle.fields.specs.Readable.{Fits}
 use Rattle.wire.specs.Walks.{Inside, skipEnd, walked}
 use Rattle.wire.specs.declared.Walked.{Walked}
 use Rattle.wire.specs.declared.Walked.the-variants.{Refused, To}
-use Rattle.wire.proofs.Laws.{dimension-read}
-use Rattle.walk.specs.Walks.{groupAt, innerAt}
+use Rattle.walk.specs.Walks.{innerAt}
 use Rattle.walk.proofs.Laws as walking
 use Rattle.walk.specs.declared.OnWire.{OnWire}
 use Rattle.store.specs.declared.Cursor.{Cursor}
-use Rattle.store.specs.Prints.{Printed, got, not, printed, prepend, andThen, endOf, numbersOf, Room, Stored}
+use Rattle.store.specs.Prints.{Printed, got, printed, prepend, andThen, endOf, numbersOf, Room, Stored}
 use Rattle.store.specs.Stores.{GoodBlock, GoodRow, blockPrint, dataPrint, datasPrint, entriesPrint, fieldsPrint, groupPrint, pastOf}
 use Rattle.store.specs.Stores.{rowPrint}
 use Rattle.store.proofs.Going.{prepend-nil, prepend-prepend}
@@ -48,7 +46,8 @@ unfolding printed endOf numbersOf
 room-done e p (done a) n k h = record { value = a; is = refl }
 room-done e p (refused c q) n k h = absurd (let z : _≡_ {A = ℕ} 0 1 = cc (h .whole) in omega arith)
 
-pub prints : {A : Type 0} (e : A → ℕ) (p : A → List ℕ) (r : Result A) (a : A) → r ≡ done a → printed e p r ≡ got (e a) (p a)
+pub prints : {A : Type 0} (e : A → ℕ) (p : A → List ℕ) (r : Result A) (a : A) → r ≡ done a
+    → printed e p r ≡ got (e a) (p a)
 unfolding printed
 prints e p r a is = rw is refl
 
@@ -132,7 +131,8 @@ module _ (b : List ℕ) (m : List ℕ) (v at n f : ℕ) where
   fieldsFrom = got at (recordsOf (map (readField m v at) (parseFields b n f)))
 
 pub fields-step : (b m : List ℕ) (v at n f : ℕ) → 0 < n
-    → fieldsFrom b m v at n f ≡ prepend (recordOf (readField m v at (fieldAt b f))) (fieldsFrom b m v at (n - 1) (f + 6))
+    → fieldsFrom b m v at n f ≡ prepend (recordOf (readField m v at (fieldAt b f)))
+    (fieldsFrom b m v at (n - 1) (f + 6))
 unfolding parseFields recordsOf prepend
 fields-step b m v at zero f h = absurd (omega arith)
 fields-step b m v at (suc n) f h = let q : suc n - 1 ≡ n = omega arith in rw q refl
@@ -247,7 +247,8 @@ block-open b depth w m v wire at n k r =
       within = leb-true _ _ fits;
       same =
           rw fits
-          (after (λ g. g .1) (λ g. listing (g .0)) (λ d. d .1) (λ d. recordsOf (d .0)) _ _ _ _ (λ g d. refl) (λ g d. refl)
+          (after (λ g. g .1) (λ g. listing (g .0)) (λ d. d .1) (λ d. recordsOf (d .0)) _ _ _ _ (λ g d. refl)
+          (λ g d. refl)
           _ (λ x. readDatas m v (shapeAt b w .datas) (wire .datas) x));
     }
 
@@ -277,7 +278,8 @@ module _ (b : List ℕ) (depth w : ℕ) (m : List ℕ) (v at : ℕ) where
       (entriesPrint b depth (w + 2) m v (number16 m at) (number16 m (at + 2)) (at + 4))
   unfolding readGroup _>>=_ entriesPrint
   group-same d =
-      rw d (mapped (λ r. r .1) (λ r. listing (r .0)) _ _ _ (recordOf (Group (number16 m (at + 2)))) (λ r. refl) (λ r. refl) _)
+      rw d (mapped (λ r. r .1) (λ r. listing (r .0)) _ _ _ (recordOf (Group (number16 m (at + 2)))) (λ r. refl)
+      (λ r. refl) _)
 
   group-opened : groupPrint b depth w m v at ≡ groupPrinted → (g : Answer × Values × ℕ) → groupIs ≡ done g
       → GroupOpen b depth w m v at
@@ -330,13 +332,15 @@ module _ (b m : List ℕ) (depth v surplus n w at : ℕ) where
   unfolding listing rowPrint groupPrint
   row-step o =
       rw (walking.row-step m v b depth surplus 0 n w at o)
-      (after (λ g. g .2) (λ g. recordOf (g .0) ++ listing (g .1)) (λ r. r .1) (λ r. listing (r .0)) _ _ _ [] (λ g r. refl)
+      (after (λ g. g .2) (λ g. recordOf (g .0) ++ listing (g .1)) (λ r. r .1) (λ r. listing (r .0)) _ _ _ []
+      (λ g r. refl)
       (λ g r. sym (append-assoc (recordOf (g .0)) (listing (g .1)) (listing (r .0)))) _
       (λ x. readGroups m v (groupsAt b depth (n - 1) (walking.restFrom m v b depth surplus 0 n w at o)) surplus x)
       ∙ sym (prepend-nil _))
 
   module _ (i k : ℕ) (h : n ≤ 0) (r : Room (rowPrint b depth n w m v surplus at) i k) (c : Cursor) where
-    pub row-past : (rowPrint b depth n w m v surplus at ≡ got (pastOf (walked skipEnd (skipGroups m surplus at)) c .at) [])
+    pub row-past : (rowPrint b depth n w m v surplus at
+        ≡ got (pastOf (walked skipEnd (skipGroups m surplus at)) c .at) [])
         × (pastOf (walked skipEnd (skipGroups m surplus at)) c .n ≡ c .n)
     unfolding rowPrint
     row-past =

@@ -3,9 +3,8 @@ use mathlib.Core.List.{List, _++_, map}
 use mathlib.Core.Bool.{Bool}
 use mathlib.Core.Path.{_≡_}
 use mathlib.Core.Bool.{true}
-use Prim.Native.Nat.{ℕ, _≤_}
-use Rattle.layout.specs.Result.{Each, if_then_else_, done}
-use Rattle.layout.specs.Book.{need}
+use Prim.Native.Nat.{ℕ}
+use Rattle.layout.specs.Result.{if_then_else_, done}
 use Rattle.layout.specs.BookRules.{shapeGood, groupsGood}
 use Rattle.layout.specs.Values.{listing, recordOf, recordsOf}
 use Rattle.layout.specs.Message.{readData, readField}

@@ -1,6 +1,6 @@
 -- One law for each way that a function of the walk ends or goes on, in the code's terms.
 use mathlib.Core.Path.{_≡_, refl, sym, ap, _∙_}
-use mathlib.Core.List.{List, [], _∷_, map}
+use mathlib.Core.List.{List, [], _∷_}
 use Prim.Native.Nat.{ℕ, zero, suc, _+_, _-_, _*_, _≤_, _<_}
 use native.Mathlib.Omega.{arith}
 use lib.Dec.{leb}
@@ -8,7 +8,7 @@ use lib.ListN.{length, length-map}
 use borrow.Author.Tests.{le-leb, lt-leb}
 use Rattle.layout.specs.Result.{Result, done, refused, must, if_then_else_, _>>=_}
 use Rattle.layout.specs.Octets.{number16}
-use Rattle.layout.specs.Book.{Field, Shape, Groups, need}
+use Rattle.layout.specs.Book.{Shape, need}
 use Rattle.layout.specs.BookRules.{word, parseDatas, parseFields}
 use Rattle.layout.specs.Contracts.{refusal}
 use Rattle.layout.specs.Values.{Values, entry, group, measure, nil}
@@ -17,13 +17,13 @@ use Rattle.layout.specs.Message.{readGroup, readGroups, skipDatas, skipGroups}
 use Rattle.layout.specs.declared.Answer.{Answer}
 use Rattle.layout.specs.declared.Answer.the-variants.{Absent, Group}
 use Rattle.layout.specs.declared.Refusal.{Refusal}
-use Rattle.templates.specs.Positions.{Opened, groupCount, groupsAt, groupsEnd, groupsFrom, shapeAt}
+use Rattle.templates.specs.Positions.{Opened, groupCount, groupsAt, groupsEnd, groupsFrom}
 use Rattle.templates.proofs.Open.{no-groups-at}
 use Rattle.wire.specs.Walks.{walked, dataEnd, dimensionEnd, skipEnd}
 use Rattle.wire.specs.declared.Walked.{Walked}
 use Rattle.wire.specs.declared.Walked.the-variants.{To, Refused}
-use Rattle.wire.proofs.Laws.{dimension-reached, inv-to, refused-on}
-use Rattle.walk.specs.Walks.{Bounded, datasEnd, entryEnd, groupAt, groupEnd, innerAt, rate, valuesEnd}
+use Rattle.wire.proofs.Laws.{dimension-reached, refused-on}
+use Rattle.walk.specs.Walks.{Bounded, datasEnd, entryEnd, groupAt, groupEnd, rate, valuesEnd}
 
 -- ---- whatever is walked
 

@@ -1,6 +1,5 @@
 -- What walking a part of a message by an accepted body comes to: the definition's answer at word positions, and how
 -- far and how many it can be.
-use mathlib.Core.Path.{_≡_}
 use mathlib.Core.List.{List}
 use Prim.Native.Nat.{ℕ, _+_, _*_, _≤_}
 use lib.Dec.{leb}

@@ -1,5 +1,4 @@
 -- What walking a part of a message comes to, by the definition's answer.
-use mathlib.Core.Path.{_≡_}
 use Prim.Native.Nat.{ℕ, _+_, _≤_}
 use Rattle.layout.specs.Result.{Result, done, refused}
 use Rattle.layout.specs.Contracts.{refusal}

@@ -1,6 +1,6 @@
 -- `listing::put_text` meets its contract: only the lengths matter, and `out` keeps its own.
 use mathlib.Core.Path.{_≡_, refl}
-use Prim.Native.Nat.{_-_, _≤_}
+use Prim.Native.Nat.{_-_}
 use native.Mathlib.Omega.{arith}
 use borrow.Author.Needs.{needs}
 use lib.ListN.{length}

@@ -1,16 +1,15 @@
 -- The message was accepted, so its template is in the book, and its numbers are the root's.
-use mathlib.Core.Path.{_≡_, _∙_, ap, refl, sym}
+use mathlib.Core.Path.{_≡_, _∙_, refl, sym}
 use Prim.Native.Nat.{_+_, _*_, _-_, _/_, _≤_}
 use native.Mathlib.Omega.{arith}
 use borrow.Author.Needs.{needs}
 use lib.ListN.{drop, length, take}
 use Rattle.layout.specs.Octets.{wordsOf}
-use Rattle.book.proofs.RuleLaws.{Head, head-says}
+use Rattle.book.proofs.RuleLaws.{head-says}
 use Rattle.book.proofs.Words.{words-between}
 use Rattle.templates.specs.Lookup.{findRow, placeOf, rowsOf}
 use Rattle.templates.specs.declared.Place.the-variants.{At}
 use Rattle.templates.proofs.Found.{contents}
-use Rattle.store.specs.Prints.{numbersOf}
 use Rattle.messages.proofs.Laws.{body-block, body-rules, body-within, message-found, message-unknown}
 use Rattle.listings.specs.Whole.{messagePrint, rootPrint}
 use Rattle.listings.proofs.Laws.{header-done, message-fine, message-root}

@@ -73,7 +73,8 @@ returns-2 c =
     let word = get .before .before .before .before in
     rw (words-between (start known .args .book .now) (place .0) (place .1 .0))
     at (c .walk-root .ensures)
-    ∙ ap (walked (rootEnd (start known .args .m .now))) (sym (message-found _ (start known .pre) _ _ (word .word .ensures .value) _ _ (told (get .before)) _
+    ∙ ap (walked (rootEnd (start known .args .m .now)))
+    (sym (message-found _ (start known .pre) _ _ (word .word .ensures .value) _ _ (told (get .before)) _
     (get .get2 .ensures .value) _ _ (found known) _ (c .before .word2 .ensures .value)))
 
 returns-3 : tie.Need-returns-3

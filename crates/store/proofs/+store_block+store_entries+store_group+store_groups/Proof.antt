@@ -1,6 +1,6 @@
 -- The storing pass calls itself as the walk does. Of the whole's numbers some are stored, and those of what is left are
 -- to come (`Going`); that the whole was accepted and has room is handed on to what is left, so no test is made.
-use mathlib.Core.Path.{_≡_, sym, _∙_, refl}
+use mathlib.Core.Path.{_≡_, _∙_, refl}
 use mathlib.Core.List.{[]}
 use Prim.Native.Nat.{ℕ, _+_, _*_, _<_, _≤_}
 use native.Mathlib.Omega.{arith}
@@ -61,7 +61,8 @@ abbrev entries-Inv : entries-lts.InvT-loop
 entries-Inv body w depth m v l n room₀ left₀ s₀ room left s =
     let b = wordsOf body in
     (s .at ≤ length m)
-    × Going (entriesPrint b depth w m v l n (s₀ .at)) (entriesPrint b depth w m v l left (s .at)) (s₀ .n) room₀ (s .n) room
+    × Going (entriesPrint b depth w m v l n (s₀ .at)) (entriesPrint b depth w m v l left (s .at)) (s₀ .n) room₀
+    (s .n) room
 
 abbrev entries-μ-loop : entries-lts.MeasureT-loop
 entries-μ-loop body w depth m v l n room₀ left₀ s₀ room left s = left
@@ -70,7 +71,8 @@ abbrev row-Inv : row-lts.InvT-loop
 row-Inv body from n depth m v surplus room₀ w₀ left₀ s₀ room w left s =
     let b = wordsOf body in
     GoodRow b depth left w × (s .at ≤ length m)
-    × Going (rowPrint b depth n from m v surplus (s₀ .at)) (rowPrint b depth left w m v surplus (s .at)) (s₀ .n) room₀ (s .n) room
+    × Going (rowPrint b depth n from m v surplus (s₀ .at)) (rowPrint b depth left w m v surplus (s .at)) (s₀ .n) room₀
+    (s .n) room
 
 abbrev row-μ-loop : row-lts.MeasureT-loop
 row-μ-loop body from n depth m v surplus room₀ w₀ left₀ s₀ room w left s = left
@@ -144,7 +146,8 @@ module _ (t : ℕ) where
       (a .c .n) (a .room .now) (c .store-groups .result .n) (c .store-groups .last .1 .1 .1 .1 .1 .1 .1 .0)
   block-groups c =
       let start = c .before .before .before .before .before .before .before .before .before .before .before .before in
-      going-call (block-fields (c .before .before .before .before .before .before .before)) (start .pre .1 .1 .0) _ _ _ _ _ refl
+      going-call (block-fields (c .before .before .before .before .before .before .before))
+      (start .pre .1 .1 .0) _ _ _ _ _ refl
       (rw (c .before .before .word .ensures .value, c .before .before .before .groups-from .ensures)
       at (c .store-groups .ensures .0))
 
@@ -166,19 +169,29 @@ module _ (t : ℕ) where
       omega (arith, block-opened start .within, start .good)
 
   block-groups-from-requires : block-Need block-lts.Need-groups-from-requires
-  block-groups-from-requires c κs = c .before .before .before .before .before .before .before .before .pre .1 .0 .0 .stands .block
+  block-groups-from-requires c κs =
+      c .before .before .before .before .before .before .before .before .pre .1 .0 .0 .stands .block
 
   block-add-word-2 : block-Need block-lts.Need-add-word-2
-  block-add-word-2 c = omega (arith, block-fits _ _ (c .before .before .before .before .before .before .before .before .before .pre .1 .0 .0 .stands .block))
+  block-add-word-2 c = omega (
+    arith,
+    block-fits _ _
+        (c .before .before .before .before .before .before .before .before .before .pre .1 .0 .0 .stands .block),
+  )
 
   block-word-requires : block-Need block-lts.Need-word-requires
-  block-word-requires c κs = omega (arith, block-fits _ _ (c .before .before .before .before .before .before .before .before .before .pre .1 .0 .0 .stands .block))
+  block-word-requires c κs = omega (
+    arith,
+    block-fits _ _
+        (c .before .before .before .before .before .before .before .before .before .pre .1 .0 .0 .stands .block),
+  )
 
   block-store-groups-requires : block-Need block-lts.Need-store-groups-requires
   block-store-groups-requires c κs =
       let start = c .before .before .before .before .before .before .before .before .before .before .before in
       let good = start .pre .1 .0 .0 in
-      let row = going-first (block-fields (c .before .before .before .before .before .before)) (start .pre .1 .1 .0) _ _ refl in (
+      let row = going-first (block-fields (c .before .before .before .before .before .before))
+      (start .pre .1 .1 .0) _ _ refl in (
         omega arith,
         rw (c .before .word .ensures .value, c .before .before .groups-from .ensures) (
           record { stands = good .stands .row; groups = good .groups },
@@ -189,7 +202,8 @@ module _ (t : ℕ) where
   block-store-datas-requires : block-Need block-lts.Need-store-datas-requires
   block-store-datas-requires c κs =
       let call = c .before .before .before in
-      let start = call .before .before .before .before .before .before .before .before .before .before .before .before in (
+      let start =
+      call .before .before .before .before .before .before .before .before .before .before .before .before in (
         (start .pre .1 .0 .0 .stands .block, call .store-groups .ensures .1),
         going-room (block-groups call) (start .pre .1 .1 .0),
       )
@@ -203,14 +217,16 @@ module _ (t : ℕ) where
   block-returns c =
       let call = c .before .before in
       let groups = call .before .before .before .before in (
-        going-end (block-groups groups) (groups .before .before .before .before .before .before .before .before .before .before .before .before .pre .1 .1 .0) _ _ _ (call .store-datas .ensures .0),
+        going-end (block-groups groups)
+            (groups .before .before .before .before .before .before .before .before .before .before .before .before .pre .1 .1 .0) _ _ _ (call .store-datas .ensures .0),
         call .store-datas .ensures .1,
       )
 
   abbrev entries-claims : entries-lts.Claims
   entries-claims = (block-below, block-reads.Post)
 
-  abbrev entries-Need : (entries-lts.Claims → In 3 entries-lts.ps → Out 3 entries-lts.ps entries-lts.r → entries-lts.InvT-loop → entries-lts.MeasureT-loop → Type 0) → Type 0
+  abbrev entries-Need : (entries-lts.Claims → In 3 entries-lts.ps → Out 3 entries-lts.ps entries-lts.r
+      → entries-lts.InvT-loop → entries-lts.MeasureT-loop → Type 0) → Type 0
   entries-Need n = n entries-claims entries-at entries-reads.Post entries-Inv entries-μ-loop
 
   entries-loop-holds : entries-Need entries-lts.Need-loop-holds
@@ -225,7 +241,11 @@ module _ (t : ℕ) where
         omega arith,
         (
           start .pre .1 .0,
-          (going-first (inv .1) (start .pre .1 .1 .0) _ _ (entries-step _ _ _ _ _ _ _ _ (c .before .loop-test .taken)), inv .0),
+          (
+            going-first (inv .1) (start .pre .1 .1 .0) _ _
+                (entries-step _ _ _ _ _ _ _ _ (c .before .loop-test .taken)),
+            inv .0,
+          ),
         ),
       )
 
@@ -278,20 +298,25 @@ module _ (t : ℕ) where
       ≡ prepend (recordOf Absent) (got (a .c .at) [])
   group-none c = group-absent _ _ _ _ _ _ (rw (c .before .word .ensures .value) at (c .if1 .taken))
 
-  group-spare : (c : group-Need group-lts.Then1) → let a = c .before .before .before .before .before .args in a .c .n + 3 ≤ length (a .room .now)
+  group-spare : (c : group-Need group-lts.Then1)
+      → let a = c .before .before .before .before .before .args in a .c .n + 3 ≤ length (a .room .now)
   unfolding recordOf
-  group-spare c = room-put (recordOf Absent) _ _ _ (rw (group-none c) at (c .before .before .before .before .before .pre .1 .1 .0))
+  group-spare c = room-put (recordOf Absent) _ _ _
+      (rw (group-none c) at (c .before .before .before .before .before .pre .1 .1 .0))
 
   -- The group is present: its dimension and its entries were read, and there is room for its record.
   group-opened : (c : group-Need group-lts.Else1)
       → let a = c .before .before .before .before .before .args in
       GroupOpen (wordsOf (a .body .now)) (a .depth) (a .w) (a .m .now) (a .v) (a .c .at)
   group-opened c =
-      group-open _ _ _ _ _ _ _ _ (rw (c .before .word .ensures .value) at (c .if1 .left)) (c .before .before .before .before .before .pre .1 .1 .0)
+      group-open _ _ _ _ _ _ _ _ (rw (c .before .word .ensures .value) at (c .if1 .left))
+      (c .before .before .before .before .before .pre .1 .1 .0)
 
-  group-room : (c : group-Need group-lts.Else1) → let a = c .before .before .before .before .before .args in a .c .n + 3 ≤ length (a .room .now)
+  group-room : (c : group-Need group-lts.Else1)
+      → let a = c .before .before .before .before .before .args in a .c .n + 3 ≤ length (a .room .now)
   unfolding recordOf
-  group-room c = room-put _ _ _ _ (rw (group-opened c .same) at (c .before .before .before .before .before .pre .1 .1 .0))
+  group-room c = room-put _ _ _ _ (rw (group-opened c .same) at
+      (c .before .before .before .before .before .pre .1 .1 .0))
 
   -- Its record is stored; its entries are to come.
   group-put : (c : group-Need group-lts.After-put2)
@@ -303,14 +328,21 @@ module _ (t : ℕ) where
       (a .c .n) (a .room .now) (a .c .n + 3) (c .put2 .last .0)
   unfolding recordOf
   group-put c =
-      going-put (going-none _ _ (c .before .before .before .before .before .before .before .before .before .args .room .now)) _ _ _ (group-opened (c .before .before .before .before) .same)
+      going-put (going-none _ _
+      (c .before .before .before .before .before .before .before .before .before .args .room .now)) _ _ _
+      (group-opened (c .before .before .before .before) .same)
       (rw (c .before .before .get22 .ensures .value) at (c .put2 .ensures))
 
   group-put-requires : group-Need group-lts.Need-put-requires
   group-put-requires c κs = group-spare (c .before)
 
   group-add-t20 : group-Need group-lts.Need-add-t20
-  group-add-t20 c = omega (arith, group-spare (c .before .before .before .before), c .before .before .before .before .before .before .before .before .before .good)
+  group-add-t20 c = omega (
+    arith,
+    group-spare
+        (c .before .before .before .before),
+    c .before .before .before .before .before .before .before .before .before .good,
+  )
 
   group-same-length : group-Need group-lts.Need-same-length
   group-same-length c = c .before .before .put .kept .0
@@ -320,7 +352,8 @@ module _ (t : ℕ) where
   group-returns c =
       let start = c .before .before .before .before .before .before .before .before .before in (
         going-end
-            (going-put (going-none _ _ (start .args .room .now)) _ _ _ (group-none (c .before .before .before .before)) (c .before .before .put .ensures))
+            (going-put (going-none _ _ (start .args .room .now)) _ _ _ (group-none (c .before .before .before .before))
+            (c .before .before .put .ensures))
             (start .pre .1 .1 .0) _ _ _ (stored-none _ _ _ _ refl),
         start .pre .1 .1 .1,
       )
@@ -329,7 +362,12 @@ module _ (t : ℕ) where
   group-get2-requires c κs = omega (arith, group-opened c .within)
 
   group-add-get2 : group-Need group-lts.Need-add-get2
-  group-add-get2 c = omega (arith, group-opened (c .before) .within, c .before .before .before .before .before .before .good)
+  group-add-get2 c = omega (
+    arith,
+    group-opened
+        (c .before) .within,
+    c .before .before .before .before .before .before .good,
+  )
 
   group-get2-requires-2 : group-Need group-lts.Need-get2-requires-2
   group-get2-requires-2 c κs = omega (arith, group-opened (c .before) .within)
@@ -338,13 +376,34 @@ module _ (t : ℕ) where
   group-put-requires-2 c κs = group-room (c .before .before .before)
 
   group-add-store-entries : group-Need group-lts.Need-add-store-entries
-  group-add-store-entries c = omega (arith, block-fits _ _ (c .before .before .before .before .before .before .before .before .before .before .before .pre .1 .0 .stands .block), group-opened (c .before .before .before .before .before .before) .within, group-room (c .before .before .before .before .before .before), c .before .before .before .before .before .before .before .before .before .before .before .good)
+  group-add-store-entries c = omega (
+    arith,
+    block-fits _ _
+        (c .before .before .before .before .before .before .before .before .before .before .before .pre .1 .0 .stands .block),
+    group-opened (c .before .before .before .before .before .before) .within,
+    group-room (c .before .before .before .before .before .before),
+    c .before .before .before .before .before .before .before .before .before .before .before .good,
+  )
 
   group-add-store-entries-2 : group-Need group-lts.Need-add-store-entries-2
-  group-add-store-entries-2 c = omega (arith, block-fits _ _ (c .before .before .before .before .before .before .before .before .before .before .before .pre .1 .0 .stands .block), group-opened (c .before .before .before .before .before .before) .within, group-room (c .before .before .before .before .before .before), c .before .before .before .before .before .before .before .before .before .before .before .good)
+  group-add-store-entries-2 c = omega (
+    arith,
+    block-fits _ _
+        (c .before .before .before .before .before .before .before .before .before .before .before .pre .1 .0 .stands .block),
+    group-opened (c .before .before .before .before .before .before) .within,
+    group-room (c .before .before .before .before .before .before),
+    c .before .before .before .before .before .before .before .before .before .before .before .good,
+  )
 
   group-add-store-entries-3 : group-Need group-lts.Need-add-store-entries-3
-  group-add-store-entries-3 c = omega (arith, block-fits _ _ (c .before .before .before .before .before .before .before .before .before .before .before .pre .1 .0 .stands .block), group-opened (c .before .before .before .before .before .before) .within, group-room (c .before .before .before .before .before .before), c .before .before .before .before .before .before .before .before .before .before .before .good)
+  group-add-store-entries-3 c = omega (
+    arith,
+    block-fits _ _
+        (c .before .before .before .before .before .before .before .before .before .before .before .pre .1 .0 .stands .block),
+    group-opened (c .before .before .before .before .before .before) .within,
+    group-room (c .before .before .before .before .before .before),
+    c .before .before .before .before .before .before .before .before .before .before .before .good,
+  )
 
   group-store-entries-requires : group-Need group-lts.Need-store-entries-requires
   group-store-entries-requires c κs =
@@ -392,7 +451,8 @@ module _ (t : ℕ) where
     past-reads.Learnt,
   )
 
-  abbrev row-Need : (row-lts.Claims → In 3 row-lts.ps → Out 3 row-lts.ps row-lts.r → row-lts.InvT-loop → row-lts.MeasureT-loop → Type 0) → Type 0
+  abbrev row-Need : (row-lts.Claims → In 3 row-lts.ps → Out 3 row-lts.ps row-lts.r → row-lts.InvT-loop
+      → row-lts.MeasureT-loop → Type 0) → Type 0
   row-Need n = n row-claims row-at row-reads.Post row-Inv row-μ-loop
 
   row-loop-holds : row-Need row-lts.Need-loop-holds
@@ -428,14 +488,19 @@ module _ (t : ℕ) where
   row-add-word c = omega (arith, block-fits _ _ (c .before .before .before .before .before .open-row .ensures .block))
 
   row-word-requires : row-Need row-lts.Need-word-requires
-  row-word-requires c κs = omega (arith, block-fits _ _ (c .before .before .before .before .before .open-row .ensures .block))
+  row-word-requires c κs = omega (
+    arith,
+    block-fits _ _
+        (c .before .before .before .before .before .open-row .ensures .block),
+  )
 
   row-sub-skip-row : row-Need row-lts.Need-sub-skip-row
   row-sub-skip-row c = c .before .before .before .before .before .before .open-row .ensures .deep
 
   row-skip-row-requires : row-Need row-lts.Need-skip-row-requires
   row-skip-row-requires c κs =
-      row-inner _ _ _ _ _ _ (c .before .before .before .before .before .before .open-row .ensures) (c .before .groups-from .ensures) (c .word .ensures .value)
+      row-inner _ _ _ _ _ _ (c .before .before .before .before .before .before .open-row .ensures)
+      (c .before .groups-from .ensures) (c .word .ensures .value)
 
   row-loop-again : row-Need row-lts.Need-loop-again
   row-loop-again c =

@@ -1,7 +1,7 @@
 -- The walk calls itself: a block's groups, a group's entries, an entry's block. What is left of a row answers as the
 -- whole row does; the measure of a call is the depth left, and within a depth the order of the calls.
 use mathlib.Core.Path.{_≡_, sym, _∙_, refl}
-use Prim.Native.Nat.{ℕ, _+_, _*_, _<_, _≤_}
+use Prim.Native.Nat.{ℕ, _+_, _*_, _/_, _<_, _≤_}
 use native.Mathlib.Omega.{arith}
 use borrow.Author.Needs.{needs}
 use borrow.Fn.Kinds.{In, Out}
@@ -9,7 +9,7 @@ use borrow.Fn.PlainCycle.{Measures, is, falls, and}
 use lib.ListN.{length}
 use Rattle.layout.specs.Octets.{wordsOf}
 use Rattle.layout.specs.Message.{readGroups}
-use Rattle.templates.specs.Positions.{IsRow, groupsAt}
+use Rattle.templates.specs.Positions.{IsRow, groupsAt, groupsFrom}
 use Rattle.wire.specs.Walks.{walked}
 use Rattle.walk.specs.Walks.{Bounded, entriesAt, rate, valuesEnd}
 use Rattle.octets.proofs.get2.Reads as get2-reads
@@ -199,19 +199,21 @@ module _ (t : ℕ) where
       )) _ _ on _ (sym (c .enum-told2 .given .1)
       ∙ c .before .before .walk-datas .ensures .0))
 
+  -- The block lies in the body.
+  block-stands : (c : block-Need block-lts.After-known-told2)
+      → let a = c .before .before .before .before .before .before .before
+      .before .before .before .before .before .before .before .before .args in
+      groupsFrom (wordsOf (a .body .now)) (a .w) ≤ length (a .body .now) / 2
+  block-stands c =
+      let told = c .before .before .before .before in
+      let call = told .before .before .before in
+      block-fits _ _ (call .before .before .before .before .before .before .before .before .pre .1 .0 .block)
+
   block-add-word-2 : block-Need block-lts.Need-add-word-2
-  block-add-word-2 c = (omega (
-    arith,
-    block-fits _ _
-        (c .before .before .before .before .before .before .before .before .before .before .before .before .before .before .before .pre .1 .0 .block),
-  ))
+  block-add-word-2 c = omega (arith, block-stands c)
 
   block-word-requires-2 : block-Need block-lts.Need-word-requires-2
-  block-word-requires-2 c κs = (omega (
-    arith,
-    block-fits _ _
-        (c .before .before .before .before .before .before .before .before .before .before .before .before .before .before .before .pre .1 .0 .block),
-  ))
+  block-word-requires-2 c κs = omega (arith, block-stands c)
 
   block-add-t19 : block-Need block-lts.Need-add-t19
   block-add-t19 c =
