@@ -1,5 +1,5 @@
-// Reads schema books from standard input, each behind its octet count (two octets, little-endian), and writes a line for
-// each: `accepted`, or `refused` with number and place. It ends with its input, or after 65,536 books.
+// Reads schema books from standard input, each behind its octet count (two octets, little-endian), and writes a line
+// for each: `accepted`, or `refused` with number and place. It ends with its input, or after 65,536 books.
 use layout::Checked;
 use libc::STDIN_FILENO;
 use libc::STDOUT_FILENO;

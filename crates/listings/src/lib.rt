@@ -22,7 +22,8 @@ ghost use Rattle.listings.specs.Whole.{rootPrint, messagePrint};
 fn store_root(body: &[u8], version: usize, m: &[u8], room: &mut [u64])
     requires { ⌜ GoodBlock (wordsOf (now body)) 4 0 × Lent (now m) 12 ⌝ }
     requires { ⌜ Room (rootPrint (wordsOf (now body)) (now m) version) 0 (length (now room)) ⌝ }
-    ensures { λ _. ⌜ now (room .exit) ≡ sets (now (room .entry)) 0 (numbersOf (rootPrint (wordsOf (now (body .entry))) (now (m .entry)) version)) ⌝ }
+    ensures { λ _. ⌜ now (room .exit) ≡ sets (now (room .entry)) 0 (numbersOf
+        (rootPrint (wordsOf (now (body .entry))) (now (m .entry)) version)) ⌝ }
 {
     let v = octets::get2(m, 6) as usize;
     let length = octets::get2(m, 0) as usize;
@@ -44,7 +45,8 @@ fn store_root(body: &[u8], version: usize, m: &[u8], room: &mut [u64])
 fn store_message(book: &[u8], m: &[u8], room: &mut [u64])
     requires { ⌜ IsBook (now book) × Lent (now m) 12 ⌝ }
     requires { ⌜ Room (messagePrint (now book) (now m)) 0 (length (now room)) ⌝ }
-    ensures { λ _. ⌜ now (room .exit) ≡ sets (now (room .entry)) 0 (numbersOf (messagePrint (now (book .entry)) (now (m .entry)))) ⌝ }
+    ensures { λ _. ⌜ now (room .exit) ≡ sets (now (room .entry)) 0 (numbersOf
+        (messagePrint (now (book .entry)) (now (m .entry)))) ⌝ }
 {
     let Place::At { first, words } = templates::find(book, octets::get2(m, 2) as usize) else {
         return;

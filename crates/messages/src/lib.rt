@@ -39,7 +39,8 @@ fn left_over(version: usize, v: usize, all: usize, present: usize, n: usize) -> 
 
 pub fn surplus_groups(body: &[u8], version: usize, v: usize, m: &[u8]) -> Surplus
     requires { ⌜ BlockAt (wordsOf (now body)) 4 0 × Lent (now m) 12 ⌝ }
-    ensures { λ r. ⌜ r ≡ surplusOf version v (groupSinces (innerAt (wordsOf (now (body .entry))) 4 0)) (groupCount (now (m .entry))) ⌝ }
+    ensures { λ r. ⌜ r ≡ surplusOf version v (groupSinces (innerAt (wordsOf (now (body .entry))) 4 0)) (groupCount
+        (now (m .entry))) ⌝ }
 {
     let all = book::word(body, 2);
     let present = blocks::present_groups(body, blocks::groups_from(body, 0), all, 4, v);
@@ -48,7 +49,8 @@ pub fn surplus_groups(body: &[u8], version: usize, v: usize, m: &[u8]) -> Surplu
 
 pub fn surplus_datas(body: &[u8], version: usize, v: usize, m: &[u8]) -> Surplus
     requires { ⌜ BlockAt (wordsOf (now body)) 4 0 × Lent (now m) 12 ⌝ }
-    ensures { λ r. ⌜ r ≡ surplusOf version v (dataSinces (shapeAt (wordsOf (now (body .entry))) 0 .datas)) (dataCount (now (m .entry))) ⌝ }
+    ensures { λ r. ⌜ r ≡ surplusOf version v (dataSinces (shapeAt (wordsOf (now (body .entry))) 0 .datas))
+        (dataCount (now (m .entry))) ⌝ }
 {
     let all = book::word(body, 3);
     let present = blocks::present_datas(body, 4 + 6 * book::word(body, 1), all, v);
@@ -58,7 +60,8 @@ pub fn surplus_datas(body: &[u8], version: usize, v: usize, m: &[u8]) -> Surplus
 // The root block and what follows it, up to the message's end.
 fn walk_whole(body: &[u8], m: &[u8], v: usize, wire: OnWire) -> Walked
     requires { ⌜ BlockAt (wordsOf (now body)) 4 0 × Lent (now m) 12 ⌝ }
-    ensures { λ r. ⌜ r ≡ walked (rootEnd (now (m .entry))) (wholeAt (wordsOf (now (body .entry))) (now (m .entry)) v wire) ⌝ }
+    ensures { λ r. ⌜ r ≡ walked (rootEnd (now (m .entry))) (wholeAt (wordsOf (now (body .entry))) (now (m .entry)) v
+        wire) ⌝ }
 {
     let root = walk::walk_block(body, 0, 4, m, v, wire, 12);
     let Walked::To { next, .. } = root else {
@@ -73,7 +76,8 @@ fn walk_whole(body: &[u8], m: &[u8], v: usize, wire: OnWire) -> Walked
 // A message by its template's body, in a book of this version: 14 to 20.
 fn walk_root(body: &[u8], version: usize, m: &[u8]) -> Walked
     requires { ⌜ BlockAt (wordsOf (now body)) 4 0 × Lent (now m) 12 ⌝ }
-    ensures { λ r. ⌜ r ≡ walked (rootEnd (now (m .entry))) (rootAt (wordsOf (now (body .entry))) (now (m .entry)) version) ⌝ }
+    ensures { λ r. ⌜ r ≡ walked (rootEnd (now (m .entry))) (rootAt (wordsOf (now (body .entry))) (now (m .entry))
+        version) ⌝ }
 {
     let v = octets::get2(m, 6) as usize;
     let length = octets::get2(m, 0) as usize;

@@ -32,7 +32,8 @@ fn store_fields(
 ) -> usize
     requires { ⌜ IsBlock (wordsOf (now body)) w × Each (Fits (now m) v at) (shapeAt (wordsOf (now body)) w .fields) ⌝ }
     requires { ⌜ Room (fieldsPrint (wordsOf (now body)) w (now m) v at) from (length (now room)) ⌝ }
-    ensures { λ r. ⌜ Stored (fieldsPrint (wordsOf (now (body .entry))) w (now (m .entry)) v at) from (now (room .entry)) at r (now (room .exit)) ⌝ }
+    ensures { λ r. ⌜ Stored (fieldsPrint (wordsOf (now (body .entry))) w (now (m .entry)) v at) from (now
+        (room .entry)) at r (now (room .exit)) ⌝ }
 {
     let mut left = book::word(body, w + 1);
     let mut f = w + 4;
@@ -68,7 +69,8 @@ fn store_datas(
 ) -> Cursor
     requires { ⌜ IsBlock (wordsOf (now body)) w × (c .at ≤ length (now m)) ⌝ }
     requires { ⌜ Room (datasPrint (wordsOf (now body)) w (now m) v surplus (c .at)) (c .n) (length (now room)) ⌝ }
-    ensures { λ r. ⌜ Stored (datasPrint (wordsOf (now (body .entry))) w (now (m .entry)) v surplus (c .at)) (c .n) (now (room .entry)) (r .at) (r .n) (now (room .exit)) ⌝ }
+    ensures { λ r. ⌜ Stored (datasPrint (wordsOf (now (body .entry))) w (now (m .entry)) v surplus (c .at)) (c .n)
+        (now (room .entry)) (r .at) (r .n) (now (room .exit)) ⌝ }
     ensures { λ r. ⌜ r .at ≤ length (now (m .entry)) ⌝ }
 {
     let mut left = book::word(body, w + 3);
@@ -86,7 +88,8 @@ fn store_datas(
 fn store_data(m: &[u8], present: bool, room: &mut [u64], c: Cursor) -> Cursor
     requires { ⌜ c .at ≤ length (now m) ⌝ }
     requires { ⌜ Room (dataPrint (now m) present (c .at)) (c .n) (length (now room)) ⌝ }
-    ensures { λ r. ⌜ Stored (dataPrint (now (m .entry)) present (c .at)) (c .n) (now (room .entry)) (r .at) (r .n) (now (room .exit)) ⌝ }
+    ensures { λ r. ⌜ Stored (dataPrint (now (m .entry)) present (c .at)) (c .n) (now (room .entry)) (r .at) (r .n)
+        (now (room .exit)) ⌝ }
     ensures { λ r. ⌜ r .at ≤ length (now (m .entry)) ⌝ }
 {
     let at = c.at;
@@ -118,7 +121,8 @@ pub fn store_block(
     requires { ⌜ GoodBlock (wordsOf (now body)) depth w × (need v (shapeAt (wordsOf (now body)) w) ≤ wire .length) ⌝ }
     requires { ⌜ Room (blockPrint (wordsOf (now body)) depth w (now m) v wire (c .at)) (c .n) (length (now room)) ⌝ }
     requires { ⌜ c .at ≤ length (now m) ⌝ }
-    ensures { λ r. ⌜ Stored (blockPrint (wordsOf (now (body .entry))) depth w (now (m .entry)) v wire (c .at)) (c .n) (now (room .entry)) (r .at) (r .n) (now (room .exit)) ⌝ }
+    ensures { λ r. ⌜ Stored (blockPrint (wordsOf (now (body .entry))) depth w (now (m .entry)) v wire (c .at)) (c
+        .n) (now (room .entry)) (r .at) (r .n) (now (room .exit)) ⌝ }
     ensures { λ r. ⌜ r .at ≤ length (now (m .entry)) ⌝ }
 {
     let at = c.at;
@@ -148,7 +152,8 @@ fn store_entries(
     requires { ⌜ GoodBlock (wordsOf (now body)) depth w × (need v (shapeAt (wordsOf (now body)) w) ≤ l) ⌝ }
     requires { ⌜ Room (entriesPrint (wordsOf (now body)) depth w (now m) v l n (c .at)) (c .n) (length (now room)) ⌝ }
     requires { ⌜ c .at ≤ length (now m) ⌝ }
-    ensures { λ r. ⌜ Stored (entriesPrint (wordsOf (now (body .entry))) depth w (now (m .entry)) v l n (c .at)) (c .n) (now (room .entry)) (r .at) (r .n) (now (room .exit)) ⌝ }
+    ensures { λ r. ⌜ Stored (entriesPrint (wordsOf (now (body .entry))) depth w (now (m .entry)) v l n (c .at)) (c
+        .n) (now (room .entry)) (r .at) (r .n) (now (room .exit)) ⌝ }
     ensures { λ r. ⌜ r .at ≤ length (now (m .entry)) ⌝ }
 {
     let mut due = n;
@@ -178,7 +183,8 @@ fn store_group(
     requires { ⌜ GoodBlock (wordsOf (now body)) depth (w + 2) ⌝ }
     requires { ⌜ Room (groupPrint (wordsOf (now body)) depth w (now m) v (c .at)) (c .n) (length (now room)) ⌝ }
     requires { ⌜ c .at ≤ length (now m) ⌝ }
-    ensures { λ r. ⌜ Stored (groupPrint (wordsOf (now (body .entry))) depth w (now (m .entry)) v (c .at)) (c .n) (now (room .entry)) (r .at) (r .n) (now (room .exit)) ⌝ }
+    ensures { λ r. ⌜ Stored (groupPrint (wordsOf (now (body .entry))) depth w (now (m .entry)) v (c .at)) (c .n)
+        (now (room .entry)) (r .at) (r .n) (now (room .exit)) ⌝ }
     ensures { λ r. ⌜ r .at ≤ length (now (m .entry)) ⌝ }
 {
     let at = c.at;
@@ -210,9 +216,11 @@ fn store_groups(
     c: Cursor,
 ) -> Cursor
     requires { ⌜ GoodRow (wordsOf (now body)) depth n from ⌝ }
-    requires { ⌜ Room (rowPrint (wordsOf (now body)) depth n from (now m) v surplus (c .at)) (c .n) (length (now room)) ⌝ }
+    requires { ⌜ Room (rowPrint (wordsOf (now body)) depth n from (now m) v surplus (c .at)) (c .n) (length
+        (now room)) ⌝ }
     requires { ⌜ c .at ≤ length (now m) ⌝ }
-    ensures { λ r. ⌜ Stored (rowPrint (wordsOf (now (body .entry))) depth n from (now (m .entry)) v surplus (c .at)) (c .n) (now (room .entry)) (r .at) (r .n) (now (room .exit)) ⌝ }
+    ensures { λ r. ⌜ Stored (rowPrint (wordsOf (now (body .entry))) depth n from (now (m .entry)) v surplus (c .at))
+        (c .n) (now (room .entry)) (r .at) (r .n) (now (room .exit)) ⌝ }
     ensures { λ r. ⌜ r .at ≤ length (now (m .entry)) ⌝ }
 {
     let mut w = from;

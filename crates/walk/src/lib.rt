@@ -19,7 +19,8 @@ pub struct OnWire {
 // The data of the block at word w of the body, and then the surplus ones.
 fn walk_datas(body: &[u8], w: usize, m: &[u8], v: usize, surplus: usize, start: usize) -> Walked
     requires { ⌜ IsBlock (wordsOf (now body)) w × Lent (now m) start ⌝ }
-    ensures { λ r. ⌜ r ≡ walked (datasEnd 0) (datasAt (wordsOf (now (body .entry))) w (now (m .entry)) v surplus start) ⌝ }
+    ensures { λ r. ⌜ r ≡ walked (datasEnd 0) (datasAt (wordsOf (now (body .entry))) w (now (m .entry)) v surplus
+        start) ⌝ }
     ensures { λ r. ⌜ Bounded (now (m .entry)) start 16 r ⌝ }
 {
     let mut left = book::word(body, w + 3);
@@ -97,7 +98,8 @@ fn walk_entries(
     start: usize,
 ) -> Walked
     requires { ⌜ BlockAt (wordsOf (now body)) depth w × Lent (now m) start × (n ≤ 65535) ⌝ }
-    ensures { λ r. ⌜ r ≡ walked (valuesEnd 0) (entriesAt (wordsOf (now (body .entry))) depth w (now (m .entry)) v l n start) ⌝ }
+    ensures { λ r. ⌜ r ≡ walked (valuesEnd 0) (entriesAt (wordsOf (now (body .entry))) depth w (now (m .entry)) v l
+        n start) ⌝ }
     ensures { λ r. ⌜ Bounded (now (m .entry)) start (96 * n) r ⌝ }
 {
     let mut due = n;
@@ -163,7 +165,8 @@ fn walk_groups(
     start: usize,
 ) -> Walked
     requires { ⌜ IsRow (wordsOf (now body)) depth n from × Lent (now m) start × (n ≤ 16) ⌝ }
-    ensures { λ r. ⌜ r ≡ walked (valuesEnd 0) (rowAt (wordsOf (now (body .entry))) depth n from (now (m .entry)) v surplus start) ⌝ }
+    ensures { λ r. ⌜ r ≡ walked (valuesEnd 0) (rowAt (wordsOf (now (body .entry))) depth n from (now (m .entry)) v
+        surplus start) ⌝ }
     ensures { λ r. ⌜ Bounded (now (m .entry)) start n r ⌝ }
 {
     let mut w = from;
