@@ -4,7 +4,6 @@ use walk::OnWire;
 use wire::Walked;
 ghost use mathlib.Core.Path.{_≡_};
 ghost use Prim.Native.Nat.{_≤_};
-ghost use lib.ListN.{length};
 ghost use Rattle.layout.specs.Octets.{wordsOf};
 ghost use Rattle.layout.specs.Book.{dataSinces, groupSinces};
 ghost use Rattle.layout.specs.Message.{groupCount, dataCount};

@@ -30,7 +30,8 @@ use Rattle.walk.proofs.Laws as walking
 use Rattle.walk.specs.declared.OnWire.{OnWire}
 use Rattle.store.specs.declared.Cursor.{Cursor}
 use Rattle.store.specs.Prints.{Printed, got, printed, prepend, andThen, endOf, numbersOf, Room, Stored}
-use Rattle.store.specs.Stores.{GoodBlock, GoodRow, blockPrint, dataPrint, datasPrint, entriesPrint, fieldsPrint, groupPrint, pastOf}
+use Rattle.store.specs.Stores.{GoodBlock, GoodRow, blockPrint, dataPrint, datasPrint, entriesPrint}
+use Rattle.store.specs.Stores.{fieldsPrint, groupPrint, pastOf}
 use Rattle.store.specs.Stores.{rowPrint}
 use Rattle.store.proofs.Going.{prepend-nil, prepend-prepend}
 

@@ -42,7 +42,8 @@ same : (c : tie.After-word)
     let place = known .before .first .given .0 in
     let a = start known .args in
     messagePrint (a .book .now) (a .m .now)
-    ≡ rootPrint (wordsOf (take (2 * (place .0) + 2 * (place .1 .0) - 2 * (place .0)) (drop (2 * (place .0)) (a .book .now))))
+    ≡ rootPrint
+    (wordsOf (take (2 * (place .0) + 2 * (place .1 .0) - 2 * (place .0)) (drop (2 * (place .0)) (a .book .now))))
     (a .m .now) (c .word .result)
 same c =
     let known = c .before .before in

@@ -25,7 +25,8 @@ use Rattle.store.specs.Stores.{GoodRow, blockPrint, datasPrint, entriesP
 use Rattle.store.specs.Prints.{andThen, got, prepend}
 use Rattle.store.proofs.Going.{Going, going-call, going-end, going-first, going-long, going-none, going-put}
 use Rattle.store.proofs.Going.{going-room, room-put, stored-none}
-use Rattle.store.proofs.Laws.{BlockOpen, GroupOpen, block-open, entries-end, entries-step, fields-fit, group-absent, group-open}
+use Rattle.store.proofs.Laws.{BlockOpen, GroupOpen, block-open, entries-end, entries-step, fields-fit}
+use Rattle.store.proofs.Laws.{group-absent, group-open}
 use Rattle.store.proofs.Laws.{past-inside, row-good, row-past, row-step}
 use Rattle.store.proofs.past.Reads as past-reads
 use Rattle.store.proofs.store_fields.Reads as store-fields-reads
@@ -216,9 +217,9 @@ module _ (t : ℕ) where
   block-returns : block-Need block-lts.Need-returns
   block-returns c =
       let call = c .before .before in
-      let groups = call .before .before .before .before in (
-        going-end (block-groups groups)
-            (groups .before .before .before .before .before .before .before .before .before .before .before .before .pre .1 .1 .0) _ _ _ (call .store-datas .ensures .0),
+      let groups = call .before .before .before .before in
+      let start = groups .before .before .before .before .before .before .before .before .before .before .before .before in (
+        going-end (block-groups groups) (start .pre .1 .1 .0) _ _ _ (call .store-datas .ensures .0),
         call .store-datas .ensures .1,
       )
 
@@ -376,34 +377,22 @@ module _ (t : ℕ) where
   group-put-requires-2 c κs = group-room (c .before .before .before)
 
   group-add-store-entries : group-Need group-lts.Need-add-store-entries
-  group-add-store-entries c = omega (
-    arith,
-    block-fits _ _
-        (c .before .before .before .before .before .before .before .before .before .before .before .pre .1 .0 .stands .block),
-    group-opened (c .before .before .before .before .before .before) .within,
-    group-room (c .before .before .before .before .before .before),
-    c .before .before .before .before .before .before .before .before .before .before .before .good,
-  )
+  group-add-store-entries c =
+      let here = c .before .before .before .before .before .before in
+      let start = here .before .before .before .before .before in
+      omega (arith, group-opened here .within, start .good)
 
   group-add-store-entries-2 : group-Need group-lts.Need-add-store-entries-2
-  group-add-store-entries-2 c = omega (
-    arith,
-    block-fits _ _
-        (c .before .before .before .before .before .before .before .before .before .before .before .pre .1 .0 .stands .block),
-    group-opened (c .before .before .before .before .before .before) .within,
-    group-room (c .before .before .before .before .before .before),
-    c .before .before .before .before .before .before .before .before .before .before .before .good,
-  )
+  group-add-store-entries-2 c =
+      let here = c .before .before .before .before .before .before in
+      let start = here .before .before .before .before .before in
+      omega (arith, group-room here, start .good)
 
   group-add-store-entries-3 : group-Need group-lts.Need-add-store-entries-3
-  group-add-store-entries-3 c = omega (
-    arith,
-    block-fits _ _
-        (c .before .before .before .before .before .before .before .before .before .before .before .pre .1 .0 .stands .block),
-    group-opened (c .before .before .before .before .before .before) .within,
-    group-room (c .before .before .before .before .before .before),
-    c .before .before .before .before .before .before .before .before .before .before .before .good,
-  )
+  group-add-store-entries-3 c =
+      let here = c .before .before .before .before .before .before in
+      let start = here .before .before .before .before .before in
+      omega (arith, block-fits _ _ (start .pre .1 .0 .stands .block))
 
   group-store-entries-requires : group-Need group-lts.Need-store-entries-requires
   group-store-entries-requires c κs =
