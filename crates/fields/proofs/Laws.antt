@@ -1,17 +1,22 @@
 -- What a field is, as the code's tests find it.
 use mathlib.Core.Path.{_≡_, refl}
-use mathlib.Core.List.{List}
-use Prim.Native.Nat.{_+_, _<_, _≤_, ℕ}
+use mathlib.Core.List.{List, [], _∷_}
+use mathlib.Core.Bool.{Bool, false, true}
+use Prim.Native.Nat.{_+_, _-_, _<_, _≤_, suc, zero, ℕ}
 use native.Mathlib.Omega.{arith}
 use native.Mathlib.Nat.{mul-one}
+use lib.Dec.{eqb, leb}
 use lib.ListN.{length}
-use borrow.Author.Tests.{le-leb, le-ltb, lt-leb, lt-ltb}
-use Rattle.layout.specs.Result.{if_then_else_}
+use borrow.Author.Tests.{eqb-true, le-leb, le-ltb, leb-true, lt-leb, lt-ltb}
+use Rattle.layout.specs.Result.{Each, if_then_else_}
 use Rattle.layout.specs.Octets.{numberAt}
 use Rattle.layout.specs.Types.{classify, typeAt, valueOf}
-use Rattle.layout.specs.Book.{Field, isOptional}
+use Rattle.layout.specs.Book.{Field, end, isOptional, needAfter}
+use Rattle.layout.specs.BookRules.{fieldAt, fieldsGood, lengthGood, parseFields}
 use Rattle.layout.specs.Message.{readField}
 use Rattle.layout.specs.declared.Answer.the-variants.{Absent, Octets}
+use Rattle.layout.proofs.Fields.{FieldGood, field-good}
+use Rattle.layout.proofs.Results.{and-left, either, or-right}
 use Rattle.fields.specs.Readable.{Fits}
 
 module _ (m : List ℕ) (v at : ℕ) (f : Field) where
@@ -35,3 +40,52 @@ module _ (m : List ℕ) (v at : ℕ) (f : Field) where
       number-inside p =
           let one : f .length ≡ 1 = omega (arith, p .some) in
           omega (arith, rw (one, mul-one) at (p .inside h))
+
+-- ---- the fields of a good block
+
+some-length : (f : Field) → lengthGood f ≡ true → 1 ≤ f .length
+some-length f g = go (eqb (f .length) 1) refl
+  where
+    go : (t : Bool) → eqb (f .length) 1 ≡ t → 1 ≤ f .length
+    go true e = omega (arith, eqb-true (f .length) 1 e)
+    go false e = omega (arith, leb-true 2 (f .length) (and-left _ _ (or-right _ _ g e)))
+
+-- Of good fields every one that is present ends within the need.
+need-least : (v l e least : ℕ) (fs : List Field) → fieldsGood l e fs ≡ true → least ≤ e → least ≤ needAfter v least fs
+unfolding needAfter
+need-least v l e least [] g h = omega arith
+need-least v l e least (f ∷ fs) g h =
+    go (leb (f .since) v) (λ x. need-least v l (end f) x fs (field-good l e f fs g .rest))
+  where
+    low : least ≤ end f
+    low = omega (arith, field-good l e f fs g .placed)
+
+    go : (t : Bool) → ((x : ℕ) → x ≤ end f → x ≤ needAfter v x fs) → least ≤ needAfter v (if t then end f else least) fs
+    go true on = unfold if_then_else_ in omega (arith, low, on (end f) (omega arith))
+    go false on = unfold if_then_else_ in on least low
+
+pub fields-fit : (m : List ℕ) (v at size l e least : ℕ) (fs : List Field) → fieldsGood l e fs ≡ true → least ≤ e
+    → needAfter v least fs ≤ size → at + size ≤ length m → Each (Fits m v at) fs
+unfolding needAfter Each
+fields-fit m v at size l e least [] g h n i = tt
+fields-fit m v at size l e least (f ∷ fs) g h n i = (
+  record { known = good .type; some = some-length f (good .length); inside = within },
+  fields-fit m v at size l (end f) _ fs (good .rest) low n i,
+)
+  where
+    good : FieldGood l e f fs
+    good = field-good l e f fs g
+
+    low : (if leb (f .since) v then end f else least) ≤ end f
+    low = either (λ x. x ≤ end f) (leb (f .since) v) (end f) least (omega arith) (omega (arith, good .placed))
+
+    within : f .since ≤ v → at + end f ≤ length m
+    within here =
+        let here-is : needAfter v (end f) fs ≤ size = unfold if_then_else_ in rw (le-leb (f .since) v here) at n in
+        omega (arith, need-least v l (end f) (end f) fs (good .rest) (omega arith), here-is)
+
+pub fields-each : (P : Field → Type 0) (b : List ℕ) (n f : ℕ) → 0 < n → Each P (parseFields b n f)
+    → P (fieldAt b f) × Each P (parseFields b (n - 1) (f + 6))
+unfolding parseFields Each
+fields-each P b zero f h e = absurd (omega arith)
+fields-each P b (suc n) f h e = let q : suc n - 1 ≡ n = omega arith in rw q e

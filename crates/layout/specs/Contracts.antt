@@ -1,9 +1,9 @@
 -- The contract of each public operation: what it answers and what it leaves in the buffers that it was lent. Each is an
 -- equation for the answer and for every buffer that may be stored to, so it has one outcome.
 use mathlib.Core.Path.{_≡_}
-use mathlib.Core.List.{List, _++_}
+use mathlib.Core.List.{List, [], _∷_, _++_}
 use Prim.Native.Nat.{ℕ}
-use lib.ListN.{length, drop}
+use lib.ListN.{length, drop, replicate}
 use Rattle.layout.specs.Result.{Result, done, refused, _>>=_}
 use Rattle.layout.specs.Values.{Step}
 use Rattle.layout.specs.BookRules.{bookOf}
@@ -42,6 +42,13 @@ unfoldable pub roomAfter : Result (List ℕ) → List ℕ → List ℕ
 roomAfter (done l) room = l ++ drop (length l) room
 roomAfter (refused n p) room = room
 
+-- Steps as they are lent: a group's number and an entry's, by turns. A number left over is no step, and no place has it:
+-- five steps stand for it, one more than a place may have.
+unfoldable pub stepsOf : List ℕ → List Step
+stepsOf [] = []
+stepsOf (g ∷ []) = replicate 5 (record { group = g; entry = 0 })
+stepsOf (g ∷ e ∷ rest) = record { group = g; entry = e } ∷ stepsOf rest
+
 -- ---- the operations
 
 abbrev pub ChecksBook : List ℕ → Checked → Type 0
@@ -53,8 +60,8 @@ Checks book m r = r ≡ checked (checkOf book m)
 abbrev pub Measures : List ℕ → List ℕ → Counted → Type 0
 Measures book m r = r ≡ counted (measureOf book m)
 
-abbrev pub AnswersPlace : List ℕ → List ℕ → List Step → Element → Found → Type 0
-AnswersPlace book m p x r = r ≡ found (placeOf book m p x)
+abbrev pub AnswersPlace : List ℕ → List ℕ → List ℕ → Element → Found → Type 0
+AnswersPlace book m steps x r = r ≡ found (placeOf book m (stepsOf steps) x)
 
 -- A listing into a room that is `before` at the call and `after` at the return: the number of records.
 pub record Lists (book m before : List ℕ) (r : Counted) (after : List ℕ) : Type 0 where

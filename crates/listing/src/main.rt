@@ -96,7 +96,7 @@ fn list_rest(book: &[u8]) {
     let mut message = io::large_buffer();
     let size = io::read_full(STDIN_FILENO, &mut message);
     let mut room = [0u64; 6000];
-    match listings::list(book, &message[..size], &mut room) {
+    match reader::list(book, &message[..size], &mut room) {
         Counted::Count(count) => show_records(&room, count),
         Counted::Refused(refusal) => show_refusal(refusal),
     }

@@ -3,37 +3,43 @@ use mathlib.Core.Path.{_≡_, _∙_, ap, refl, sym}
 use mathlib.Core.Bool.{Bool, false, true}
 use mathlib.Core.List.{List, [], _∷_}
 use mathlib.Core.Option.{Option, none as no, some}
-use Prim.Native.Nat.{ℕ, zero, suc, _+_, _-_, _/_, _≤_, _<_}
+use Prim.Native.Nat.{ℕ, zero, suc, _+_, _-_, _/_, _≤_}
 use native.Mathlib.Omega.{arith}
 use lib.Dec.{leb, eqb}
 use lib.ListN.{drop, length, take}
-use borrow.Author.Tests.{eq-eqb, eqb-true, le-leb, leb-true, lt-leb, ne-eqb}
-use Rattle.layout.specs.Result.{_>>=_, _and_, done, if_then_else_, must, orRefuse}
+use borrow.Author.Tests.{eq-eqb, eqb-true, leb-true, ne-eqb}
+use Rattle.layout.specs.Result.{Result, _>>=_, _and_, done, if_then_else_, must, orRefuse, refused}
 use Rattle.layout.specs.Octets.{wordsOf}
-use Rattle.layout.specs.Book.{Book, dataSinces, findTemplate, groupSinces, need, present}
-use Rattle.layout.specs.BookRules.{ContentsRow, bookOf, contentsGood, groupsGood, parseDatas, shapeGood, word}
+use Rattle.layout.specs.Book.{Book, dataSinces, groupSinces, need, present}
+use Rattle.layout.specs.BookRules.{ContentsRow, bookOf, contentsGood, parseDatas, word}
 use Rattle.layout.specs.Contracts.{refusal}
 use Rattle.layout.specs.Message.{blockLength, checkHeader, countGood, dataCount, groupCount, readMessage, readRoot}
-use Rattle.layout.specs.Message.{templateId, versionOf}
-use Rattle.layout.specs.Values.{measure}
+use Rattle.layout.specs.Message.{templateId, templateOf, versionOf}
+use Rattle.layout.specs.Reading.{hasPlace, placeIn}
+use Rattle.layout.specs.Values.{Step, answerAt, measure}
+use Rattle.layout.specs.declared.Element.{Element}
 use Rattle.layout.specs.declared.Refusal.{Refusal}
 use Rattle.layout.proofs.Accepted.{accepted}
-use Rattle.layout.proofs.Results.{and-left, and-right, done-inj, either, inv-bind, inv-must}
+use Rattle.layout.proofs.Results.{and-left, and-right, bind-assoc, bind-done, done-inj, either, inv-bind, inv-found}
+use Rattle.layout.proofs.Results.{inv-must}
 use Rattle.book.proofs.Bodies.{contents-within}
 use Rattle.book.proofs.Words.{length-words}
-use Rattle.templates.specs.Lookup.{IsBook, findRow, placeOf, rowsOf}
+use Rattle.templates.specs.Lookup.{IsBook, findRow, rowsOf}
 use Rattle.templates.specs.Positions.{IsRow, OpenedBody, groupsAt, shapeAt}
-use Rattle.templates.specs.declared.Place.the-variants.{At, Unknown}
 use Rattle.templates.proofs.Found.{Agrees, Leads, contents, templates-agree}
 use Rattle.templates.proofs.Open.{no-groups-at, open-body, open-row}
 use Rattle.wire.specs.Walks.{headerEnd, walked}
 use Rattle.wire.specs.declared.Walked.{Walked}
 use Rattle.wire.specs.declared.Walked.the-variants.{To, Refused}
 use Rattle.wire.proofs.Laws.{inv-to, refused-on}
-use Rattle.walk.specs.Walks.{BlockAt, Lent, blockAt, entryEnd, innerAt}
+use Rattle.walk.specs.Walks.{GoodBlock, Lent, blockAt, entryEnd, innerAt}
 use Rattle.walk.specs.declared.OnWire.{OnWire}
 use Rattle.walk.proofs.Laws.{reached, then-to}
-use Rattle.messages.specs.Whole.{leftOver, messageOf, rootAt, rootEnd, surplusOf, wholeAt}
+use Rattle.messages.specs.Whole.{bodyAt, bodyFound, leftOver, messageOf, rootAt, rootEnd, rooted, surplusOf}
+use Rattle.messages.specs.Whole.{wholeAt, wireAt}
+use Rattle.messages.specs.declared.Body.the-variants as Body
+use Rattle.messages.specs.declared.Root.{Root}
+use Rattle.messages.specs.declared.Root.the-variants as Root
 use Rattle.messages.specs.declared.Surplus.{Surplus}
 use Rattle.messages.specs.declared.Surplus.the-variants.{Is, Wrong}
 
@@ -71,25 +77,6 @@ pub surplus-is : (version v : ℕ) (ss : List ℕ) (k all here n : ℕ) → all 
     → leftOver version v all here n ≡ surplusOf version v ss k
 surplus-is version v ss k all here n a h e = rw (a, h, e) refl
 
-picked : (t : Bool) (g x : ℕ) → Is g ≡ (if t then Is x else Wrong) → (t ≡ true) × (g ≡ x)
-unfolding if_then_else_
-picked true g x e = (refl, cc)
-picked false g x e = absurd (let z : _≡_ {A = ℕ} 0 1 = cc in omega arith)
-
-not-picked : (t : Bool) (x : ℕ) → Wrong ≡ (if t then Is x else Wrong) → t ≡ false
-unfolding if_then_else_
-not-picked true x e = absurd (let z : _≡_ {A = ℕ} 0 1 = cc in omega arith)
-not-picked false x e = refl
-
-module _ (version v : ℕ) (ss : List ℕ) (n : ℕ) where
-  counts-good : (g : ℕ) → Is g ≡ surplusOf version v ss n → (countGood version v ss n ≡ true) × (g ≡ n - present v ss)
-  unfolding leftOver countGood
-  counts-good g e = picked _ g _ e
-
-  counts-bad : Wrong ≡ surplusOf version v ss n → countGood version v ss n ≡ false
-  unfolding leftOver countGood
-  counts-bad e = not-picked _ _ e
-
 -- ---- the header
 
 pub header-lent : (m : List ℕ) (schema x j : ℕ) → To x j ≡ walked headerEnd (checkHeader schema m) → Lent m 12
@@ -98,39 +85,66 @@ header-lent m schema x j h =
     let t = inv-must _ _ _ _ (inv-bind _ _ _ (inv-to headerEnd _ x j h .is) .first) in
     record { short = leb-true _ _ (and-right _ _ t); inside = leb-true _ _ (and-left _ _ t) }
 
--- ---- the root: v and l are the message's version and its block length
+-- ---- the root
 
-module _ (b m : List ℕ) (version v l : ℕ) (e : v ≡ versionOf m) (f : l ≡ blockLength m) where
-  abbrev answer : Walked
-  answer = walked (rootEnd m) (rootAt b m version)
+pub wire-is : (r : Result OnWire) (wire : OnWire) → Root.On wire ≡ rooted r → r ≡ done wire
+unfolding rooted
+wire-is (done x) wire e = cc
+wire-is (refused n p) wire e = cc
 
-  pub root-short : l < need v (shapeAt b 0) → answer ≡ Refused (refusal 14 0)
-  unfolding readRoot must _>>=_ walked
-  root-short h = rw (sym e, sym f, lt-leb _ _ h) refl
+wire-refused : (r : Result OnWire) (z : Refusal) → Root.Refused z ≡ rooted r → r ≡ refused (z .number) (z .place)
+unfolding rooted
+wire-refused (done x) z e = cc
+wire-refused (refused n p) z e = let q : z ≡ refusal n p = cc in rw q refl
 
-  module _ (h : need v (shapeAt b 0) ≤ l) where
-    abbrev groups : Surplus
-    groups = surplusOf version v (groupSinces (innerAt b 4 0)) (groupCount m)
+-- The answer by what the code finds: whether the block is long enough, its length, and what is left over.
+unfoldable pub wireBy : Bool → ℕ → Surplus → Surplus → Root
+wireBy false l g d = Root.Refused (refusal 14 0)
+wireBy true l Wrong d = Root.Refused (refusal 15 8)
+wireBy true l (Is x) Wrong = Root.Refused (refusal 15 10)
+wireBy true l (Is x) (Is y) = Root.On (record { length = l; groups = x; datas = y })
 
-    abbrev datas : Surplus
-    datas = surplusOf version v (dataSinces (shapeAt b 0 .datas)) (dataCount m)
+decided : (t u w : Bool) (l x y : ℕ)
+    → wireBy t l (if u then Is x else Wrong) (if w then Is y else Wrong)
+    ≡ rooted (must t 14 0 >>= λ _. must u 15 8 >>= λ _. must w 15 10
+    >>= λ _. done (record { length = l; groups = x; datas = y }))
+unfolding wireBy rooted must _>>=_ if_then_else_
+decided false u w l x y = refl
+decided true false w l x y = refl
+decided true true false l x y = refl
+decided true true true l x y = refl
 
-    pub root-groups : Wrong ≡ groups → answer ≡ Refused (refusal 15 8)
-    unfolding readRoot must _>>=_ walked
-    root-groups g = rw (sym e, sym f, le-leb _ _ h, counts-bad _ _ _ _ g) refl
+module _ (b m : List ℕ) (version : ℕ) where
+  pub wired : (v l least : ℕ) → v ≡ versionOf m → l ≡ blockLength m → least ≡ need v (shapeAt b 0)
+      → (t : Bool) (g d : Surplus) → leb least l ≡ t
+      → g ≡ surplusOf version v (groupSinces (innerAt b 4 0)) (groupCount m)
+      → d ≡ surplusOf version v (dataSinces (shapeAt b 0 .datas)) (dataCount m)
+      → wireBy t l g d ≡ rooted (wireAt b m version)
+  unfolding leftOver countGood wireAt
+  wired v l least e f n t g d h p q = rw (← h, p, q, n, e, f) (decided _ _ _ _ _ _)
 
-    pub root-datas : (x : ℕ) → Is x ≡ groups → Wrong ≡ datas → answer ≡ Refused (refusal 15 10)
-    unfolding readRoot must _>>=_ walked
-    root-datas x g d =
-        rw (sym e, sym f, le-leb _ _ h, counts-good _ _ _ _ x g .0, counts-bad _ _ _ _ d) refl
+  -- The root is read by what it is on the wire.
+  pub root-wired : rootAt b m version ≡ (wireAt b m version >>= λ wire. wholeAt b m (versionOf m) wire)
+  unfolding readRoot wireAt wholeAt
+  root-wired = simp (bind-assoc, bind-done) refl
 
-    pub root-on : (x y : ℕ) → Is x ≡ groups → Is y ≡ datas
-        → rootAt b m version ≡ wholeAt b m v (record { length = l; groups = x; datas = y })
-    unfolding readRoot wholeAt must _>>=_
-    root-on x y g d =
-        let p = counts-good version v (groupSinces (innerAt b 4 0)) (groupCount m) x g in
-        let q = counts-good version v (dataSinces (shapeAt b 0 .datas)) (dataCount m) y d in
-        rw (sym e, sym f, le-leb _ _ h, p .0, q .0, p .1, q .1) refl
+  pub root-refused : (z : Refusal) → Root.Refused z ≡ rooted (wireAt b m version)
+      → rootAt b m version ≡ refused (z .number) (z .place)
+  unfolding _>>=_
+  root-refused z e = rw (root-wired, wire-refused _ z e) refl
+
+  -- v is the message's version.
+  module _ (wire : OnWire) (e : Root.On wire ≡ rooted (wireAt b m version)) (v : ℕ) (is : v ≡ versionOf m) where
+    pub root-on : rootAt b m version ≡ wholeAt b m v wire
+    unfolding _>>=_
+    root-on = rw (root-wired, wire-is _ wire e, is) refl
+
+    pub root-need : need v (shapeAt b 0) ≤ wire .length
+    unfolding wireAt
+    root-need =
+        let p = inv-bind _ _ _ (wire-is _ wire e) in
+        let q = done-inj (inv-bind _ _ _ (inv-bind _ _ _ (p .next) .next) .next) in
+        rw (is, ← q) (leb-true _ _ (inv-must _ _ _ _ (p .first)))
 
 -- ---- the message's end
 
@@ -159,19 +173,20 @@ module _ (b m : List ℕ) (v : ℕ) (wire : OnWire) where
 
 -- ---- the book
 
-placed : (o : Option ContentsRow) (first words : ℕ) → At first words ≡ placeOf o
-    → (id : ℕ) × (o ≡ some (record { id = id; first = first; words = words }))
-unfolding placeOf
-placed no first words e = absurd (let z : _≡_ {A = ℕ} 0 1 = cc in omega arith)
-placed (some r) first words e =
+body-done : (r : Result ContentsRow) (first words : ℕ) → Body.At first words ≡ bodyFound r
+    → (id : ℕ) × (r ≡ done (record { id = id; first = first; words = words }))
+unfolding bodyFound
+body-done (done r) first words e =
     let p : first ≡ r .first = cc in
     let q : words ≡ r .words = cc in
     (r .id, rw (p, q) refl)
+body-done (refused n p) first words e = absurd (let z : _≡_ {A = ℕ} 0 1 = cc in omega arith)
 
-not-placed : (o : Option ContentsRow) → Unknown ≡ placeOf o → o ≡ no
-unfolding placeOf
-not-placed no e = refl
-not-placed (some r) e = absurd (let z : _≡_ {A = ℕ} 0 1 = cc in omega arith)
+body-refused : (r : Result ContentsRow) (z : Refusal) → Body.Refused z ≡ bodyFound r
+    → r ≡ refused (z .number) (z .place)
+unfolding bodyFound
+body-refused (done r) z e = cc
+body-refused (refused n p) z e = let q : z ≡ refusal n p = cc in rw q refl
 
 -- A row that is found leads into the book.
 row-within : (total low at id : ℕ) (rows : List ContentsRow) (r : ContentsRow) → contentsGood total low at rows ≡ true
@@ -196,66 +211,95 @@ module _ (s : List ℕ) (k : IsBook s) where
   abbrev b : List ℕ
   b = wordsOf s
 
-  pub book-numbers : (k .tree .schema ≡ word b 0) × (k .tree .version ≡ word b 1)
+  book-numbers : (k .tree .schema ≡ word b 0) × (k .tree .version ≡ word b 1)
   unfolding bookOf
   book-numbers =
       let p = inv-bind _ _ _ (inv-bind _ _ _ (inv-bind _ _ _ (inv-bind _ _ _ (k .is) .next) .next) .next) in
       let q = done-inj (inv-bind _ _ _ (inv-bind _ _ _ (p .next) .next) .next) in
       (sym (ap (λ (t : Book). t .schema) q), sym (ap (λ (t : Book). t .version) q))
 
-  module _ (id first words : ℕ) (e : At first words ≡ placeOf (findRow id (rowsOf b))) where
-    abbrev body : List ℕ
-    body = take words (drop first b)
+  module _ (m : List ℕ) where
+    -- The message is read by the body that its row leads to.
+    read-bodied : readMessage (k .tree) m
+        ≡ (bodyAt s m >>= λ r. rootAt (take (r .words) (drop (r .first) b)) m (word b 1))
+    unfolding bodyAt readMessage
+    read-bodied =
+        rw (book-numbers .0, book-numbers .1) (go (checkHeader (word b 0) m) _ (templates-agree s k (templateId m)))
+      where
+        go : (h : Result (Unit {0})) (o : Option ContentsRow) → Agrees b (templateId m) o (k .tree .templates)
+            → (h >>= λ _. templateOf (k .tree) m >>= λ t. readRoot (word b 1) t m)
+            ≡ (h >>= (λ _. orRefuse o 13 2) >>= λ r. rootAt (take (r .words) (drop (r .first) b)) m (word b 1))
+        go (refused n p) o a = unfold _>>=_ in refl
+        go (done u) no a = unfold _>>=_ orRefuse Agrees in rw a refl
+        go (done u) (some r) a =
+            let l : Leads b (templateId m) r (k .tree .templates) = unfold Agrees in a in
+            let o = open-body _ _ (l .body) in
+            unfold _>>=_ orRefuse readRoot in rw (l .found, o .shape, o .groups) refl
 
-    pub body-within : first + words ≤ length s / 2
-    body-within =
-        rw (← (length-words s)) (row-within _ _ _ id (rowsOf b) _ (contents s k .good) (placed _ first words e .1))
+    message-read : messageOf s m ≡ readMessage (k .tree) m
+    message-read = rw (k .is, bind-done) refl
 
-    leads : Leads b id (record { id = placed _ first words e .0; first = first; words = words }) (k .tree .templates)
-    leads = unfold Agrees in (rw (placed _ first words e .1) at (templates-agree s k id))
+    module _ (z : Refusal) (e : Body.Refused z ≡ bodyFound (bodyAt s m)) where
+      read-refused : readMessage (k .tree) m ≡ refused (z .number) (z .place)
+      unfolding _>>=_
+      read-refused = rw (read-bodied, body-refused _ z e) refl
 
-    opened : OpenedBody body (leads .shape) (leads .groups)
-    opened = open-body body _ (leads .body)
+      pub message-refused : messageOf s m ≡ refused (z .number) (z .place)
+      message-refused = message-read ∙ read-refused
 
-    -- The rules of 5 hold of it.
-    pub body-rules : (shapeGood (shapeAt body 0) ≡ true) × (groupsGood (innerAt body 4 0) ≡ true)
-    body-rules =
-        let good = accepted s (k .tree) id _ (k .is) (leads .found) .1 .layout in
-        (rw (opened .shape) at (and-left _ _ good), rw (opened .groups) at (and-right _ _ good))
+      pub place-refused : (ps : List Step) (x : Element) → placeIn (k .tree) m ps x ≡ refused (z .number) (z .place)
+      unfolding placeIn _>>=_
+      place-refused ps x = rw read-refused refl
 
-    pub body-block : BlockAt body 4 0
-    body-block = record { block = opened .block; row = opened .row }
+    module _ (first words : ℕ) (e : Body.At first words ≡ bodyFound (bodyAt s m)) where
+      abbrev body : List ℕ
+      body = take words (drop first b)
 
-  -- ---- the message
+      abbrev row : ContentsRow
+      row = record { id = body-done _ first words e .0; first = first; words = words }
 
-  module _ (m : List ℕ) (schema : ℕ) (is : schema ≡ word b 0) where
-    abbrev header : Walked
-    header = walked headerEnd (checkHeader schema m)
+      is : bodyAt s m ≡ done row
+      is = body-done _ first words e .1
 
-    schema-is : schema ≡ k .tree .schema
-    schema-is = is ∙ sym (book-numbers .0)
+      pub body-lent : Lent m 12
+      unfolding bodyAt walked
+      body-lent = header-lent m (word b 0) 12 0 (rw (inv-bind _ _ _ is .first) refl)
 
-    pub message-header : (z : Refusal) → Refused z ≡ header → walked (rootEnd m) (messageOf s m) ≡ Refused z
-    unfolding readMessage _>>=_
-    message-header z e = rw (k .is) (refused-on _ headerEnd _ _ z (rw schema-is at e))
+      found : findRow (templateId m) (rowsOf b) ≡ some row
+      unfolding bodyAt
+      found = inv-found _ 13 2 row (inv-bind _ _ _ is .next)
 
-    module _ (x j : ℕ) (h : To x j ≡ header) where
-      checked : checkHeader (k .tree .schema) m ≡ done tt
-      checked = inv-to headerEnd _ x j (rw schema-is at h) .is
+      pub body-within : first + words ≤ length s / 2
+      body-within = rw (← (length-words s)) (row-within _ _ _ _ (rowsOf b) row (contents s k .good) found)
 
-      pub message-unknown : (id : ℕ) → id ≡ templateId m → Unknown ≡ placeOf (findRow id (rowsOf b))
-          → walked (rootEnd m) (messageOf s m) ≡ Refused (refusal 13 2)
-      unfolding readMessage _>>=_ orRefuse walked
-      message-unknown id i e =
-          let none-such : findTemplate id (k .tree .templates) ≡ no =
-          unfold Agrees in (rw (not-placed _ e) at (templates-agree s k id)) in
-          rw (k .is, checked, sym i, none-such) refl
+      leads : Leads b (templateId m) row (k .tree .templates)
+      leads = unfold Agrees in (rw found at (templates-agree s k (templateId m)))
 
-      pub message-found : (id : ℕ) → id ≡ templateId m → (first words : ℕ)
-          → (e : At first words ≡ placeOf (findRow id (rowsOf b))) → (version : ℕ) → version ≡ word b 1
-          → messageOf s m ≡ rootAt (take words (drop first b)) m version
-      unfolding readMessage readRoot _>>=_ orRefuse
-      message-found id i first words e version v =
-          let o = opened id first words e in
-          let version-is : version ≡ k .tree .version = v ∙ sym (book-numbers .1) in
-          rw (version-is, k .is, checked, sym i, leads id first words e .found, o .shape, o .groups) refl
+      opened : OpenedBody body (leads .shape) (leads .groups)
+      opened = open-body body _ (leads .body)
+
+      -- The rules of 5 hold of it.
+      pub body-good : GoodBlock body 4 0
+      body-good =
+          let good = accepted s (k .tree) _ _ (k .is) (leads .found) .1 .layout in
+          record {
+            stands = record { block = opened .block; row = opened .row };
+            shape = rw (opened .shape) at (and-left _ _ good);
+            groups = rw (opened .groups) at (and-right _ _ good);
+          }
+
+      module _ (version : ℕ) (v : version ≡ word b 1) where
+        read-found : readMessage (k .tree) m ≡ rootAt body m version
+        unfolding _>>=_
+        read-found = rw (read-bodied, is, v) refl
+
+        pub message-found : messageOf s m ≡ rootAt body m version
+        message-found = message-read ∙ read-found
+
+        pub place-found : (ps : List Step) (x : Element)
+            → placeIn (k .tree) m ps x
+            ≡ (rootAt body m version
+            >>= λ r. must (leb (length ps) 4 and hasPlace ps x (shapeAt body 0) (innerAt body 4 0)) 30 0
+            >>= λ _. answerAt ps x r)
+        unfolding placeIn _>>=_ orRefuse
+        place-found ps x = rw (read-found, leads .found, opened .shape, opened .groups) refl

@@ -3,14 +3,22 @@ use mathlib.Core.List.{List}
 use Prim.Native.Nat.{ℕ, _-_}
 use lib.Dec.{leb, eqb}
 use lib.ListN.{length}
-use Rattle.layout.specs.Result.{Result, done, must, if_then_else_, _>>=_}
-use Rattle.layout.specs.Book.{present}
-use Rattle.layout.specs.BookRules.{bookOf}
+use Rattle.layout.specs.Result.{Result, done, refused, must, orRefuse, if_then_else_, _>>=_}
+use Rattle.layout.specs.Octets.{wordsOf}
+use Rattle.layout.specs.Book.{dataSinces, groupSinces, need, present}
+use Rattle.layout.specs.BookRules.{ContentsRow, bookOf, word}
+use Rattle.layout.specs.Contracts.{refusal}
 use Rattle.layout.specs.Values.{Values, entry, nil, measure}
-use Rattle.layout.specs.Message.{headerSize, readMessage, readRoot}
+use Rattle.layout.specs.Message.{blockLength, checkHeader, countGood, dataCount, groupCount, headerSize, readMessage}
+use Rattle.layout.specs.Message.{readRoot, templateId, versionOf}
+use Rattle.templates.specs.Lookup.{findRow, rowsOf}
 use Rattle.templates.specs.Positions.{shapeAt}
 use Rattle.walk.specs.Walks.{blockAt, innerAt}
 use Rattle.walk.specs.declared.OnWire.{OnWire}
+use Rattle.messages.specs.declared.Body as Body
+use Rattle.messages.specs.declared.Body.{Body}
+use Rattle.messages.specs.declared.Root as Root
+use Rattle.messages.specs.declared.Root.{Root}
 use Rattle.messages.specs.declared.Surplus as Surplus
 use Rattle.messages.specs.declared.Surplus.{Surplus}
 
@@ -29,11 +37,41 @@ module _ (b m : List ℕ) where
   abbrev pub rootAt : ℕ → Result Values
   rootAt version = readRoot version (record { id = 0; shape = shapeAt b 0; groups = innerAt b 4 0 }) m
 
+  -- What the root block is on the wire: 14 and 15.
+  unfoldable pub wireAt : ℕ → Result OnWire
+  wireAt version = do
+    let v = versionOf m
+    let groups = groupSinces (innerAt b 4 0)
+    let datas = dataSinces (shapeAt b 0 .datas)
+    _ ← must (leb (need v (shapeAt b 0)) (blockLength m)) 14 0
+    _ ← must (countGood version v groups (groupCount m)) 15 8
+    _ ← must (countGood version v datas (dataCount m)) 15 10
+    done (record {
+      length = blockLength m;
+      groups = groupCount m - present v groups;
+      datas = dataCount m - present v datas;
+    })
+
   unfoldable pub wholeAt : ℕ → OnWire → Result Values
   wholeAt v wire = do
     (fs, gs, ds, e) ← blockAt b 4 0 m v wire headerSize
     _ ← must (eqb e (length m)) 20 e
     done (entry fs gs ds nil)
+
+unfoldable pub rooted : Result OnWire → Root
+rooted (done wire) = Root.the-variants.On wire
+rooted (refused n p) = Root.the-variants.Refused (refusal n p)
+
+-- The row of the book's contents that leads to the body of the message's template: 10 to 13.
+unfoldable pub bodyAt : List ℕ → List ℕ → Result ContentsRow
+bodyAt book m = do
+  let b = wordsOf book
+  _ ← checkHeader (word b 0) m
+  orRefuse (findRow (templateId m) (rowsOf b)) 13 2
+
+unfoldable pub bodyFound : Result ContentsRow → Body
+bodyFound (done r) = Body.the-variants.At (r .first) (r .words)
+bodyFound (refused n p) = Body.the-variants.Refused (refusal n p)
 
 -- The message that these octets are by the book that those are.
 abbrev pub messageOf : List ℕ → List ℕ → Result Values

@@ -1,4 +1,5 @@
 // Walks a whole message by an accepted book: how many records it has, or the refusal 10 to 20.
+use layout::Refusal;
 use templates::Place;
 use walk::OnWire;
 use wire::Walked;
@@ -11,10 +12,11 @@ ghost use Rattle.templates.specs.Lookup.{IsBook};
 ghost use Rattle.templates.specs.Positions.{shapeAt};
 ghost use Rattle.wire.specs.Walks.{walked};
 ghost use Rattle.walk.specs.Walks.{BlockAt, Lent, innerAt};
-ghost use Rattle.messages.specs.Whole.{leftOver, messageOf, rootEnd, rootAt, surplusOf, wholeAt};
+ghost use Rattle.messages.specs.Whole.{bodyAt, bodyFound, leftOver, messageOf, rootAt, rootEnd, rooted};
+ghost use Rattle.messages.specs.Whole.{surplusOf, wholeAt, wireAt};
 
 // How many groups or data the wire has more than are present, or that the header's count of them is wrong.
-pub enum Surplus {
+enum Surplus {
     Is(usize),
     Wrong,
 }
@@ -36,7 +38,7 @@ fn left_over(version: usize, v: usize, all: usize, present: usize, n: usize) -> 
     Surplus::Is(n - present)
 }
 
-pub fn surplus_groups(body: &[u8], version: usize, v: usize, m: &[u8]) -> Surplus
+fn surplus_groups(body: &[u8], version: usize, v: usize, m: &[u8]) -> Surplus
     requires { ⌜ BlockAt (wordsOf (now body)) 4 0 × Lent (now m) 12 ⌝ }
     ensures { λ r. ⌜ r ≡ surplusOf version v (groupSinces (innerAt (wordsOf (now (body .entry))) 4 0)) (groupCount
         (now (m .entry))) ⌝ }
@@ -46,7 +48,7 @@ pub fn surplus_groups(body: &[u8], version: usize, v: usize, m: &[u8]) -> Surplu
     left_over(version, v, all, present, octets::get2(m, 8) as usize)
 }
 
-pub fn surplus_datas(body: &[u8], version: usize, v: usize, m: &[u8]) -> Surplus
+fn surplus_datas(body: &[u8], version: usize, v: usize, m: &[u8]) -> Surplus
     requires { ⌜ BlockAt (wordsOf (now body)) 4 0 × Lent (now m) 12 ⌝ }
     ensures { λ r. ⌜ r ≡ surplusOf version v (dataSinces (shapeAt (wordsOf (now (body .entry))) 0 .datas))
         (dataCount (now (m .entry))) ⌝ }
@@ -54,6 +56,44 @@ pub fn surplus_datas(body: &[u8], version: usize, v: usize, m: &[u8]) -> Surplus
     let all = book::word(body, 3);
     let present = blocks::present_datas(body, 4 + 6 * book::word(body, 1), all, v);
     left_over(version, v, all, present, octets::get2(m, 10) as usize)
+}
+
+// What the root block is on the wire, or the refusal 14 or 15.
+pub enum Root {
+    On(OnWire),
+    Refused(Refusal),
+}
+
+// The header's numbers against the template's body, in a book of this version.
+pub fn on_wire(body: &[u8], version: usize, m: &[u8]) -> Root
+    requires { ⌜ BlockAt (wordsOf (now body)) 4 0 × Lent (now m) 12 ⌝ }
+    ensures { λ r. ⌜ r ≡ rooted (wireAt (wordsOf (now (body .entry))) (now (m .entry)) version) ⌝ }
+{
+    let v = octets::get2(m, 6) as usize;
+    let length = octets::get2(m, 0) as usize;
+    if length < blocks::need(body, 0, v) {
+        return Root::Refused(Refusal {
+            number: 14,
+            place: 0,
+        });
+    }
+    let Surplus::Is(groups) = surplus_groups(body, version, v, m) else {
+        return Root::Refused(Refusal {
+            number: 15,
+            place: 8,
+        });
+    };
+    let Surplus::Is(datas) = surplus_datas(body, version, v, m) else {
+        return Root::Refused(Refusal {
+            number: 15,
+            place: 10,
+        });
+    };
+    Root::On(OnWire {
+        length,
+        groups,
+        datas,
+    })
 }
 
 // The root block and what follows it, up to the message's end.
@@ -73,28 +113,38 @@ fn walk_whole(body: &[u8], m: &[u8], v: usize, wire: OnWire) -> Walked
 }
 
 // A message by its template's body, in a book of this version: 14 to 20.
-fn walk_root(body: &[u8], version: usize, m: &[u8]) -> Walked
+pub fn walk_root(body: &[u8], version: usize, m: &[u8]) -> Walked
     requires { ⌜ BlockAt (wordsOf (now body)) 4 0 × Lent (now m) 12 ⌝ }
     ensures { λ r. ⌜ r ≡ walked (rootEnd (now (m .entry))) (rootAt (wordsOf (now (body .entry))) (now (m .entry))
         version) ⌝ }
 {
-    let v = octets::get2(m, 6) as usize;
-    let length = octets::get2(m, 0) as usize;
-    if length < blocks::need(body, 0, v) {
-        return wire::refuse(14, 0);
+    match on_wire(body, version, m) {
+        Root::On(wire) => walk_whole(body, m, octets::get2(m, 6) as usize, wire),
+        Root::Refused(refusal) => Walked::Refused(refusal),
     }
-    let Surplus::Is(groups) = surplus_groups(body, version, v, m) else {
-        return wire::refuse(15, 8);
-    };
-    let Surplus::Is(datas) = surplus_datas(body, version, v, m) else {
-        return wire::refuse(15, 10);
-    };
-    let wire = OnWire {
-        length,
-        groups,
-        datas,
-    };
-    walk_whole(body, m, v, wire)
+}
+
+// Where the body of a message's template lies in the book, its first word and its words; or the refusal 10 to 13.
+pub enum Body {
+    At { first: usize, words: usize },
+    Refused(Refusal),
+}
+
+// The header, and then the template's row in the book's contents.
+pub fn find_body(book: &[u8], m: &[u8]) -> Body
+    requires { ⌜ IsBook (now book) ⌝ }
+    ensures { λ r. ⌜ r ≡ bodyFound (bodyAt (now (book .entry)) (now (m .entry))) ⌝ }
+{
+    if let Walked::Refused(refusal) = wire::read_header(m, book::word(book, 0)) {
+        return Body::Refused(refusal);
+    }
+    match templates::find(book, octets::get2(m, 2) as usize) {
+        Place::At { first, words } => Body::At { first, words },
+        Place::Unknown => Body::Refused(Refusal {
+            number: 13,
+            place: 2,
+        }),
+    }
 }
 
 // A message by an accepted book.
@@ -102,15 +152,11 @@ pub fn walk(book: &[u8], m: &[u8]) -> Walked
     requires { ⌜ IsBook (now book) ⌝ }
     ensures { λ r. ⌜ r ≡ walked (rootEnd (now (m .entry))) (messageOf (now (book .entry)) (now (m .entry))) ⌝ }
 {
-    let header = wire::read_header(m, book::word(book, 0));
-    let Walked::To { .. } = header else {
-        return header;
-    };
-    match templates::find(book, octets::get2(m, 2) as usize) {
-        Place::At { first, words } => {
+    match find_body(book, m) {
+        Body::At { first, words } => {
             let end = 2 * first + 2 * words;
             walk_root(&book[2 * first..end], book::word(book, 1), m)
         }
-        Place::Unknown => wire::refuse(13, 2),
+        Body::Refused(refusal) => Walked::Refused(refusal),
     }
 }

@@ -1,28 +1,15 @@
-// Checks and measures a message: any octets for the book and any for the message.
+// Reads a message: any octets for the book and any for the message. The book is checked first, and what it is refused
+// for is the answer.
 use layout::Checked;
 use layout::Counted;
-use wire::Walked;
-ghost use mathlib.Core.Path.{_≡_};
-ghost use Rattle.layout.specs.Contracts.{Checks, Measures};
-ghost use Rattle.wire.specs.Walks.{walked};
-ghost use Rattle.messages.specs.Whole.{messageOf, rootEnd};
-
-// The book's refusal, else the message's, else the message's end and its number of records.
-pub fn walk(book: &[u8], m: &[u8]) -> Walked
-    ensures { λ r. ⌜ r ≡ walked (rootEnd (now (m .entry))) (messageOf (now (book .entry)) (now (m .entry))) ⌝ }
-{
-    let Checked::Refused(refusal) = book::check(book) else {
-        return messages::walk(book, m);
-    };
-    Walked::Refused(refusal)
-}
+ghost use Rattle.layout.specs.Contracts.{Checks, Lists, Measures};
 
 // Checks a message.
 pub fn check(book: &[u8], m: &[u8]) -> Checked
     ensures { λ r. ⌜ Checks (now (book .entry)) (now (m .entry)) r ⌝ }
 {
-    let Walked::Refused(refusal) = walk(book, m) else {
-        return Checked::Accepted;
+    let Checked::Refused(refusal) = book::check(book) else {
+        return stream::check(book, m);
     };
     Checked::Refused(refusal)
 }
@@ -31,8 +18,18 @@ pub fn check(book: &[u8], m: &[u8]) -> Checked
 pub fn measure(book: &[u8], m: &[u8]) -> Counted
     ensures { λ r. ⌜ Measures (now (book .entry)) (now (m .entry)) r ⌝ }
 {
-    match walk(book, m) {
-        Walked::To { records, .. } => Counted::Count(records),
-        Walked::Refused(refusal) => Counted::Refused(refusal),
-    }
+    let Checked::Refused(refusal) = book::check(book) else {
+        return stream::measure(book, m);
+    };
+    Counted::Refused(refusal)
+}
+
+// Lists a message: the number of records, which are stored from the room's start.
+pub fn list(book: &[u8], m: &[u8], room: &mut [u64]) -> Counted
+    ensures { λ r. ⌜ Lists (now (book .entry)) (now (m .entry)) (now (room .entry)) r (now (room .exit)) ⌝ }
+{
+    let Checked::Refused(refusal) = book::check(book) else {
+        return stream::list(book, m, room);
+    };
+    Counted::Refused(refusal)
 }

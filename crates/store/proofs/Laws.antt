@@ -1,27 +1,25 @@
 -- What each part of a message prints, taken apart in the code's terms. That it was accepted is known: no test is made.
 use mathlib.Core.Path.{_≡_, refl, sym, _∙_}
-use mathlib.Core.List.{List, [], _∷_, _++_, map, append-assoc}
-use mathlib.Core.Bool.{Bool, true, false}
+use mathlib.Core.List.{List, [], _++_, map, append-assoc}
+use mathlib.Core.Bool.{true, false}
 use Prim.Native.Nat.{ℕ, zero, suc, _+_, _-_, _≤_, _<_}
 use native.Mathlib.Omega.{arith}
-use lib.Dec.{leb, eqb}
+use lib.Dec.{leb}
 use lib.ListN.{length}
 use lib.Seq.{sets}
-use borrow.Author.Tests.{eqb-true, le-leb, lt-leb, leb-true}
-use Rattle.layout.specs.Result.{Each, Result, done, refused, must, if_then_else_, _>>=_}
+use borrow.Author.Tests.{le-leb, lt-leb, leb-true}
+use Rattle.layout.specs.Result.{Result, done, refused, must, if_then_else_, _>>=_}
 use Rattle.layout.specs.Octets.{number16}
-use Rattle.layout.specs.Book.{Field, end, need, needAfter}
-use Rattle.layout.specs.BookRules.{fieldAt, fieldsGood, groupsGood, lengthGood, parseDatas, parseFields, word}
-use Rattle.layout.specs.Values.{Values, group, nil, listing, recordOf, recordsOf}
+use Rattle.layout.specs.Book.{need}
+use Rattle.layout.specs.BookRules.{fieldAt, parseDatas, parseFields, word}
+use Rattle.layout.specs.Values.{Values, nil, listing, recordOf, recordsOf}
 use Rattle.layout.specs.Message.{readBlock, readData, readDatas, readDimension, readEntries}
 use Rattle.layout.specs.Message.{readField, readGroup, readGroups, skipDatas, skipGroups}
 use Rattle.layout.specs.declared.Answer.{Answer}
 use Rattle.layout.specs.declared.Answer.the-variants.{Absent, Group, Octets}
-use Rattle.layout.proofs.Results.{and-left, and-right, either, inv-bind, inv-must, or-right}
+use Rattle.layout.proofs.Results.{inv-bind, inv-must}
 use Rattle.layout.proofs.Records.{record-three}
-use Rattle.layout.proofs.Fields.{FieldGood, field-good}
 use Rattle.templates.specs.Positions.{Opened, groupCount, groupsAt, groupsEnd, groupsFrom, shapeAt}
-use Rattle.fields.specs.Readable.{Fits}
 use Rattle.wire.specs.Walks.{Inside, skipEnd, walked}
 use Rattle.wire.specs.declared.Walked.{Walked}
 use Rattle.wire.specs.declared.Walked.the-variants.{Refused, To}
@@ -30,7 +28,7 @@ use Rattle.walk.proofs.Laws as walking
 use Rattle.walk.specs.declared.OnWire.{OnWire}
 use Rattle.store.specs.declared.Cursor.{Cursor}
 use Rattle.store.specs.Prints.{Printed, got, printed, prepend, andThen, endOf, numbersOf, Room, Stored}
-use Rattle.store.specs.Stores.{GoodBlock, GoodRow, blockPrint, dataPrint, datasPrint, entriesPrint}
+use Rattle.store.specs.Stores.{blockPrint, dataPrint, datasPrint, entriesPrint}
 use Rattle.store.specs.Stores.{fieldsPrint, groupPrint, pastOf}
 use Rattle.store.specs.Stores.{rowPrint}
 use Rattle.store.proofs.Going.{prepend-nil, prepend-prepend}
@@ -86,47 +84,6 @@ module _ (x : Printed) (p : ℕ) (a : Answer) (same : x ≡ got p (recordOf a)) 
 
 -- ---- fields
 
-some-length : (f : Field) → lengthGood f ≡ true → 1 ≤ f .length
-some-length f g = go (eqb (f .length) 1) refl
-  where
-    go : (t : Bool) → eqb (f .length) 1 ≡ t → 1 ≤ f .length
-    go true e = omega (arith, eqb-true (f .length) 1 e)
-    go false e = omega (arith, leb-true 2 (f .length) (and-left _ _ (or-right _ _ g e)))
-
--- Of good fields every one that is present ends within the need.
-need-least : (v l e least : ℕ) (fs : List Field) → fieldsGood l e fs ≡ true → least ≤ e → least ≤ needAfter v least fs
-unfolding needAfter
-need-least v l e least [] g h = omega arith
-need-least v l e least (f ∷ fs) g h =
-    go (leb (f .since) v) (λ x. need-least v l (end f) x fs (field-good l e f fs g .rest))
-  where
-    low : least ≤ end f
-    low = omega (arith, field-good l e f fs g .placed)
-
-    go : (t : Bool) → ((x : ℕ) → x ≤ end f → x ≤ needAfter v x fs) → least ≤ needAfter v (if t then end f else least) fs
-    go true on = unfold if_then_else_ in omega (arith, low, on (end f) (omega arith))
-    go false on = unfold if_then_else_ in on least low
-
-pub fields-fit : (m : List ℕ) (v at size l e least : ℕ) (fs : List Field) → fieldsGood l e fs ≡ true → least ≤ e
-    → needAfter v least fs ≤ size → at + size ≤ length m → Each (Fits m v at) fs
-unfolding needAfter Each
-fields-fit m v at size l e least [] g h n i = tt
-fields-fit m v at size l e least (f ∷ fs) g h n i = (
-  record { known = good .type; some = some-length f (good .length); inside = within },
-  fields-fit m v at size l (end f) _ fs (good .rest) low n i,
-)
-  where
-    good : FieldGood l e f fs
-    good = field-good l e f fs g
-
-    low : (if leb (f .since) v then end f else least) ≤ end f
-    low = either (λ x. x ≤ end f) (leb (f .since) v) (end f) least (omega arith) (omega (arith, good .placed))
-
-    within : f .since ≤ v → at + end f ≤ length m
-    within here =
-        let here-is : needAfter v (end f) fs ≤ size = unfold if_then_else_ in rw (le-leb (f .since) v here) at n in
-        omega (arith, need-least v l (end f) (end f) fs (good .rest) (omega arith), here-is)
-
 module _ (b : List ℕ) (m : List ℕ) (v at n f : ℕ) where
   abbrev pub fieldsFrom : Printed
   fieldsFrom = got at (recordsOf (map (readField m v at) (parseFields b n f)))
@@ -142,12 +99,6 @@ pub fields-end : (b m : List ℕ) (v at n f : ℕ) → n ≤ 0 → fieldsFrom b 
 unfolding parseFields recordsOf
 fields-end b m v at zero f h = refl
 fields-end b m v at (suc n) f h = absurd (omega arith)
-
-pub fields-each : (P : Field → Type 0) (b : List ℕ) (n f : ℕ) → 0 < n → Each P (parseFields b n f)
-    → P (fieldAt b f) × Each P (parseFields b (n - 1) (f + 6))
-unfolding parseFields Each
-fields-each P b zero f h e = absurd (omega arith)
-fields-each P b (suc n) f h e = let q : suc n - 1 ≡ n = omega arith in rw q e
 
 -- ---- data
 
@@ -308,22 +259,6 @@ unfolding if_then_else_ printed listing prepend groupPrint
 group-absent b depth w m v at h = rw (lt-leb (word b (w + 1)) v h) refl
 
 -- ---- groups in a row
-
--- The rules of a row hold of its first group and of the rest.
-pub row-good : (b : List ℕ) (depth n w : ℕ) → Opened b depth n w → groupsGood (groupsAt b depth n w) ≡ true
-    → GoodBlock b (depth - 1) (w + 2)
-    × GoodRow b depth (n - 1) (groupsEnd b (depth - 1) (groupCount b (w + 2)) (groupsFrom b (w + 2)))
-unfolding groupsGood
-row-good b depth n w o g =
-    let h = rw (o .tree) at g in
-    let k = and-right _ _ h in (
-      record {
-        stands = record { block = o .block; row = o .inner };
-        shape = and-left _ _ h;
-        groups = and-left _ _ k;
-      },
-      record { stands = o .rest; groups = and-right _ _ k },
-    )
 
 module _ (b m : List ℕ) (depth v surplus n w at : ℕ) where
   pub row-step : (o : Opened b depth n w)

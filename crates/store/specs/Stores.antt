@@ -1,32 +1,18 @@
 -- The parts of a message at word positions, as they are stored.
 use mathlib.Core.List.{List, _++_, map}
 use mathlib.Core.Bool.{Bool}
-use mathlib.Core.Path.{_≡_}
-use mathlib.Core.Bool.{true}
 use Prim.Native.Nat.{ℕ}
 use Rattle.layout.specs.Result.{if_then_else_, done}
-use Rattle.layout.specs.BookRules.{shapeGood, groupsGood}
 use Rattle.layout.specs.Values.{listing, recordOf, recordsOf}
 use Rattle.layout.specs.Message.{readData, readField}
 use Rattle.layout.specs.declared.Answer.the-variants.{Absent}
-use Rattle.templates.specs.Positions.{IsRow, groupsAt, shapeAt}
-use Rattle.walk.specs.Walks.{BlockAt, blockAt, datasAt, entriesAt, groupAt, innerAt, rowAt}
+use Rattle.templates.specs.Positions.{shapeAt}
+use Rattle.walk.specs.Walks.{blockAt, datasAt, entriesAt, groupAt, rowAt}
 use Rattle.walk.specs.declared.OnWire.{OnWire}
 use Rattle.wire.specs.declared.Walked.{Walked}
 use Rattle.wire.specs.declared.Walked.the-variants.{To, Refused}
 use Rattle.store.specs.declared.Cursor.{Cursor}
 use Rattle.store.specs.Prints.{Printed, got, printed}
-
--- A block at word w, whose rules and whose groups' rules hold.
-pub record GoodBlock (b : List ℕ) (depth w : ℕ) : Type 0 where
-  pub stands : BlockAt b depth w
-  pub shape : shapeGood (shapeAt b w) ≡ true
-  pub groups : groupsGood (innerAt b depth w) ≡ true
-
--- n groups in a row at word w, whose rules hold.
-pub record GoodRow (b : List ℕ) (depth n w : ℕ) : Type 0 where
-  pub stands : IsRow b depth n w
-  pub groups : groupsGood (groupsAt b depth n w) ≡ true
 
 -- ---- what each part prints
 

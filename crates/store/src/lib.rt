@@ -11,7 +11,8 @@ ghost use Rattle.layout.specs.Book.{need};
 ghost use Rattle.templates.specs.Positions.{IsBlock, shapeAt};
 ghost use Rattle.fields.specs.Readable.{Fits};
 ghost use Rattle.store.specs.Prints.{Room, Stored};
-ghost use Rattle.store.specs.Stores.{GoodBlock, GoodRow, fieldsPrint, dataPrint, datasPrint, blockPrint};
+ghost use Rattle.walk.specs.Walks.{GoodBlock, GoodRow};
+ghost use Rattle.store.specs.Stores.{fieldsPrint, dataPrint, datasPrint, blockPrint};
 ghost use Rattle.store.specs.Stores.{entriesPrint, groupPrint, rowPrint, pastOf};
 
 // Where the pass stands in the message and in the room.

@@ -2,13 +2,14 @@
 use mathlib.Core.Path.{_∙_, _≡_, ap, refl, subst, sym}
 use mathlib.Core.List.{List}
 use Prim.Native.Nat.{_+_, _-_, _<_, _≤_, suc, zero, ℕ}
+use native.Mathlib.Nat.{zero-add}
 use native.Mathlib.Omega.{arith}
 use borrow.Author.Tests.{leb-true}
-use Rattle.layout.specs.Result.{Result, done, refused}
+use Rattle.layout.specs.Result.{Result, _>>=_, done, refused}
 use Rattle.layout.specs.Book.{Groups, Shape, end, more, none}
 use Rattle.layout.specs.BookRules.{parseBody, parseGroups, parseShape, word}
 use Rattle.templates.specs.Positions.{IsBlock, IsRow, Opened, OpenedBody, endOf, fieldCount, groupCount, groupsAt}
-use Rattle.templates.specs.Positions.{groupsFrom, shapeAt, treeOf}
+use Rattle.templates.specs.Positions.{groupsEnd, groupsFrom, shapeAt, treeOf}
 use Rattle.book.proofs.Groups.{groups-step}
 use Rattle.layout.proofs.Results.{and-left, and-right, done-inj, inv-bind, inv-must}
 
@@ -120,3 +121,37 @@ open-body b r e =
       row = is-row b 4 (groupCount b 0) (groupsFrom b 0) (q .value) i;
       groups = sym (row-parts (parseGroups b 4 (groupCount b 0) (groupsFrom b 0)) (q .value) i .0);
     }) (q .first))
+
+-- A row whose first group is followed by g groups: the row of these and the first.
+row-more : (b : List ℕ) (depth g w : ℕ) (s : Shape × ℕ × ℕ) (inner : Groups × ℕ) → 0 < depth
+    → parseShape b 1 (w + 2) ≡ done s → parseGroups b (depth - 1) (s .1) (s .2) ≡ done inner
+    → IsRow b depth g (inner .1)
+    → IsRow b depth (suc g) w × (groupsEnd b depth (suc g) w ≡ groupsEnd b depth g (inner .1))
+unfolding _>>=_ treeOf endOf
+row-more b depth g w s inner deep p q row =
+    let j : suc g - 1 ≡ g = omega arith in
+    let whole : parseGroups b depth (suc g) w ≡ done (
+      more (word b w) (word b (w + 1)) (s .0) (inner .0) (groupsAt b depth g (inner .1)),
+      groupsEnd b depth g (inner .1),
+    ) = groups-step b depth (suc g) w deep (omega arith) ∙ rw (p, q, j, row .whole) refl in
+    (is-row b depth (suc g) w _ whole, row-parts _ _ whole .1)
+
+none-cut : (b : List ℕ) (depth k w : ℕ) → IsRow b depth k w
+    → IsRow b depth 0 w × IsRow b depth k (groupsEnd b depth 0 w)
+unfolding parseGroups endOf treeOf
+none-cut b zero k w row = (record { whole = refl }, row)
+none-cut b (suc depth) k w row = (record { whole = refl }, row)
+
+-- The first g of a row's groups are a row, and so are the k others.
+pub row-cut : (b : List ℕ) (depth g k w : ℕ) → IsRow b depth (g + k) w
+    → IsRow b depth g w × IsRow b depth k (groupsEnd b depth g w)
+row-cut b depth zero k w row = none-cut b depth k w (rw zero-add at row)
+row-cut b depth (suc g) k w row =
+    let o = open-row b depth (suc g + k) w (omega arith) row in
+    let p = inv-bind _ _ _ (sym (groups-step b depth (suc g + k) w (o .deep) (omega arith)) ∙ row .whole) in
+    let q = inv-bind _ _ _ (p .next) in
+    let n : suc g + k - 1 ≡ g + k = omega arith in
+    let rest = is-row b depth _ _ _ (inv-bind _ _ _ (q .next) .first) in
+    let cut = row-cut b depth g k (q .value .1) (subst (λ (x : ℕ). IsRow b depth x (q .value .1)) n rest) in
+    let more-is = row-more b depth g w (p .value) (q .value) (o .deep) (p .first) (q .first) (cut .0) in
+    (more-is .0, rw (more-is .1) (cut .1))

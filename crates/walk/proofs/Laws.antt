@@ -1,6 +1,7 @@
 -- One law for each way that a function of the walk ends or goes on, in the code's terms.
 use mathlib.Core.Path.{_≡_, refl, sym, ap, _∙_}
 use mathlib.Core.List.{List, [], _∷_}
+use mathlib.Core.Bool.{true}
 use Prim.Native.Nat.{ℕ, zero, suc, _+_, _-_, _*_, _≤_, _<_}
 use native.Mathlib.Omega.{arith}
 use lib.Dec.{leb}
@@ -9,7 +10,7 @@ use borrow.Author.Tests.{le-leb, lt-leb}
 use Rattle.layout.specs.Result.{Result, done, refused, must, if_then_else_, _>>=_}
 use Rattle.layout.specs.Octets.{number16}
 use Rattle.layout.specs.Book.{Shape, need}
-use Rattle.layout.specs.BookRules.{word, parseDatas, parseFields}
+use Rattle.layout.specs.BookRules.{groupsGood, parseDatas, parseFields, word}
 use Rattle.layout.specs.Contracts.{refusal}
 use Rattle.layout.specs.Values.{Values, entry, group, measure, nil}
 use Rattle.layout.specs.Message.{Entry, readBlock, readData, readDatas, readDimension, readEntries, readField}
@@ -17,13 +18,15 @@ use Rattle.layout.specs.Message.{readGroup, readGroups, skipDatas, skipGroups}
 use Rattle.layout.specs.declared.Answer.{Answer}
 use Rattle.layout.specs.declared.Answer.the-variants.{Absent, Group}
 use Rattle.layout.specs.declared.Refusal.{Refusal}
+use Rattle.layout.proofs.Results.{and-left, and-right}
 use Rattle.templates.specs.Positions.{Opened, groupCount, groupsAt, groupsEnd, groupsFrom}
 use Rattle.templates.proofs.Open.{no-groups-at}
 use Rattle.wire.specs.Walks.{walked, dataEnd, dimensionEnd, skipEnd}
 use Rattle.wire.specs.declared.Walked.{Walked}
 use Rattle.wire.specs.declared.Walked.the-variants.{To, Refused}
 use Rattle.wire.proofs.Laws.{dimension-reached, refused-on}
-use Rattle.walk.specs.Walks.{Bounded, datasEnd, entryEnd, groupAt, groupEnd, rate, valuesEnd}
+use Rattle.walk.specs.Walks.{Bounded, GoodBlock, GoodRow, datasEnd, entryEnd, groupAt, groupEnd, rate}
+use Rattle.walk.specs.Walks.{valuesEnd}
 
 -- ---- whatever is walked
 
@@ -219,6 +222,22 @@ module _ (m : List ℕ) (v : ℕ) (s : Shape) (f : ℕ → Result (Values × ℕ
           (then-to _ (valuesEnd 0) y k e _ _ _ λ a p q. reached groupEnd _ p (omega (arith, q)))
 
 -- ---- groups in a row
+
+-- The rules of a row hold of its first group and of the rest.
+pub row-good : (b : List ℕ) (depth n w : ℕ) → Opened b depth n w → groupsGood (groupsAt b depth n w) ≡ true
+    → GoodBlock b (depth - 1) (w + 2)
+    × GoodRow b depth (n - 1) (groupsEnd b (depth - 1) (groupCount b (w + 2)) (groupsFrom b (w + 2)))
+unfolding groupsGood
+row-good b depth n w o g =
+    let h = rw (o .tree) at g in
+    let k = and-right _ _ h in (
+      record {
+        stands = record { block = o .block; row = o .inner };
+        shape = and-left _ _ h;
+        groups = and-left _ _ k;
+      },
+      record { stands = o .rest; groups = and-right _ _ k },
+    )
 
 module _ (m : List ℕ) (v : ℕ) (b : List ℕ) (depth s seen n w at : ℕ) where
   abbrev pub rowIs : Result (Values × ℕ)

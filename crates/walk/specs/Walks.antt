@@ -1,12 +1,14 @@
 -- What walking a part of a message by an accepted body comes to: the definition's answer at word positions, and how
 -- far and how many it can be.
+use mathlib.Core.Path.{_≡_}
+use mathlib.Core.Bool.{true}
 use mathlib.Core.List.{List}
 use Prim.Native.Nat.{ℕ, _+_, _*_, _≤_}
 use lib.Dec.{leb}
 use lib.ListN.{length}
 use Rattle.layout.specs.Result.{Result, done, if_then_else_}
 use Rattle.layout.specs.Book.{Groups}
-use Rattle.layout.specs.BookRules.{word}
+use Rattle.layout.specs.BookRules.{groupsGood, shapeGood, word}
 use Rattle.layout.specs.Values.{Values, nil, measure}
 use Rattle.layout.specs.Message.{Entry, readBlock, readDatas, readEntries, readGroup, readGroups}
 use Rattle.layout.specs.declared.Answer.{Answer}
@@ -50,6 +52,19 @@ groupAt b depth w m v at =
     if leb (word b (w + 1)) v
     then readGroup m v (shapeAt b (w + 2)) (readGroups m v (innerAt b depth (w + 2)) 0) at
     else done (Absent, nil, at)
+
+-- ---- accepted blocks
+
+-- A block at word w, whose rules and whose groups' rules hold.
+pub record GoodBlock (b : List ℕ) (depth w : ℕ) : Type 0 where
+  pub stands : BlockAt b depth w
+  pub shape : shapeGood (shapeAt b w) ≡ true
+  pub groups : groupsGood (innerAt b depth w) ≡ true
+
+-- n groups in a row at word w, whose rules hold.
+pub record GoodRow (b : List ℕ) (depth n w : ℕ) : Type 0 where
+  pub stands : IsRow b depth n w
+  pub groups : groupsGood (groupsAt b depth n w) ≡ true
 
 -- ---- where each ends and how many records it has, `seen` having been counted before
 

@@ -1,9 +1,11 @@
 // Walks a message by an accepted book, in wire order: how many records it has, or the first refusal.
 use wire::Walked;
 ghost use mathlib.Core.Path.{_≡_};
-ghost use Prim.Native.Nat.{_+_, _*_, _≤_};
+ghost use Prim.Native.Nat.{_+_, _*_, _/_, _≤_};
 ghost use lib.ListN.{length};
 ghost use Rattle.layout.specs.Octets.{wordsOf};
+ghost use Rattle.layout.specs.BookRules.{parseDatas};
+ghost use Rattle.layout.specs.Message.{readDatas};
 ghost use Rattle.templates.specs.Positions.{IsBlock, IsRow};
 ghost use Rattle.walk.specs.Walks.{Lent, BlockAt, datasEnd, entryEnd, groupEnd, valuesEnd, Bounded};
 ghost use Rattle.walk.specs.Walks.{blockAt, datasAt, entriesAt, groupAt, rowAt};
@@ -16,15 +18,23 @@ pub struct OnWire {
     pub datas: usize,
 }
 
-// The data of the block at word w of the body, and then the surplus ones.
-fn walk_datas(body: &[u8], w: usize, m: &[u8], v: usize, surplus: usize, start: usize) -> Walked
-    requires { ⌜ IsBlock (wordsOf (now body)) w × Lent (now m) start ⌝ }
-    ensures { λ r. ⌜ r ≡ walked (datasEnd 0) (datasAt (wordsOf (now (body .entry))) w (now (m .entry)) v surplus
-        start) ⌝ }
+// The n data at word `from` of the body, and then the surplus ones.
+pub fn walk_data_row(
+    body: &[u8],
+    from: usize,
+    n: usize,
+    m: &[u8],
+    v: usize,
+    surplus: usize,
+    start: usize,
+) -> Walked
+    requires { ⌜ (from + 2 * n ≤ length (now body) / 2) × (n ≤ 16) × Lent (now m) start ⌝ }
+    ensures { λ r. ⌜ r ≡ walked (datasEnd 0) (readDatas (now (m .entry)) v (parseDatas (wordsOf (now (body .entry))) n
+        from) surplus start) ⌝ }
     ensures { λ r. ⌜ Bounded (now (m .entry)) start 16 r ⌝ }
 {
-    let mut left = book::word(body, w + 3);
-    let mut d = w + 4 + 6 * book::word(body, w + 1);
+    let mut left = n;
+    let mut d = from;
     let mut at = start;
     let mut seen = 0;
     while 0 < left {
@@ -47,6 +57,18 @@ fn walk_datas(body: &[u8], w: usize, m: &[u8], v: usize, surplus: usize, start: 
         next,
         records: seen,
     }
+}
+
+// The data of the block at word w of the body, and then the surplus ones.
+pub fn walk_datas(body: &[u8], w: usize, m: &[u8], v: usize, surplus: usize, start: usize) -> Walked
+    requires { ⌜ IsBlock (wordsOf (now body)) w × Lent (now m) start ⌝ }
+    ensures { λ r. ⌜ r ≡ walked (datasEnd 0) (datasAt (wordsOf (now (body .entry))) w (now (m .entry)) v surplus
+        start) ⌝ }
+    ensures { λ r. ⌜ Bounded (now (m .entry)) start 16 r ⌝ }
+{
+    let n = book::word(body, w + 3);
+    let from = w + 4 + 6 * book::word(body, w + 1);
+    walk_data_row(body, from, n, m, v, surplus, start)
 }
 
 // The block at word w, `depth` more levels being left: at `at`, its octets, its groups and its data.
@@ -87,7 +109,7 @@ pub fn walk_block(
 }
 
 // n entries of the block at word w, with l octets each.
-fn walk_entries(
+pub fn walk_entries(
     body: &[u8],
     w: usize,
     depth: usize,
@@ -126,7 +148,7 @@ fn walk_entries(
 }
 
 // The group at word w, `depth` more levels being left inside it: its dimension and its entries, if it is present.
-fn walk_group(body: &[u8], w: usize, depth: usize, m: &[u8], v: usize, at: usize) -> Walked
+pub fn walk_group(body: &[u8], w: usize, depth: usize, m: &[u8], v: usize, at: usize) -> Walked
     requires { ⌜ BlockAt (wordsOf (now body)) depth (w + 2) × Lent (now m) at ⌝ }
     ensures { λ r. ⌜ r ≡ walked groupEnd (groupAt (wordsOf (now (body .entry))) depth w (now (m .entry)) v at) ⌝ }
     ensures { λ r. ⌜ Bounded (now (m .entry)) at 1 r ⌝ }
@@ -154,7 +176,7 @@ fn walk_group(body: &[u8], w: usize, depth: usize, m: &[u8], v: usize, at: usize
 }
 
 // The n groups in a row at word `from`, `depth` more levels being left, and then the surplus ones.
-fn walk_groups(
+pub fn walk_groups(
     body: &[u8],
     from: usize,
     n: usize,

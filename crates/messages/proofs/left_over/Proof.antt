@@ -20,7 +20,9 @@ returns-2 c = rw (le-leb _ _ (c .before .if1 .taken), ne-eqb _ _ (c .if2 .left))
 
 returns-3 : tie.Need-returns-3
 unfolding leftOver if_then_else_
-returns-3 c = rw (lt-leb _ _ (c .before .if1 .left), lt-leb _ _ (c .if3 .taken)) refl
+returns-3 c =
+    let a = c .before .before .args in
+    rw (lt-leb _ _ (c .before .if1 .left), lt-leb (a .all) (a .n) (c .if3 .taken)) refl
 
 returns-4 : tie.Need-returns-4
 unfolding leftOver if_then_else_

@@ -27,12 +27,6 @@ returns c =
 pub surplus-datas-spec : {M : Type 1} → statement M
 surplus-datas-spec =
     tie.close
-    (tie.spec
-    (λ c κs. omega (arith, block-fits _ _ (c .before .before .pre .0 .block)))
-    (λ c κs. omega (arith, block-fits _ _ (c .before .before .before .pre .0 .block)))
-    (λ c. search needs)
-    (λ c. search needs)
-    present-datas-requires
-    (λ c κs. search needs)
-    left-over-requires
-    returns)
+    (tie.spec (λ c κs. omega (arith, block-fits _ _ (c .before .before .pre .0 .block)))
+    (λ c κs. omega (arith, block-fits _ _ (c .before .before .before .pre .0 .block))) (λ c. search needs)
+    (λ c. search needs) present-datas-requires (λ c κs. search needs) left-over-requires returns)

@@ -34,10 +34,4 @@ returns c =
 pub surplus-groups-spec : {M : Type 1} → statement M
 surplus-groups-spec =
     tie.close
-    (tie.spec
-    word-requires
-    (λ c κs. search needs)
-    (λ c κs. row c)
-    (λ c κs. search needs)
-    left-over-requires
-    returns)
+    (tie.spec word-requires (λ c κs. search needs) (λ c κs. row c) (λ c κs. search needs) left-over-requires returns)

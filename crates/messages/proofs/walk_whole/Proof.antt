@@ -25,11 +25,5 @@ returns-3 c =
 pub walk-whole-spec : {M : Type 1} → statement M
 walk-whole-spec =
     tie.close
-    (tie.spec
-    (λ c κs. search needs)
-    (λ c. search needs)
-    (λ c. search needs)
-    returns
-    returns-2
-    (λ c κs. search needs)
+    (tie.spec (λ c κs. search needs) (λ c. search needs) (λ c. search needs) returns returns-2 (λ c κs. search needs)
     returns-3)

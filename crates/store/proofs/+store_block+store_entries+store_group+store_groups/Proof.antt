@@ -21,13 +21,16 @@ use Rattle.blocks.proofs.open_row.Reads as open-row-reads
 use Rattle.blocks.proofs.groups_from.Reads as groups-from-reads
 use Rattle.blocks.proofs.skip_row.Reads as skip-row-reads
 use Rattle.blocks.proofs.Laws.{block-fits, inner-end, row-inner}
-use Rattle.store.specs.Stores.{GoodRow, blockPrint, datasPrint, entriesPrint, groupPrint, rowPrint}
+use Rattle.walk.specs.Walks.{GoodRow}
+use Rattle.store.specs.Stores.{blockPrint, datasPrint, entriesPrint, groupPrint, rowPrint}
 use Rattle.store.specs.Prints.{andThen, got, prepend}
 use Rattle.store.proofs.Going.{Going, going-call, going-end, going-first, going-long, going-none, going-put}
 use Rattle.store.proofs.Going.{going-room, room-put, stored-none}
-use Rattle.store.proofs.Laws.{BlockOpen, GroupOpen, block-open, entries-end, entries-step, fields-fit}
+use Rattle.fields.proofs.Laws.{fields-fit}
+use Rattle.walk.proofs.Laws.{row-good}
+use Rattle.store.proofs.Laws.{BlockOpen, GroupOpen, block-open, entries-end, entries-step}
 use Rattle.store.proofs.Laws.{group-absent, group-open}
-use Rattle.store.proofs.Laws.{past-inside, row-good, row-past, row-step}
+use Rattle.store.proofs.Laws.{past-inside, row-past, row-step}
 use Rattle.store.proofs.past.Reads as past-reads
 use Rattle.store.proofs.store_fields.Reads as store-fields-reads
 use Rattle.store.proofs.store_datas.Reads as store-datas-reads

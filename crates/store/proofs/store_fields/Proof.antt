@@ -11,7 +11,8 @@ use Rattle.blocks.proofs.Laws.{block-fits}
 use Rattle.store.specs.Stores.{fieldsPrint}
 use Rattle.store.proofs.Going.{Going, going-end, going-long, going-none, going-put, going-room, room-put}
 use Rattle.store.proofs.Going.{stored-none}
-use Rattle.store.proofs.Laws.{fields-each, fields-end, fields-step, fieldsFrom}
+use Rattle.fields.proofs.Laws.{fields-each}
+use Rattle.store.proofs.Laws.{fields-end, fields-step, fieldsFrom}
 use Rattle.layout.proofs.Records.{record-three}
 use Rattle.store.proofs.store_fields.Statement.{statement}
 use Rattle.store.proofs.store_fields.Tie as tie

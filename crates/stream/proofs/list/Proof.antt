@@ -4,9 +4,9 @@ use borrow.Author.Needs.{needs}
 use Rattle.wire.specs.Walks.{walked}
 use Rattle.wire.specs.declared.Walked.the-variants.{To}
 use Rattle.messages.specs.Whole.{messageOf, rootEnd}
-use Rattle.listings.proofs.Laws.{list-book, list-full, list-lent, list-refused, list-room, list-stored}
-use Rattle.listings.proofs.list.Statement.{statement}
-use Rattle.listings.proofs.list.Tie as tie
+use Rattle.stream.proofs.Laws.{list-full, list-refused, list-room, list-stored}
+use Rattle.stream.proofs.list.Statement.{statement}
+use Rattle.stream.proofs.list.Tie as tie
 
 abbrev start : tie.After-known-told2 → tie.Start
 start c = c .before .before .before .before .before .before .before
@@ -17,25 +17,24 @@ accepted : (c : tie.After-known-told2)
 accepted c = sym (c .before .records .given .1) ∙ c .before .before .before .walk .ensures
 
 returns : tie.Need-returns
-returns c = list-full _ _ _ _ _ (accepted (c .before)) (c .if1 .taken)
+returns c = list-full _ _ _ _ (accepted (c .before)) _ (c .if1 .taken)
 
 store-message-requires : tie.Need-store-message-requires
 store-message-requires c κs =
     let told = c .before .before in
-    let m = start told .args .m .now in
-    let room = start told .args .room .now in
+    let args = start told .args in
     let e = accepted told in
-    ((list-book _ m room _ _ e, list-lent _ m room _ _ e), list-room _ m room _ _ e (c .before .if1 .left))
+    (start told .pre, list-room (args .book .now) _ _ _ e (args .room .now) (c .before .if1 .left))
 
 returns-2 : tie.Need-returns-2
 returns-2 c =
-    list-refused _ _ _ _ (sym (c .before .refusal .given .1) ∙ c .before .before .before .walk .ensures)
+    list-refused _ _ _ (sym (c .before .refusal .given .1) ∙ c .before .before .before .walk .ensures) _
 
 returns-3 : tie.Need-returns-3
 returns-3 c =
     let call = c .before .before in
     let told = call .before .before .before in
-    list-stored _ _ _ _ _ (accepted told) (call .before .before .if1 .left) _ (call .store-message .ensures)
+    list-stored _ _ _ _ (accepted told) _ (call .before .before .if1 .left) _ (call .store-message .ensures)
 
 pub list-spec : {M : Type 1} → statement M
 list-spec =

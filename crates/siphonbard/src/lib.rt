@@ -1,0 +1,194 @@
+// What other languages call. A slice is passed as its pointer and its number of elements; a reply is a struct of 64-bit
+// numbers, those that have nothing to tell being 0.
+use layout::Checked;
+use layout::Counted;
+use layout::Element;
+use layout::Found;
+use layout::Refusal;
+ghost use mathlib.Core.Path.{_≡_};
+ghost use Rattle.layout.specs.BookRules.{bookOf};
+ghost use Rattle.layout.specs.Reading.{checkOf, measureOf};
+ghost use Rattle.templates.specs.Lookup.{IsBook};
+ghost use Rattle.siphonbard.specs.Replies.{sayChecked, sayCounted, sayFound};
+ghost use Rattle.siphonbard.specs.Replies.{replyChecked, replyCounted, RepliesList};
+ghost use Rattle.siphonbard.specs.Places.{askedFor, SaysNoPlace};
+
+// The number of a reply that refuses nothing.
+const ACCEPTED: u64 = 0;
+
+#[repr(C)]
+pub struct CheckedReply {
+    pub number: u64,
+    pub place: u64,
+}
+
+#[repr(C)]
+pub struct CountedReply {
+    pub number: u64,
+    pub place: u64,
+    pub count: u64,
+}
+
+// What stands at a place: the three numbers of its record in a listing.
+#[repr(C)]
+pub struct FoundReply {
+    pub number: u64,
+    pub place: u64,
+    pub first: u64,
+    pub second: u64,
+    pub third: u64,
+}
+
+fn say_checked(answer: Checked) -> CheckedReply
+    ensures { λ r. ⌜ r ≡ sayChecked answer ⌝ }
+{
+    match answer {
+        Checked::Accepted => CheckedReply {
+            number: ACCEPTED,
+            place: 0,
+        },
+        Checked::Refused(refusal) => CheckedReply {
+            number: refusal.number as u64,
+            place: refusal.place as u64,
+        },
+    }
+}
+
+fn say_counted(answer: Counted) -> CountedReply
+    ensures { λ r. ⌜ r ≡ sayCounted answer ⌝ }
+{
+    match answer {
+        Counted::Count(count) => CountedReply {
+            number: ACCEPTED,
+            place: 0,
+            count: count as u64,
+        },
+        Counted::Refused(refusal) => CountedReply {
+            number: refusal.number as u64,
+            place: refusal.place as u64,
+            count: 0,
+        },
+    }
+}
+
+fn say_found(answer: Found) -> FoundReply
+    ensures { λ r. ⌜ r ≡ sayFound answer ⌝ }
+{
+    match answer {
+        Found::Is(answer) => {
+            let mut record = [0u64; 3];
+            records::put(&mut record, 0, answer);
+            FoundReply {
+                number: ACCEPTED,
+                place: 0,
+                first: record[0],
+                second: record[1],
+                third: record[2],
+            }
+        }
+        Found::Refused(refusal) => FoundReply {
+            number: refusal.number as u64,
+            place: refusal.place as u64,
+            first: 0,
+            second: 0,
+            third: 0,
+        },
+    }
+}
+
+// ---- the last part of a place
+
+// The element that is asked for, if there is such a kind.
+pub enum Asked {
+    For(Element),
+    Nothing,
+}
+
+// Kind 0 is a field, 1 a group, 2 a data.
+fn ask_for(kind: u64, element: u64) -> Asked
+    ensures { λ r. ⌜ r ≡ askedFor kind element ⌝ }
+{
+    match kind {
+        0 => Asked::For(Element::Field(element as usize)),
+        1 => Asked::For(Element::Group(element as usize)),
+        2 => Asked::For(Element::Data(element as usize)),
+        _ => Asked::Nothing,
+    }
+}
+
+// A place of no kind: 30 after what the check refuses.
+fn no_place(answer: Checked) -> Found
+    ensures { λ r. ⌜ SaysNoPlace answer r ⌝ }
+{
+    match answer {
+        Checked::Accepted => Found::Refused(Refusal {
+            number: 30,
+            place: 0,
+        }),
+        Checked::Refused(refusal) => Found::Refused(refusal),
+    }
+}
+
+// ---- any octets whatever
+
+// Checks a book.
+#[no_mangle]
+pub extern "C" fn siphonbard_check_book(book: &[u8]) -> CheckedReply
+    ensures { λ r. ⌜ r ≡ replyChecked (bookOf (now (book .entry))) ⌝ }
+{
+    say_checked(book::check(book))
+}
+
+// Checks a message.
+#[no_mangle]
+pub extern "C" fn siphonbard_check(book: &[u8], m: &[u8]) -> CheckedReply
+    ensures { λ r. ⌜ r ≡ replyChecked (checkOf (now (book .entry)) (now (m .entry))) ⌝ }
+{
+    say_checked(reader::check(book, m))
+}
+
+// The number of records of a message.
+#[no_mangle]
+pub extern "C" fn siphonbard_measure(book: &[u8], m: &[u8]) -> CountedReply
+    ensures { λ r. ⌜ r ≡ replyCounted (measureOf (now (book .entry)) (now (m .entry))) ⌝ }
+{
+    say_counted(reader::measure(book, m))
+}
+
+// Lists a message: the number of records, which are stored from the room's start.
+#[no_mangle]
+pub extern "C" fn siphonbard_list(book: &[u8], m: &[u8], room: &mut [u64]) -> CountedReply
+    ensures { λ r. ⌜ RepliesList (now (book .entry)) (now (m .entry)) (now (room .entry)) r (now (room .exit)) ⌝ }
+{
+    say_counted(reader::list(book, m, room))
+}
+
+// ---- streams: a book that siphonbard_check_book accepted and that has not been altered since. The checker holds a
+// caller in Rattle to the `requires`; in another language it is the caller's duty.
+
+// Checks a message.
+#[no_mangle]
+pub extern "C" fn siphonbard_stream_check(book: &[u8], m: &[u8]) -> CheckedReply
+    requires { ⌜ IsBook (now book) ⌝ }
+    ensures { λ r. ⌜ r ≡ replyChecked (checkOf (now (book .entry)) (now (m .entry))) ⌝ }
+{
+    say_checked(stream::check(book, m))
+}
+
+// The number of records of a message.
+#[no_mangle]
+pub extern "C" fn siphonbard_stream_measure(book: &[u8], m: &[u8]) -> CountedReply
+    requires { ⌜ IsBook (now book) ⌝ }
+    ensures { λ r. ⌜ r ≡ replyCounted (measureOf (now (book .entry)) (now (m .entry))) ⌝ }
+{
+    say_counted(stream::measure(book, m))
+}
+
+// Lists a message: the number of records, which are stored from the room's start.
+#[no_mangle]
+pub extern "C" fn siphonbard_stream_list(book: &[u8], m: &[u8], room: &mut [u64]) -> CountedReply
+    requires { ⌜ IsBook (now book) ⌝ }
+    ensures { λ r. ⌜ RepliesList (now (book .entry)) (now (m .entry)) (now (room .entry)) r (now (room .exit)) ⌝ }
+{
+    say_counted(stream::list(book, m, room))
+}
