@@ -2,7 +2,9 @@
 // for is the answer.
 use layout::Checked;
 use layout::Counted;
-ghost use Rattle.layout.specs.Contracts.{Checks, Lists, Measures};
+use layout::Element;
+use layout::Found;
+ghost use Rattle.layout.specs.Contracts.{AnswersPlace, Checks, Lists, Measures};
 
 // Checks a message.
 pub fn check(book: &[u8], m: &[u8]) -> Checked
@@ -32,4 +34,14 @@ pub fn list(book: &[u8], m: &[u8], room: &mut [u64]) -> Counted
         return stream::list(book, m, room);
     };
     Counted::Refused(refusal)
+}
+
+// The answer for one place of a message. The steps hold a group's number and an entry's, by turns.
+pub fn place(book: &[u8], m: &[u8], steps: &[u64], x: Element) -> Found
+    ensures { λ r. ⌜ AnswersPlace (now (book .entry)) (now (m .entry)) (now (steps .entry)) x r ⌝ }
+{
+    let Checked::Refused(refusal) = book::check(book) else {
+        return stream::place(book, m, steps, x);
+    };
+    Found::Refused(refusal)
 }

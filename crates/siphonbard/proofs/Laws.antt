@@ -1,12 +1,33 @@
--- The reply to a listing's answer, with the listing's room.
+-- The reply to a listing's answer, with the listing's room; and to a place's.
 use mathlib.Core.Path.{_≡_, _∙_, ap}
 use mathlib.Core.List.{List}
 use Prim.Native.Nat.{ℕ}
-use Rattle.layout.specs.Contracts.{Lists}
+use Rattle.layout.specs.Contracts.{Lists, found}
+use Rattle.layout.specs.Reading.{checkOf, placeOf}
+use Rattle.layout.specs.Values.{Step}
 use Rattle.layout.specs.declared.Counted.{Counted}
-use Rattle.siphonbard.specs.Replies.{RepliesList, sayCounted}
+use Rattle.layout.specs.declared.Element.{Element}
+use Rattle.layout.specs.declared.Found.{Found}
+use Rattle.siphonbard.specs.Places.{noPlace, placeAsked}
+use Rattle.siphonbard.specs.Replies.{RepliesList, replyFound, sayCounted, sayFound}
+use Rattle.siphonbard.specs.declared.Asked.{Asked}
+use Rattle.siphonbard.specs.declared.Asked.the-variants.{For, Nothing}
 use Rattle.siphonbard.specs.declared.CountedReply.{CountedReply}
+use Rattle.siphonbard.specs.declared.FoundReply.{FoundReply}
 
 pub list-said : {book m before after : List ℕ} {answer : Counted} {r : CountedReply} → r ≡ sayCounted answer
     → Lists book m before answer after → RepliesList book m before r after
 list-said e l = record { reply = e ∙ ap sayCounted (l .answer); room = l .room }
+
+-- The place that is asked for, if it is one.
+module _ (book m : List ℕ) (p : List Step) {asked : Asked} {answer : Found} {r : FoundReply}
+    (said : r ≡ sayFound answer) where
+  pub place-said : (x : Element) → asked ≡ For x → answer ≡ found (placeOf book m p x)
+      → r ≡ replyFound (placeAsked book m p asked)
+  unfolding placeAsked
+  place-said x e h = rw e (said ∙ ap sayFound h)
+
+  pub nothing-said : asked ≡ Nothing → answer ≡ found (noPlace (checkOf book m))
+      → r ≡ replyFound (placeAsked book m p asked)
+  unfolding placeAsked
+  nothing-said e h = rw e (said ∙ ap sayFound h)

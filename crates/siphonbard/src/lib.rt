@@ -7,11 +7,12 @@ use layout::Found;
 use layout::Refusal;
 ghost use mathlib.Core.Path.{_≡_};
 ghost use Rattle.layout.specs.BookRules.{bookOf};
+ghost use Rattle.layout.specs.Contracts.{stepsOf};
 ghost use Rattle.layout.specs.Reading.{checkOf, measureOf};
 ghost use Rattle.templates.specs.Lookup.{IsBook};
 ghost use Rattle.siphonbard.specs.Replies.{sayChecked, sayCounted, sayFound};
-ghost use Rattle.siphonbard.specs.Replies.{replyChecked, replyCounted, RepliesList};
-ghost use Rattle.siphonbard.specs.Places.{askedFor, SaysNoPlace};
+ghost use Rattle.siphonbard.specs.Replies.{replyChecked, replyCounted, replyFound, RepliesList};
+ghost use Rattle.siphonbard.specs.Places.{askedFor, placeAsked, SaysNoPlace};
 
 // The number of a reply that refuses nothing.
 const ACCEPTED: u64 = 0;
@@ -163,6 +164,25 @@ pub extern "C" fn siphonbard_list(book: &[u8], m: &[u8], room: &mut [u64]) -> Co
     say_counted(reader::list(book, m, room))
 }
 
+// The answer for one place of a message. The steps hold a group's number and an entry's, by turns; the kind is 0 for a
+// field, 1 for a group, 2 for a data.
+#[no_mangle]
+pub extern "C" fn siphonbard_place(
+    book: &[u8],
+    m: &[u8],
+    steps: &[u64],
+    kind: u64,
+    element: u64,
+) -> FoundReply
+    ensures { λ r. ⌜ r ≡ replyFound (placeAsked (now (book .entry)) (now (m .entry)) (stepsOf (now (steps .entry)))
+        (askedFor kind element)) ⌝ }
+{
+    let Asked::For(x) = ask_for(kind, element) else {
+        return say_found(no_place(reader::check(book, m)));
+    };
+    say_found(reader::place(book, m, steps, x))
+}
+
 // ---- streams: a book that siphonbard_check_book accepted and that has not been altered since. The checker holds a
 // caller in Rattle to the `requires`; in another language it is the caller's duty.
 
@@ -191,4 +211,23 @@ pub extern "C" fn siphonbard_stream_list(book: &[u8], m: &[u8], room: &mut [u64]
     ensures { λ r. ⌜ RepliesList (now (book .entry)) (now (m .entry)) (now (room .entry)) r (now (room .exit)) ⌝ }
 {
     say_counted(stream::list(book, m, room))
+}
+
+// The answer for one place of a message, asked as above.
+#[no_mangle]
+pub extern "C" fn siphonbard_stream_place(
+    book: &[u8],
+    m: &[u8],
+    steps: &[u64],
+    kind: u64,
+    element: u64,
+) -> FoundReply
+    requires { ⌜ IsBook (now book) ⌝ }
+    ensures { λ r. ⌜ r ≡ replyFound (placeAsked (now (book .entry)) (now (m .entry)) (stepsOf (now (steps .entry)))
+        (askedFor kind element)) ⌝ }
+{
+    let Asked::For(x) = ask_for(kind, element) else {
+        return say_found(no_place(stream::check(book, m)));
+    };
+    say_found(stream::place(book, m, steps, x))
 }

@@ -4,15 +4,17 @@ use mathlib.Core.List.{List}
 use Prim.Native.Nat.{ℕ, _+_, _*_, _/_, _≤_, _<_}
 use native.Mathlib.Nat.{zero-add}
 use native.Mathlib.Omega.{arith}
-use lib.ListN.{length}
+use lib.ListN.{drop, length, take}
 use lib.Seq.{sets, sets-eq}
 use borrow.Author.Tests.{le-leb, lt-leb}
 use Rattle.layout.specs.Result.{Result, done, refused, must, _>>=_}
-use Rattle.layout.specs.BookRules.{bookOf}
+use Rattle.layout.specs.BookRules.{bookOf, word}
+use Rattle.layout.specs.Octets.{wordsOf}
 use Rattle.layout.specs.Contracts.{Lists, checked, counted, refusal, roomAfter}
-use Rattle.layout.specs.Reading.{checkOf, listOf, measureOf}
+use Rattle.layout.specs.Reading.{checkOf, listOf, measureOf, placeIn, placeOf}
 use Rattle.layout.specs.Message.{readMessage}
-use Rattle.layout.specs.Values.{Values, listing, measure}
+use Rattle.layout.specs.Values.{Step, Values, listing, measure}
+use Rattle.layout.specs.declared.Element.{Element}
 use Rattle.layout.specs.declared.Refusal.{Refusal}
 use Rattle.layout.specs.declared.Checked.the-variants as Checked
 use Rattle.layout.specs.declared.Counted.the-variants as Counted
@@ -21,7 +23,11 @@ use Rattle.layout.proofs.Records.{listing-three}
 use Rattle.wire.specs.Walks.{walked}
 use Rattle.wire.specs.declared.Walked.the-variants.{To, Refused}
 use Rattle.wire.proofs.Laws.{Reached, inv-to}
-use Rattle.messages.specs.Whole.{messageOf, rootEnd}
+use Rattle.templates.specs.Lookup.{IsBook}
+use Rattle.messages.specs.Whole.{bodyAt, bodyFound, messageOf, rootEnd}
+use Rattle.messages.specs.declared.Body.the-variants as Body
+use Rattle.messages.proofs.Laws.{place-found, place-refused}
+use Rattle.places.specs.Asks.{placeAt}
 use Rattle.store.specs.Prints.{Room, endOf, got, numbersOf}
 use Rattle.store.proofs.Laws.{prints}
 use Rattle.listings.specs.Whole.{messagePrint, noEnd}
@@ -118,3 +124,20 @@ module _ (s m : List ℕ) where
         list-stored after q =
             let laid = rw message-prints at q ∙ sets-eq (listing (read .value)) room 0 within in
             record { answer = rw (listed, measured) refl; room = rw listed (rw zero-add at laid) }
+
+-- ---- a place
+
+module _ (s : List ℕ) (k : IsBook s) (m : List ℕ) where
+  placed : (p : List Step) (x : Element) → placeOf s m p x ≡ placeIn (k .tree) m p x
+  unfolding placeOf _>>=_
+  placed p x = rw (k .is) refl
+
+  pub no-place : (z : Refusal) → Body.Refused z ≡ bodyFound (bodyAt s m) → (p : List Step) (x : Element)
+      → placeOf s m p x ≡ refused (z .number) (z .place)
+  no-place z e p x = placed p x ∙ place-refused s k m z e p x
+
+  pub place-at : (first words : ℕ) → Body.At first words ≡ bodyFound (bodyAt s m) → (version : ℕ)
+      → version ≡ word (wordsOf s) 1 → (p : List Step) (x : Element)
+      → placeOf s m p x ≡ placeAt (take words (drop first (wordsOf s))) m version p x
+  unfolding placeAt
+  place-at first words e version v p x = placed p x ∙ place-found s k m first words e version v p x

@@ -2,9 +2,12 @@
 // checker refuses a call whose book is not known to be accepted.
 use layout::Checked;
 use layout::Counted;
+use layout::Element;
+use layout::Found;
 use layout::Refusal;
+use messages::Body;
 use wire::Walked;
-ghost use Rattle.layout.specs.Contracts.{Checks, Lists, Measures};
+ghost use Rattle.layout.specs.Contracts.{AnswersPlace, Checks, Lists, Measures};
 ghost use Rattle.templates.specs.Lookup.{IsBook};
 
 // Checks a message.
@@ -47,5 +50,19 @@ pub fn list(book: &[u8], m: &[u8], room: &mut [u64]) -> Counted
             listings::store_message(book, m, room);
             Counted::Count(records)
         }
+    }
+}
+
+// The answer for one place of a message. The steps hold a group's number and an entry's, by turns.
+pub fn place(book: &[u8], m: &[u8], steps: &[u64], x: Element) -> Found
+    requires { ⌜ IsBook (now book) ⌝ }
+    ensures { λ r. ⌜ AnswersPlace (now (book .entry)) (now (m .entry)) (now (steps .entry)) x r ⌝ }
+{
+    match messages::find_body(book, m) {
+        Body::At { first, words } => {
+            let end = 2 * first + 2 * words;
+            places::answer(&book[2 * first..end], book::word(book, 1), m, steps, x)
+        }
+        Body::Refused(refusal) => Found::Refused(refusal),
     }
 }

@@ -159,7 +159,8 @@ pub fn walk_group(body: &[u8], w: usize, depth: usize, m: &[u8], v: usize, at: u
             records: 1,
         };
     }
-    let dimension = wire::read_dimension(m, blocks::need(body, w + 2, v), at);
+    let least = blocks::need(body, w + 2, v);
+    let dimension = wire::read_dimension(m, least, at);
     let Walked::To { next, .. } = dimension else {
         return dimension;
     };

@@ -143,7 +143,8 @@ module _ (t : ℕ) where
 
   -- The groups are stored, too.
   block-groups : (c : block-Need block-lts.After-store-groups)
-      → let a = c .before .before .before .before .before .before .before .before .before .before .before .before .args in
+      → let a = c .before .before .before .before .before .before .before .before .before .before .before .before
+      .args in
       let b = wordsOf (a .body .now) in
       Going (blockPrint b (a .depth) (a .w) (a .m .now) (a .v) (a .wire) (a .c .at))
       (datasPrint b (a .w) (a .m .now) (a .v) (a .wire .datas) (c .store-groups .result .at))
@@ -221,7 +222,8 @@ module _ (t : ℕ) where
   block-returns c =
       let call = c .before .before in
       let groups = call .before .before .before .before in
-      let start = groups .before .before .before .before .before .before .before .before .before .before .before .before in (
+      let start = groups .before .before .before .before .before .before .before .before .before .before .before
+      .before in (
         going-end (block-groups groups) (start .pre .1 .1 .0) _ _ _ (call .store-datas .ensures .0),
         call .store-datas .ensures .1,
       )

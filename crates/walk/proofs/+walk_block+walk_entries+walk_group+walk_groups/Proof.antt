@@ -440,8 +440,8 @@ module _ (t : ℕ) where
       (group-entries _ _ _ _ _ _ present _ _ _ _ dimension (walk .before .before .get2 .ensures .value)
       (walk .before .get22 .ensures .value) _ (sym (c .enum-told2 .given .1) ∙ walk .walk-entries .ensures .0))
 
-  group-add-t14 : group-Need group-lts.Need-add-t14
-  group-add-t14 c =
+  group-add-t16 : group-Need group-lts.Need-add-t16
+  group-add-t16 c =
       let walk = c .before .before .before in
       let call = walk .before .before .before .before .before .before in
       let start = call .before .before .before .before .before .before in
@@ -648,7 +648,7 @@ pub +walk-block+walk-entries+walk-group+walk-groups-spec : {M : Type 1} → stat
     (λ c. search needs)
     (λ c. search needs)
     (group-returns-3 t)
-    (group-add-t14 t)
+    (group-add-t16 t)
     (group-returns-4 t))
     (λ t.
     row-lts.spec (row-claims t) (row-at t) row-reads.Post row-Inv row-μ-loop

@@ -1,0 +1,115 @@
+/// What stands at one place of a message.
+///
+/// An element that is younger than the message is `Absent`, even where its block has octets there.
+#[derive(Clone, Copy, Debug, PartialEq, Eq, Hash)]
+pub enum Answer {
+    /// A value in its type's range. Negative ones are 2^64 + value: see [`Answer::signed`].
+    Number(u64),
+    /// An optional field that holds its type's null.
+    Null,
+    /// An array or a data: where its octets stand in the message.
+    Octets {
+        /// Counted from the message's first octet.
+        start: usize,
+        /// How many there are.
+        len: usize,
+    },
+    /// The message's version is older than the element.
+    Absent,
+    /// A group, with the number of its entries.
+    Group(u64),
+    /// A required field that holds null, or a char outside 32 to 126. The number is as for `Number`.
+    OutOfRange(u64),
+}
+
+impl Answer {
+    /// The answer that a record of a listing stands for; nothing if its first number is over 5.
+    pub fn from_record(record: [u64; 3]) -> Option<Answer> {
+        Some(match record[0] {
+            0 => Answer::Number(record[1]),
+            1 => Answer::Null,
+            2 => Answer::Octets { start: record[1] as usize, len: record[2] as usize },
+            3 => Answer::Absent,
+            4 => Answer::Group(record[1]),
+            5 => Answer::OutOfRange(record[1]),
+            _ => return None,
+        })
+    }
+
+    /// The record of a listing that stands for the answer.
+    pub fn record(&self) -> [u64; 3] {
+        match *self {
+            Answer::Number(value) => [0, value, 0],
+            Answer::Null => [1, 0, 0],
+            Answer::Octets { start, len } => [2, start as u64, len as u64],
+            Answer::Absent => [3, 0, 0],
+            Answer::Group(entries) => [4, entries, 0],
+            Answer::OutOfRange(value) => [5, value, 0],
+        }
+    }
+
+    /// The value of a `Number` of an unsigned type or a char.
+    pub fn unsigned(&self) -> Option<u64> {
+        match *self {
+            Answer::Number(value) => Some(value),
+            _ => None,
+        }
+    }
+
+    /// The value of a `Number` of a signed type.
+    pub fn signed(&self) -> Option<i64> {
+        self.unsigned().map(|value| value as i64)
+    }
+
+    /// The octets of an `Octets` in the message that it answers for.
+    pub fn octets<'m>(&self, message: &'m [u8]) -> Option<&'m [u8]> {
+        match *self {
+            Answer::Octets { start, len } => message.get(start..start.checked_add(len)?),
+            _ => None,
+        }
+    }
+
+    /// How many entries a `Group` has.
+    pub fn entries(&self) -> Option<u64> {
+        match *self {
+            Answer::Group(entries) => Some(entries),
+            _ => None,
+        }
+    }
+}
+
+/// The answers that a listing stands for, record by record. Ends early at a record that is none.
+pub fn answers(listing: &[u64]) -> impl Iterator<Item = Answer> + '_ {
+    listing.chunks_exact(3).map_while(|record| Answer::from_record([record[0], record[1], record[2]]))
+}
+
+/// An element of a block, by its number: they count from 0 within their kind.
+#[derive(Clone, Copy, Debug, PartialEq, Eq, Hash)]
+pub enum Element {
+    /// One of the block's fields.
+    Field(usize),
+    /// One of its groups.
+    Group(usize),
+    /// One of its data.
+    Data(usize),
+}
+
+impl Element {
+    pub(crate) fn numbers(self) -> (u64, u64) {
+        match self {
+            Element::Field(number) => (0, number as u64),
+            Element::Group(number) => (1, number as u64),
+            Element::Data(number) => (2, number as u64),
+        }
+    }
+}
+
+/// A step down to a block: into an entry of a group, both counted from 0.
+#[repr(C)]
+#[derive(Clone, Copy, Debug, PartialEq, Eq, Hash)]
+pub struct Step {
+    /// The group's number in its block.
+    pub group: u64,
+    /// The entry's number in the group.
+    pub entry: u64,
+}

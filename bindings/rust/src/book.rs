@@ -1,0 +1,57 @@
+use crate::{answers, ffi, Answer, Element, Refusal, Step};
+
+/// A schema book that was checked: for many messages by one book.
+///
+/// The octets stay borrowed, so that they are what was checked, and no message pays for the book again. The methods
+/// answer as the functions of the same name do.
+///
+/// ```compile_fail
+/// let mut octets = vec![0; 74];
+/// let book = siphonbard::Book::checked(&octets).unwrap();
+/// octets[0] = 1; // borrowed by the book
+/// book.check(b"").unwrap_err();
+/// ```
+#[derive(Clone, Copy, Debug)]
+pub struct Book<'a> {
+    octets: &'a [u8],
+}
+
+impl<'a> Book<'a> {
+    /// The book, or 1 to 6.
+    pub fn checked(octets: &'a [u8]) -> Result<Book<'a>, Refusal> {
+        ffi::check_book(octets)?;
+        Ok(Book { octets })
+    }
+
+    /// The octets that were checked.
+    pub fn octets(&self) -> &'a [u8] {
+        self.octets
+    }
+
+    /// Whether the message is one of the book's; else 10 to 20.
+    pub fn check(&self, message: &[u8]) -> Result<(), Refusal> {
+        ffi::stream_check(self, message)
+    }
+
+    /// How many records the message's listing has, or 10 to 20.
+    pub fn measure(&self, message: &[u8]) -> Result<usize, Refusal> {
+        ffi::stream_measure(self, message)
+    }
+
+    /// Lists the message into the room, as [`crate::list`] does, or 10 to 40.
+    pub fn list(&self, message: &[u8], room: &mut [u64]) -> Result<usize, Refusal> {
+        ffi::stream_list(self, message, room)
+    }
+
+    /// All answers of the message, in the order of its listing, or 10 to 20.
+    pub fn list_all(&self, message: &[u8]) -> Result<Vec<Answer>, Refusal> {
+        let mut room = vec![0; self.measure(message)? * 3];
+        self.list(message, &mut room)?;
+        Ok(answers(&room).collect())
+    }
+
+    /// What stands at one place of the message, or 10 to 31.
+    pub fn place(&self, message: &[u8], steps: &[Step], element: Element) -> Result<Answer, Refusal> {
+        ffi::stream_place(self, message, steps, element)
+    }
+}

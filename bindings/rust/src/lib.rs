@@ -1,0 +1,73 @@
+//! Reads FIX SBE 1.0 messages by a schema book. The functions underneath are proved in Rattle: any octets are taken
+//! as they come, and every answer is the one that the layout has.
+//!
+//! An element is present by the message's version and by nothing else. A field that is younger than the message is
+//! [`Answer::Absent`], also where the message's block has zeros for it.
+//!
+//! ```
+//! use siphonbard::{Answer, Book, Element, Step};
+//!
+//! // One template: a uint32, an optional int16, a group with a uint8, and a data.
+//! let words: [u16; 37] = [
+//!     7, 0, 1, 37, 1, 7, 30, 8, 2, 1, 1, 38, 6, 1, 0, 0, 0, 44, 3, 1, 4, 1, 0, 58, 0, 453, 0, 2, 1, 0, 0, 452, 2, 1,
+//!     0, 0, 0,
+//! ];
+//! let octets: Vec<u8> = words.iter().flat_map(|word| word.to_le_bytes()).collect();
+//! let book = Book::checked(&octets)?;
+//!
+//! let message = b"\x08\0\x01\0\x07\0\0\0\x01\0\x01\0\xe8\x03\0\0\xfb\xff\0\0\x02\0\x02\0\x01\0\x03\0\x02\0ab";
+//! assert_eq!(book.place(message, &[], Element::Field(0))?, Answer::Number(1000));
+//! assert_eq!(book.place(message, &[], Element::Field(1))?.signed(), Some(-5));
+//! let second = [Step { group: 0, entry: 1 }];
+//! assert_eq!(book.place(message, &second, Element::Field(0))?.unsigned(), Some(3));
+//! assert_eq!(book.place(message, &[], Element::Data(0))?.octets(message), Some(&b"ab"[..]));
+//! assert_eq!(book.list_all(message)?.len(), 6);
+//! # Ok::<(), siphonbard::Refusal>(())
+//! ```
+//!
+//! The functions below check the book at each call; a [`Book`] is checked once.
+
+#![deny(missing_docs)]
+#![deny(unsafe_code)]
+
+mod answer;
+mod book;
+#[allow(unsafe_code)]
+mod ffi;
+mod refusal;
+
+pub use answer::{answers, Answer, Element, Step};
+pub use book::Book;
+pub use refusal::Refusal;
+
+/// Whether the octets are a schema book; else 1 to 6.
+pub fn check_book(book: &[u8]) -> Result<(), Refusal> {
+    ffi::check_book(book)
+}
+
+/// Whether the message is one of the book's; else 1 to 20.
+pub fn check(book: &[u8], message: &[u8]) -> Result<(), Refusal> {
+    ffi::check(book, message)
+}
+
+/// How many records the message's listing has, or 1 to 20.
+pub fn measure(book: &[u8], message: &[u8]) -> Result<usize, Refusal> {
+    ffi::measure(book, message)
+}
+
+/// Lists the message into the room, three numbers a record ([`answers`] reads them), and gives how many records
+/// there are; or 1 to 40. The room past the last record is left as it was; after a refusal all of it is.
+pub fn list(book: &[u8], message: &[u8], room: &mut [u64]) -> Result<usize, Refusal> {
+    ffi::list(book, message, room)
+}
+
+/// All answers of the message, in the order of its listing, or 1 to 20.
+pub fn list_all(book: &[u8], message: &[u8]) -> Result<Vec<Answer>, Refusal> {
+    Book::checked(book)?.list_all(message)
+}
+
+/// What stands at one place of the message, or 1 to 31: the steps lead down to a block, `element` is one of that
+/// block's.
+pub fn place(book: &[u8], message: &[u8], steps: &[Step], element: Element) -> Result<Answer, Refusal> {
+    ffi::place(book, message, steps, element)
+}

@@ -1,0 +1,43 @@
+//! Tests of the library `siphonbard`: named cases, recorded cases, and random books and messages against a reader
+//! in plain Rust. The arguments are a seed and how many random messages there are to be; without them both are
+//! fixed.
+
+#![no_main]
+
+mod named;
+mod plain;
+mod random;
+mod raw;
+mod readers;
+mod recorded;
+mod report;
+
+use report::Report;
+use std::os::raw::{c_char, c_int};
+use std::panic;
+
+const SEED: u64 = 20140603;
+const MESSAGES: u64 = 300_000;
+
+/// C's entry point and not Rust's: Rust's own reads the process's memory map first, which the emulator that
+/// `tests/run` uses off x86-64 does not survive.
+#[no_mangle]
+pub extern "C" fn main(_count: c_int, _words: *const *const c_char) -> c_int {
+    match panic::catch_unwind(run) {
+        Ok(true) => 0,
+        _ => 1,
+    }
+}
+
+fn run() -> bool {
+    let mut numbers = std::env::args().skip(1).map(|word| word.parse().expect("a seed, and a number of messages"));
+    let (seed, messages) = (numbers.next().unwrap_or(SEED), numbers.next().unwrap_or(MESSAGES));
+    let mut report = Report::default();
+    named::run(&mut report);
+    report.part();
+    recorded::replay(&mut report);
+    report.part();
+    random::run(&mut report, seed, messages);
+    println!("tests: {} passed, {} failed", report.passed, report.failed);
+    report.failed == 0
+}

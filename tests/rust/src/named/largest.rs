@@ -1,0 +1,52 @@
+//! The longest message, with entries of one octet and 63 younger fields each: over 4,000,000 records.
+
+use super::books::{fields, OCTET};
+use super::calls::Call;
+use crate::plain::{refusal, Block, Book, Field, Group, Place, Template, LONGEST};
+use crate::readers::{Free, Plain, Reader, Stream};
+use crate::report::same;
+
+pub fn calls() -> [(&'static str, Call); 2] {
+    [("a message of 65,535 octets with 4,193,217 records", largest), ("a message of 65,536 octets: 10", too_long)]
+}
+
+fn book() -> Vec<u8> {
+    let octet = |offset| Field { id: 1, kind: OCTET, length: 1, offset, presence: 0, since: u16::from(offset > 0) };
+    let group = Group { id: 1, since: 0, block: fields(64, (0..64).map(octet).collect()) };
+    let block = Block { groups: vec![group], ..Block::default() };
+    Book { schema: 7, version: 1, templates: vec![Template { id: 1, block }] }.octets()
+}
+
+const ENTRIES: u16 = 65519;
+
+/// At version 0: only the first field of an entry is there.
+fn message() -> Vec<u8> {
+    let words = [0, 1, 7, 0, 1, 0, 1, ENTRIES];
+    let entries = (0..ENTRIES).map(|entry| (entry % 251) as u8);
+    words.iter().flat_map(|word| word.to_le_bytes()).chain(entries).collect()
+}
+
+fn largest() -> Result<(), String> {
+    let (book, message) = (book(), message());
+    same("octets", message.len(), LONGEST)?;
+    let last = u64::from(ENTRIES) - 1;
+    let field = |entry, element| Place { steps: vec![(0, entry)], kind: 0, element };
+    let readers: [&dyn Reader; 3] = [&Plain, &Free, &Stream];
+    for reader in readers {
+        same(reader.name(), reader.measure(&book, &message), Ok(1 + 64 * u64::from(ENTRIES)))?;
+        same(reader.name(), reader.place(&book, &message, &field(last, 0)), Ok([0, last % 251, 0]))?;
+        same(reader.name(), reader.place(&book, &message, &field(last, 63)), Ok([3, 0, 0]))?;
+        same(reader.name(), reader.place(&book, &message, &field(last + 1, 0)), Err(refusal(31, 0)))?;
+    }
+    Ok(())
+}
+
+fn too_long() -> Result<(), String> {
+    let (book, mut message) = (book(), message());
+    message.push(0);
+    let readers: [&dyn Reader; 3] = [&Plain, &Free, &Stream];
+    for reader in readers {
+        same(reader.name(), reader.check(&book, &message), Err(refusal(10, 0)))?;
+    }
+    Ok(())
+}

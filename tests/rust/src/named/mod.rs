@@ -1,0 +1,80 @@
+//! Cases with a name: those of the rules' own examples, and borders. Each is asked of the plain reader, of the
+//! library, and of the library with the book checked once.
+
+mod books;
+mod calls;
+mod largest;
+mod messages;
+mod readings;
+
+use crate::plain::{Place, Record, Refusal};
+use crate::readers::{Free, Plain, Reader, Stream};
+use crate::report::{hex, same, Report};
+
+/// A book, a message (empty where only the book is asked about) and the right answer.
+pub struct Case {
+    name: &'static str,
+    book: Vec<u8>,
+    message: Vec<u8>,
+    expected: Expected,
+}
+
+pub enum Expected {
+    Book(Result<(), Refusal>),
+    Listing(Result<Vec<Record>, Refusal>),
+    Place(Place, Result<Record, Refusal>),
+}
+
+pub fn run(report: &mut Report) {
+    let cases = [books::cases(), messages::cases(), readings::cases()];
+    for case in cases.iter().flatten() {
+        let outcome = case.ask(&Plain).and_then(|()| case.ask(&Free)).and_then(|()| case.ask(&Stream));
+        let input = || format!("{}, book {}, message {}", case.name, hex(&case.book), hex(&case.message));
+        if report.check(outcome, input) {
+            println!("ok {}", case.name);
+        }
+    }
+    let calls = calls::calls().into_iter().chain(largest::calls());
+    for (name, call) in calls {
+        if report.check(call(), || name.into()) {
+            println!("ok {name}");
+        }
+    }
+}
+
+const PATTERN: u64 = 0x1122_3344_5566_7788;
+const ROOM: usize = 100;
+
+impl Case {
+    fn ask(&self, reader: &dyn Reader) -> Result<(), String> {
+        let (book, message, name) = (&self.book[..], &self.message[..], reader.name());
+        match &self.expected {
+            Expected::Book(verdict) => same(name, reader.check_book(book), *verdict),
+            Expected::Place(place, answer) => same(name, reader.place(book, message, place), *answer),
+            Expected::Listing(listing) => {
+                let mut room = [PATTERN; ROOM];
+                let listed = reader.list(book, message, &mut room).map(|count| count as usize);
+                let listed = listed.map(|count| room[..3 * count].chunks(3).map(|r| [r[0], r[1], r[2]]).collect());
+                same(name, &listed, listing)?;
+                let past = 3 * listing.as_ref().map_or(0, Vec::len);
+                same(name, &room[past..], &[PATTERN; ROOM][past..])?;
+                let count = listing.as_ref().map(|records| records.len() as u64).map_err(|refused| *refused);
+                same(name, reader.measure(book, message), count)?;
+                same(name, reader.check(book, message), count.map(drop))
+            }
+        }
+    }
+}
+
+/// Octets from their hexadecimal digits, with spaces and bars between them.
+pub fn octets(digits: &str) -> Vec<u8> {
+    let pairs = digits.split([' ', '|']).filter(|pair| !pair.is_empty());
+    pairs.map(|pair| u8::from_str_radix(pair, 16).expect("two digits")).collect()
+}
+
+/// The octets with the word at `at` replaced.
+pub fn with_word(octets: &[u8], at: usize, word: u16) -> Vec<u8> {
+    let mut octets = octets.to_vec();
+    octets[at..at + 2].copy_from_slice(&word.to_le_bytes());
+    octets
+}

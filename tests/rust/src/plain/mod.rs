@@ -1,0 +1,39 @@
+//! A reader and a writer in plain Rust, made from the rules' words alone and from nothing of the library: what the
+//! library is compared with. Whatever is clear stands before what is fast.
+
+pub mod answers;
+pub mod book;
+pub mod extension;
+pub mod message;
+pub mod rules;
+pub mod types;
+pub mod writer;
+
+pub use answers::Place;
+pub use book::{Block, Book, Data, Field, Group, Template};
+pub use message::Message;
+
+/// A number and a place.
+#[derive(Clone, Copy, Debug, PartialEq, Eq)]
+pub struct Refusal {
+    pub number: u64,
+    pub place: u64,
+}
+
+pub fn refusal(number: u64, place: usize) -> Refusal {
+    Refusal { number, place: place as u64 }
+}
+
+/// One line of a listing.
+pub type Record = [u64; 3];
+
+/// No id, version, length or count on the wire may be this.
+pub const NULL16: u16 = 65535;
+
+/// The longest message.
+pub const LONGEST: usize = 65535;
+
+/// The 16-bit number at `at`, least significant octet first.
+pub fn word(octets: &[u8], at: usize) -> u16 {
+    u16::from_le_bytes([octets[at], octets[at + 1]])
+}

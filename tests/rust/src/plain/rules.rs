@@ -1,0 +1,73 @@
+//! The rules of a block that has been read: refusals 5 and 6, and the need of a block.
+
+use super::types::{Type, TYPES};
+use super::{Block, Field, NULL16};
+
+impl Field {
+    /// Of a field whose type is known.
+    pub fn kind(&self) -> &'static Type {
+        &TYPES[usize::from(self.kind)]
+    }
+
+    pub fn octets(&self) -> usize {
+        self.kind().octets * usize::from(self.length)
+    }
+
+    pub fn end(&self) -> usize {
+        usize::from(self.offset) + self.octets()
+    }
+
+    /// Plain octets: never null and not range-checked.
+    pub fn is_array(&self) -> bool {
+        self.length != 1
+    }
+
+    pub fn is_optional(&self) -> bool {
+        self.presence == 1
+    }
+
+    fn words_hold(&self) -> bool {
+        let lengths = if self.kind == 0 || self.kind == 2 { 1..=1024 } else { 1..=1 };
+        usize::from(self.kind) < TYPES.len() && lengths.contains(&self.length) && self.presence <= 1
+    }
+}
+
+impl Block {
+    /// The end of the last field with since at most the version, or 0.
+    pub fn need(&self, version: u16) -> usize {
+        self.fields.iter().rfind(|field| field.since <= version).map_or(0, Field::end)
+    }
+
+    /// How many groups and how many data a message of the version has.
+    pub fn present(&self, version: u16) -> (usize, usize) {
+        let groups = self.groups.iter().filter(|group| group.since <= version).count();
+        (groups, self.data.iter().filter(|data| data.since <= version).count())
+    }
+}
+
+/// Block length, type, length, presence and offset, here and in every group.
+pub fn shape_holds(block: &Block) -> bool {
+    let mut end = 0;
+    for field in &block.fields {
+        if !field.words_hold() || usize::from(field.offset) < end {
+            return false;
+        }
+        end = field.end();
+    }
+    block.length != NULL16
+        && end <= usize::from(block.length)
+        && block.groups.iter().all(|group| shape_holds(&group.block))
+}
+
+/// Sinces of a block, here and in every group. `own` is the since of the group whose block it is; the root has none.
+pub fn sinces_hold(block: &Block, version: u16, own: Option<u16>) -> bool {
+    let fields: Vec<u16> = block.fields.iter().map(|field| field.since).collect();
+    let groups: Vec<u16> = block.groups.iter().map(|group| group.since).collect();
+    let data: Vec<u16> = block.data.iter().map(|data| data.since).collect();
+    let never_falls = |sinces: &[u16]| sinces.windows(2).all(|pair| pair[0] <= pair[1]);
+    let never_above = |sinces: &[u16]| sinces.iter().all(|&since| since <= version);
+    let by_themselves = [&fields, &groups, &data].iter().all(|sinces| never_falls(sinces) && never_above(sinces));
+    let by_group =
+        own.map_or(true, |own| fields.first() == Some(&own) && groups.iter().chain(&data).all(|&since| since == own));
+    by_themselves && by_group && block.groups.iter().all(|group| sinces_hold(&group.block, version, Some(group.since)))
+}

@@ -1,0 +1,172 @@
+//! Random messages: some by the plain writer from random listings, some with all the freedom that the wire has.
+
+use super::rng::Rng;
+use crate::plain::{types::Type, writer, Block, Book, Field, Template};
+
+/// A whole message for one of the book's templates.
+pub fn message(rng: &mut Rng, book: &Book) -> Vec<u8> {
+    let template = &book.templates[rng.below(book.templates.len())];
+    if rng.chance(35) {
+        return written(rng, book, template);
+    }
+    let version = match rng.below(10) {
+        0..=3 => book.version,
+        4..=7 => rng.word(0, book.version),
+        _ => rng.word(book.version, book.version.saturating_add(4).min(65534)),
+    };
+    let mut wire = Wire { clean: rng.chance(40), rng, version, message: Vec::new() };
+    wire.root(book, template);
+    wire.message
+}
+
+const ROOM: usize = 8192;
+
+/// By the plain writer, from a random listing; nothing where the room is too small.
+fn written(rng: &mut Rng, book: &Book, template: &Template) -> Vec<u8> {
+    let pool = rng.octets(1100);
+    let mut listing = Vec::new();
+    list(rng, &template.block, &mut listing);
+    let mut room = vec![0; ROOM];
+    let length = writer::write(book, template.id, &listing, &pool, &mut room).unwrap_or_else(|refused| {
+        assert_eq!(refused.number, 55, "the listing holds");
+        0
+    });
+    room.truncate(length);
+    room
+}
+
+fn list(rng: &mut Rng, block: &Block, listing: &mut Vec<u64>) {
+    for field in &block.fields {
+        listing.extend(match field.is_array() {
+            true => [2, rng.below(50) as u64, u64::from(field.length)],
+            false if field.is_optional() && rng.chance(30) => [1, 0, 0],
+            false => [0, number(rng, field.kind()) as u64, 0],
+        });
+    }
+    for group in &block.groups {
+        let entries = entries(rng);
+        listing.extend([4, entries, 0]);
+        for _ in 0..entries {
+            list(rng, &group.block, listing);
+        }
+    }
+    for _ in &block.data {
+        listing.extend([2, rng.below(50) as u64, rng.below(7) as u64]);
+    }
+}
+
+/// In the type's range; its ends come often.
+fn number(rng: &mut Rng, kind: &Type) -> i128 {
+    let range = (kind.greatest - kind.least) as u64;
+    match rng.below(8) {
+        0 => kind.least,
+        1 => kind.greatest,
+        _ => kind.least + i128::from(rng.next() % range),
+    }
+}
+
+fn entries(rng: &mut Rng) -> u64 {
+    rng.pick(&[0, 0, 1, 1, 1, 2, 2, 3])
+}
+
+/// A message of any version: longer blocks than declared, padding that is not zero, values out of range, and groups
+/// and data beyond the book's.
+struct Wire<'a> {
+    rng: &'a mut Rng,
+    version: u16,
+    clean: bool,
+    message: Vec<u8>,
+}
+
+impl Wire<'_> {
+    fn put(&mut self, number: usize) {
+        self.message.extend((number as u16).to_le_bytes());
+    }
+
+    fn root(&mut self, book: &Book, template: &Template) {
+        let block = &template.block;
+        let length = self.length(block);
+        let known = block.present(self.version);
+        let later = self.version > book.version;
+        let surplus = if later { (self.rng.below(3), self.rng.below(3)) } else { (0, 0) };
+        for number in [length, template.id.into(), book.schema.into(), self.version.into()] {
+            self.put(number);
+        }
+        self.put(known.0 + surplus.0);
+        self.put(known.1 + surplus.1);
+        self.part(block, length, surplus);
+    }
+
+    /// A block length on the wire: at least the need.
+    fn length(&mut self, block: &Block) -> usize {
+        let need = block.need(self.version);
+        match self.rng.below(4) {
+            0 | 1 => usize::from(block.length),
+            2 => need,
+            _ => need + self.rng.below(6),
+        }
+    }
+
+    fn part(&mut self, block: &Block, length: usize, surplus: (usize, usize)) {
+        self.block(block, length);
+        let version = self.version;
+        for group in block.groups.iter().filter(|group| group.since <= version) {
+            let (length, entries) = (self.length(&group.block), entries(self.rng) as usize);
+            self.put(length);
+            self.put(entries);
+            for _ in 0..entries {
+                self.part(&group.block, length, (0, 0));
+            }
+        }
+        for _ in 0..surplus.0 {
+            self.surplus_group();
+        }
+        for _ in 0..block.present(version).1 + surplus.1 {
+            let length = self.rng.below(6);
+            self.put(length);
+            self.fill(length);
+        }
+    }
+
+    fn surplus_group(&mut self) {
+        let (length, entries) = match self.rng.below(8) {
+            0 => (0, self.rng.between(0, 65534)),
+            1 => (self.rng.between(0, 65534), 0),
+            _ => (self.rng.below(6), self.rng.below(4)),
+        };
+        self.put(length);
+        self.put(entries);
+        self.fill(length * entries);
+    }
+
+    fn fill(&mut self, count: usize) {
+        let octets = self.rng.octets(count);
+        self.message.extend(octets);
+    }
+
+    fn block(&mut self, block: &Block, length: usize) {
+        let mut octets = if self.clean { vec![0; length] } else { self.rng.octets(length) };
+        for field in block.fields.iter().filter(|field| field.since <= self.version) {
+            if self.clean || self.rng.chance(60) {
+                let value = value(self.rng, field);
+                octets[usize::from(field.offset)..field.end()].copy_from_slice(&value);
+            }
+        }
+        self.message.extend(octets);
+    }
+}
+
+/// Octets for a field: in range, null, or just beside.
+fn value(rng: &mut Rng, field: &Field) -> Vec<u8> {
+    let kind = field.kind();
+    if field.is_array() {
+        return rng.octets(field.octets());
+    }
+    let value = match rng.below(10) {
+        0 | 1 => kind.null,
+        2 => kind.least - 1,
+        3 => kind.greatest + 1,
+        _ => number(rng, kind),
+    };
+    kind.octets_of(value)
+}

@@ -1,0 +1,79 @@
+//! The exports for a place, declared again from `include/siphonbard.h`: for what the safe crate cannot say, such as
+//! an unknown kind, an odd number of numbers for the steps, or a null pointer.
+
+use siphonbard::{Answer, Book, Refusal};
+use std::ptr;
+
+#[repr(C)]
+pub struct Checked {
+    pub number: u64,
+    pub place: u64,
+}
+
+#[repr(C)]
+pub struct Found {
+    number: u64,
+    place: u64,
+    record: [u64; 3],
+}
+
+type Octets = *const u8;
+type Place = unsafe extern "C" fn(Octets, usize, Octets, usize, *const u64, usize, u64, u64) -> Found;
+
+extern "C" {
+    fn siphonbard_check_book(book: Octets, book_len: usize) -> Checked;
+    fn siphonbard_check(book: Octets, book_len: usize, message: Octets, message_len: usize) -> Checked;
+    fn siphonbard_place(
+        book: Octets,
+        book_len: usize,
+        message: Octets,
+        message_len: usize,
+        steps: *const u64,
+        steps_len: usize,
+        kind: u64,
+        element: u64,
+    ) -> Found;
+    fn siphonbard_stream_place(
+        book: Octets,
+        book_len: usize,
+        message: Octets,
+        message_len: usize,
+        steps: *const u64,
+        steps_len: usize,
+        kind: u64,
+        element: u64,
+    ) -> Found;
+}
+
+pub fn place(book: &[u8], message: &[u8], steps: &[u64], kind: u64, element: u64) -> Result<Answer, Refusal> {
+    asked(siphonbard_place, book, message, steps, kind, element)
+}
+
+pub fn stream_place(book: &Book, message: &[u8], steps: &[u64], kind: u64, element: u64) -> Result<Answer, Refusal> {
+    asked(siphonbard_stream_place, book.octets(), message, steps, kind, element)
+}
+
+/// A refused place has zeros for its record, and an accepted one for its refusal: the header says so.
+fn asked(place: Place, book: &[u8], message: &[u8], steps: &[u64], kind: u64, element: u64) -> Result<Answer, Refusal> {
+    let (octets, len) = (message.as_ptr(), message.len());
+    // SAFETY: lends three slices; the stream's call gets a book that was checked.
+    let found = unsafe { place(book.as_ptr(), book.len(), octets, len, steps.as_ptr(), steps.len(), kind, element) };
+    if found.number == 0 {
+        assert_eq!(found.place, 0);
+        return Ok(Answer::from_record(found.record).expect("a kind of 0 to 5"));
+    }
+    assert_eq!(found.record, [0; 3]);
+    Err(Refusal { number: found.number as u8, place: found.place as usize })
+}
+
+/// The verdict on a book that is a null pointer and length 0.
+pub fn check_null_book() -> Checked {
+    // SAFETY: a null pointer with length 0 is an empty buffer.
+    unsafe { siphonbard_check_book(ptr::null(), 0) }
+}
+
+/// The verdict on a message that is a null pointer and length 0.
+pub fn check_null_message(book: &[u8]) -> Checked {
+    // SAFETY: lends one slice; a null pointer with length 0 is an empty buffer.
+    unsafe { siphonbard_check(book.as_ptr(), book.len(), ptr::null(), 0) }
+}

@@ -1,0 +1,137 @@
+//! The recorded cases of `tests/cases`: an input, and the answer that two implementations gave, made apart from each
+//! other.
+//!
+//! A case is an octet for the call (0 list, 1 measure, 2 place, 3 write), a 32-bit length and the input. All numbers
+//! are little-endian. An input begins with the book's octet count, 16 bits, and the book, as the listing program reads
+//! them. Then, for each call:
+//!
+//! - list, measure: the message.
+//! - place: an octet, how many steps; a group's number and an entry's for each, 16 bits; an octet for the kind of
+//!   element (0 field, 1 group, 2 data); its number, 16 bits; the message.
+//! - write: template id, 16 bits; octets of room, 32 bits; how many numbers the listing has, 32 bits; these, 64 bits
+//!   each; the pool.
+
+use crate::plain::{refusal, word, writer, Book, Place, Record, Refusal};
+use crate::readers::{Free, Plain, Reader, Stream};
+use crate::report::{hex, same, Report};
+
+const CASES: &[u8] = include_bytes!("../../cases/base.cases");
+const EXPECTED: &str = include_str!("../../cases/base.expected");
+
+/// The room of a listing, in numbers: the program's.
+const ROOM: usize = 6000;
+/// More octets of room than this make no difference to a message.
+const ENOUGH: usize = 65536;
+const PATTERN: u64 = 0xa5a5_5a5a_c3c3_3c3c;
+
+struct Case<'a> {
+    number: usize,
+    call: u8,
+    input: &'a [u8],
+    expected: &'a str,
+}
+
+fn cases() -> Vec<Case<'static>> {
+    let (mut rest, mut cases) = (CASES, Vec::new());
+    for (number, line) in EXPECTED.lines().enumerate() {
+        let length = u32::from_le_bytes([rest[1], rest[2], rest[3], rest[4]]) as usize;
+        let expected = line.split_once(' ').expect("a number and an answer").1;
+        cases.push(Case { number, call: rest[0], input: &rest[5..5 + length], expected });
+        rest = &rest[5 + length..];
+    }
+    assert!(rest.is_empty(), "a case without an answer");
+    cases
+}
+
+pub fn replay(report: &mut Report) {
+    let cases = cases();
+    let readers: [&dyn Reader; 3] = [&Plain, &Free, &Stream];
+    for reader in readers {
+        let asked = cases.iter().filter(|case| case.call < 3);
+        let count = asked.clone().count();
+        let passed = asked.filter(|case| case.run(report, reader)).count();
+        println!("recorded cases, {}: {passed} of {count}", reader.name());
+    }
+    let written: Vec<&Case> = cases.iter().filter(|case| case.call == 3).collect();
+    let passed = written.iter().filter(|case| case.check(report, "plain writer", write(case.input))).count();
+    println!("recorded cases, plain writer: {passed} of {}", written.len());
+}
+
+impl Case<'_> {
+    fn run(&self, report: &mut Report, reader: &dyn Reader) -> bool {
+        let answer = match self.call {
+            0 => list(self.input, reader),
+            1 => measure(self.input, reader),
+            _ => place(self.input, reader),
+        };
+        self.check(report, reader.name(), answer)
+    }
+
+    fn check(&self, report: &mut Report, who: &str, answer: Result<String, Refusal>) -> bool {
+        let answer = answer.unwrap_or_else(|no| format!("refused {} {}", no.number, no.place));
+        let outcome = same("answer", answer.as_str(), self.expected);
+        report.check(outcome, || format!("case {} by {who}, {}", self.number, hex(self.input)))
+    }
+}
+
+/// The next so many octets; fewer where the input ends.
+fn take<'a>(rest: &mut &'a [u8], count: usize) -> &'a [u8] {
+    let (taken, left) = rest.split_at(count.min(rest.len()));
+    *rest = left;
+    taken
+}
+
+fn number(rest: &mut &[u8], octets: usize) -> u64 {
+    take(rest, octets).iter().rev().fold(0, |value, &octet| value << 8 | u64::from(octet))
+}
+
+/// The book. A cut count leaves it empty; a count over 8,192 is refused before more is read.
+fn book<'a>(rest: &mut &'a [u8]) -> Result<&'a [u8], Refusal> {
+    let count = take(rest, 2);
+    if count.len() < 2 {
+        return Ok(&[]);
+    }
+    match usize::from(word(count, 0)) {
+        count if count > 8192 => Err(refusal(1, 0)),
+        count => Ok(take(rest, count)),
+    }
+}
+
+fn line(record: &[u64]) -> String {
+    format!("{} {} {}", record[0], record[1], record[2])
+}
+
+fn list(mut input: &[u8], reader: &dyn Reader) -> Result<String, Refusal> {
+    let (book, mut room) = (book(&mut input)?, vec![PATTERN; ROOM]);
+    let outcome = reader.list(book, input, &mut room);
+    let used = outcome.map_or(0, |records| 3 * records as usize);
+    let altered = room[used..].iter().any(|&number| number != PATTERN);
+    if altered {
+        return Ok("the room past the records is altered".into());
+    }
+    outcome.map(|_| room[..used].chunks(3).map(line).collect::<Vec<_>>().join("|"))
+}
+
+fn measure(mut input: &[u8], reader: &dyn Reader) -> Result<String, Refusal> {
+    let book = book(&mut input)?;
+    reader.measure(book, input).map(|count| count.to_string())
+}
+
+fn place(mut input: &[u8], reader: &dyn Reader) -> Result<String, Refusal> {
+    let book = book(&mut input)?;
+    let count = number(&mut input, 1);
+    let steps = (0..count).map(|_| (number(&mut input, 2), number(&mut input, 2))).collect();
+    let place = Place { steps, kind: number(&mut input, 1), element: number(&mut input, 2) };
+    let found: Record = reader.place(book, input, &place)?;
+    Ok(line(&found))
+}
+
+fn write(mut input: &[u8]) -> Result<String, Refusal> {
+    let book = book(&mut input)?;
+    let template = number(&mut input, 2) as u16;
+    let (room, count) = (number(&mut input, 4) as usize, number(&mut input, 4));
+    let listing: Vec<u64> = (0..count).map(|_| number(&mut input, 8)).collect();
+    let mut room = vec![0; room.min(ENOUGH)];
+    let length = writer::write(&Book::read(book)?, template, &listing, input, &mut room)?;
+    Ok(format!("ok {length} {}", hex(&room[..length])))
+}
