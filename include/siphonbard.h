@@ -1,5 +1,6 @@
 /*
- * Siphonbard: checks schema books, checks FIX SBE 1.0 messages by them, and answers what the messages say.
+ * Siphonbard: checks schema books, checks FIX SBE 1.0 messages by them, answers what the messages say, and writes
+ * messages.
  *
  * Link with libsiphonbard.a (`rt staticlib siphonbard` makes it; x86-64, System V). No call allocates, keeps a
  * pointer or touches memory that it was not lent, its stack aside; so any threads may call at the same time.
@@ -31,9 +32,19 @@
  *   30       over four steps, or a number that the book lacks                          0
  *   31       entry not below the count (an absent group counts 0)                      0
  *   40       room below three numbers per record                                       0
+ *   50       writing: template unknown                                                 0
+ *   51       a record missing, left over or partial, of the wrong kind for its
+ *            element, or with an unused number that is not 0                           the record's number
+ *   52       a number that is null or out of range; null for a required field          the record's number
+ *   53       start plus length past the pool's end, length not the field's, or data
+ *            over 65,534 octets                                                        the record's number
+ *   54       entries over 65,534                                                       the record's number
+ *   55       message longer than the room or than 65,535 octets                        0
  *
- * Places of 10 to 20 are offsets in the message. The book is judged first, then the message in the order of the wire,
- * then the call's own arguments; one refusal is given.
+ * Places of 10 to 20 are offsets in the message, those of 51 to 54 count records from 0. The book is judged first,
+ * then the message in the order of the wire, then the call's own arguments; one refusal is given. Of writing's own,
+ * 50 comes first, then 51 to 54 at the first record at fault (51 first within it), then 51 for what is left over, and
+ * 55 last.
  */
 #ifndef SIPHONBARD_H
 #define SIPHONBARD_H
@@ -50,7 +61,10 @@ typedef struct {
     uint64_t number, place;
 } siphonbard_checked;
 
-/* A number of records. `number` is 0: `count` holds. Else the refusal's number and its place, and `count` is 0. */
+/*
+ * A number of records, or of a written message's octets. `number` is 0: `count` holds. Else the refusal's number and
+ * its place, and `count` is 0.
+ */
 typedef struct {
     uint64_t number, place, count;
 } siphonbard_counted;
@@ -111,13 +125,27 @@ siphonbard_found siphonbard_place(const uint8_t *book, size_t book_len, const ui
                                   uint64_t element);
 
 /*
+ * Writes a message of the template from the listing, at the room's start, and gives how many octets it has, or 1 to 6
+ * or 50 to 55. The listing has a record per element, in the order of siphonbard_list and by the table above; its
+ * starts count from the pool's first octet, and kinds 3 and 5 are answered 51. The listing of a message is written
+ * back with that message as the pool.
+ *
+ * The message has the book's version, its declared block lengths and its counts, and zeros where a block has no
+ * field. Octets of the room past it are left as they were; after a refusal all of them are. `listing_len` counts
+ * numbers, not records; a `template_id` over 65535 is answered 50.
+ */
+siphonbard_counted siphonbard_write(const uint8_t *book, size_t book_len, uint64_t template_id,
+                                    const uint64_t *listing, size_t listing_len, const uint8_t *pool,
+                                    size_t pool_len, uint8_t *room, size_t room_len);
+
+/*
  * ---- Calls for streams: many messages by one book ----
  *
  * The same answers, without checking the book again at each message.
  *
  * YOUR DUTY: `book` and `book_len` are what siphonbard_check_book accepted, and no octet of it has been altered
- * since. Nothing checks this. With any other book the behaviour is undefined: the call may read outside its buffers
- * or not return. The message, the steps and the rest may be anything.
+ * since. Nothing checks this. With any other book the behaviour is undefined: the call may read or write outside its
+ * buffers or not return. The message, the steps, the listing and the rest may be anything.
  */
 
 /* Whether the message is one of the book's: accepted, or 10 to 20. */
@@ -136,6 +164,11 @@ siphonbard_counted siphonbard_stream_list(const uint8_t *book, size_t book_len, 
 siphonbard_found siphonbard_stream_place(const uint8_t *book, size_t book_len, const uint8_t *message,
                                          size_t message_len, const uint64_t *steps, size_t steps_len, uint64_t kind,
                                          uint64_t element);
+
+/* Writes a message of the template, as siphonbard_write does, or 50 to 55. What is left in the room is alike. */
+siphonbard_counted siphonbard_stream_write(const uint8_t *book, size_t book_len, uint64_t template_id,
+                                           const uint64_t *listing, size_t listing_len, const uint8_t *pool,
+                                           size_t pool_len, uint8_t *room, size_t room_len);
 
 #ifdef __cplusplus
 }

@@ -1,4 +1,7 @@
-use crate::{answers, ffi, Answer, Element, Refusal, Step};
+use crate::{answers, ffi, Answer, Element, Listing, Refusal, Step};
+
+/// The longest message, in octets.
+const LONGEST: usize = 65535;
 
 /// A schema book that was checked: for many messages by one book.
 ///
@@ -53,5 +56,23 @@ impl<'a> Book<'a> {
     /// What stands at one place of the message, or 10 to 31.
     pub fn place(&self, message: &[u8], steps: &[Step], element: Element) -> Result<Answer, Refusal> {
         ffi::stream_place(self, message, steps, element)
+    }
+    /// Writes a message of the template into the room, as [`crate::write`] does, or 50 to 55.
+    pub fn write(&self, template_id: u16, listing: &[u64], pool: &[u8], room: &mut [u8]) -> Result<usize, Refusal> {
+        ffi::stream_write(self, template_id, listing, pool, room)
+    }
+
+    /// A message of the template from the listing, or 50 to 55.
+    pub fn write_all(&self, template_id: u16, listing: &[u64], pool: &[u8]) -> Result<Vec<u8>, Refusal> {
+        let mut room = vec![0; LONGEST];
+        let length = self.write(template_id, listing, pool, &mut room)?;
+        room.truncate(length);
+        room.shrink_to_fit();
+        Ok(room)
+    }
+
+    /// A message of the template from a [`Listing`] and its pool, or 50 to 55.
+    pub fn write_listing(&self, template_id: u16, listing: &Listing) -> Result<Vec<u8>, Refusal> {
+        self.write_all(template_id, listing.numbers(), listing.pool())
     }
 }

@@ -52,6 +52,17 @@ extern "C" {
         kind: u64,
         element: u64,
     ) -> Found;
+    fn siphonbard_write(
+        book: Octets,
+        book_len: usize,
+        template_id: u64,
+        listing: *const u64,
+        listing_len: usize,
+        pool: Octets,
+        pool_len: usize,
+        room: *mut u8,
+        room_len: usize,
+    ) -> Counted;
     fn siphonbard_stream_check(book: Octets, book_len: usize, message: Octets, message_len: usize) -> Checked;
     fn siphonbard_stream_measure(book: Octets, book_len: usize, message: Octets, message_len: usize) -> Counted;
     fn siphonbard_stream_list(
@@ -72,6 +83,17 @@ extern "C" {
         kind: u64,
         element: u64,
     ) -> Found;
+    fn siphonbard_stream_write(
+        book: Octets,
+        book_len: usize,
+        template_id: u64,
+        listing: *const u64,
+        listing_len: usize,
+        pool: Octets,
+        pool_len: usize,
+        room: *mut u8,
+        room_len: usize,
+    ) -> Counted;
 }
 
 fn verdict(number: u64, place: u64) -> Result<(), Refusal> {
@@ -133,6 +155,24 @@ pub fn place(book: &[u8], message: &[u8], steps: &[Step], element: Element) -> R
         .result()
 }
 
+pub fn write(book: &[u8], id: u16, listing: &[u64], pool: &[u8], room: &mut [u8]) -> Result<usize, Refusal> {
+    // SAFETY: lends four slices, and `room` is borrowed mutably.
+    unsafe {
+        siphonbard_write(
+            book.as_ptr(),
+            book.len(),
+            id.into(),
+            listing.as_ptr(),
+            listing.len(),
+            pool.as_ptr(),
+            pool.len(),
+            room.as_mut_ptr(),
+            room.len(),
+        )
+    }
+    .result()
+}
+
 pub fn stream_check(book: &Book, message: &[u8]) -> Result<(), Refusal> {
     let book = book.octets();
     // SAFETY: lends two slices; a `Book` is accepted, and its octets are borrowed since.
@@ -158,6 +198,25 @@ pub fn stream_place(book: &Book, message: &[u8], steps: &[Step], element: Elemen
     // SAFETY: as for `stream_check`; `steps` as for `place`.
     unsafe {
         siphonbard_stream_place(book.as_ptr(), book.len(), message.as_ptr(), message.len(), start, len, kind, number)
+    }
+    .result()
+}
+
+pub fn stream_write(book: &Book, id: u16, listing: &[u64], pool: &[u8], room: &mut [u8]) -> Result<usize, Refusal> {
+    let book = book.octets();
+    // SAFETY: as for `stream_check`; `room` is borrowed mutably.
+    unsafe {
+        siphonbard_stream_write(
+            book.as_ptr(),
+            book.len(),
+            id.into(),
+            listing.as_ptr(),
+            listing.len(),
+            pool.as_ptr(),
+            pool.len(),
+            room.as_mut_ptr(),
+            room.len(),
+        )
     }
     .result()
 }

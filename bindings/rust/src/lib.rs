@@ -1,5 +1,5 @@
-//! Reads FIX SBE 1.0 messages by a schema book. The functions underneath are proved in Rattle: any octets are taken
-//! as they come, and every answer is the one that the layout has.
+//! Reads and writes FIX SBE 1.0 messages by a schema book. The functions underneath are proved in Rattle: any octets
+//! are taken as they come, and every answer and every message is the one that the layout has.
 //!
 //! An element is present by the message's version and by nothing else. A field that is younger than the message is
 //! [`Answer::Absent`], also where the message's block has zeros for it.
@@ -25,6 +25,8 @@
 //! # Ok::<(), siphonbard::Refusal>(())
 //! ```
 //!
+//! A message is written from a listing; [`Listing`] makes one, and has an example.
+//!
 //! The functions below check the book at each call; a [`Book`] is checked once.
 
 #![deny(missing_docs)]
@@ -34,10 +36,12 @@ mod answer;
 mod book;
 #[allow(unsafe_code)]
 mod ffi;
+mod listing;
 mod refusal;
 
 pub use answer::{answers, Answer, Element, Step};
 pub use book::Book;
+pub use listing::Listing;
 pub use refusal::Refusal;
 
 /// Whether the octets are a schema book; else 1 to 6.
@@ -70,4 +74,19 @@ pub fn list_all(book: &[u8], message: &[u8]) -> Result<Vec<Answer>, Refusal> {
 /// block's.
 pub fn place(book: &[u8], message: &[u8], steps: &[Step], element: Element) -> Result<Answer, Refusal> {
     ffi::place(book, message, steps, element)
+}
+
+/// Writes a message of the template from the listing, at the room's start, and gives how many octets it has; or 1 to 6
+/// or 50 to 55. The room past the message is left as it was; after a refusal all of it is.
+///
+/// The listing is as [`list`] gives it, three numbers a record, a record for every element of the book's template.
+/// Starts refer to the pool: a listing of a message is written back with that message as the pool. The message has
+/// the book's version, its declared block lengths and zero padding.
+pub fn write(book: &[u8], template_id: u16, listing: &[u64], pool: &[u8], room: &mut [u8]) -> Result<usize, Refusal> {
+    ffi::write(book, template_id, listing, pool, room)
+}
+
+/// A message of the template from the listing, or 1 to 6 or 50 to 55.
+pub fn write_all(book: &[u8], template_id: u16, listing: &[u64], pool: &[u8]) -> Result<Vec<u8>, Refusal> {
+    Book::checked(book)?.write_all(template_id, listing, pool)
 }

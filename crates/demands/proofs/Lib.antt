@@ -4,8 +4,6 @@ pub mod Kept
 pub mod Beside
 pub mod TwoBooks
 pub mod Present
-pub mod Said
-pub mod Lengths
 pub mod Contents
 pub mod Reread
 pub mod Relisted
@@ -15,3 +13,7 @@ pub mod Reprinted
 pub mod Judged
 pub mod Returned
 pub mod Theorems
+pub mod Outcomes
+pub mod Numbers
+pub mod Calls
+pub mod Instances

@@ -21,10 +21,10 @@ use Rattle.layout.specs.Writing.{blockOctets, dataOctets, entriesIn, fieldOctet
 use Rattle.layout.specs.Writing.{judgeDatas, judgeEntries, judgeField, judgeFields, judgeGroups, numbers16, rowOctets}
 use Rattle.layout.specs.Writing.{second, spanOctets, spanOf, third}
 use Rattle.demands.proofs.Contents.{contentOf, contentsOf, treeContents}
-use Rattle.demands.proofs.Lengths.{field-long, fields-long, span-long}
+use Rattle.layout.proofs.Lengths.{field-long, fields-long, span-long}
 use Rattle.demands.proofs.Needs.{need-within}
 use Rattle.demands.proofs.Present.{GoodGroups, GoodShape, UpTo}
-use Rattle.demands.proofs.Said.{OctetsSaid, array-said, data-said, number-said}
+use Rattle.layout.proofs.Said.{OctetsSaid, array-said, data-said, number-said}
 use Rattle.layout.proofs.Fields.{field-good}
 use Rattle.layout.proofs.Results.{and-left, and-right, done-inj, inv-bind, inv-must}
 use Rattle.layout.proofs.Stands.{AreAt, Stands, length-numbers, length-octets, number-stands, numbers-are, split-to}

@@ -1,13 +1,13 @@
 -- The theorems, over the definitions of document 01 in crates/layout/specs. Octets, words and numbers are natural
 -- numbers; a book, a message and a pool are lists of octets, a listing is a list of numbers. An operation comes to
 -- `done` with its result or `refused` with number and place.
-use mathlib.Core.Path.{_∙_, _≡_, refl, sym}
+use mathlib.Core.Path.{_≡_}
 use mathlib.Core.Bool.{true}
 use mathlib.Core.List.{List}
 use mathlib.Core.Option.{some}
 use Prim.Native.Nat.{_≤_, ℕ}
 use lib.ListN.{length}
-use Rattle.layout.specs.Result.{Result, done, refused}
+use Rattle.layout.specs.Result.{done}
 use Rattle.layout.specs.Octets.{AllOctets, Numbers64}
 use Rattle.layout.specs.Book.{Book, Template, findTemplate}
 use Rattle.layout.specs.BookRules.{bookOf}
@@ -16,46 +16,13 @@ use Rattle.layout.specs.Message.{readMessage, templateId, versionOf}
 use Rattle.layout.specs.Reading.{checkOf, hasPlace, listOf, placeOf}
 use Rattle.layout.specs.Writing.{judgeListing, messageOctets, writeOf, writtenLength}
 use Rattle.layout.specs.Extension.{Extends}
-use Rattle.layout.specs.Contracts.{Lists, Writes, roomAfter}
 use Rattle.layout.specs.Demands.{AsWritten, contents}
-use Rattle.demands.proofs.Lengths.{written-long}
+use Rattle.layout.proofs.Lengths.{written-long}
 use Rattle.demands.proofs.Returned.{written-back}
 use Rattle.demands.proofs.TwoBooks.{accepts-too, same-answer, same-verdict}
 use Rattle.demands.proofs.Written.{reads-again, written-by}
 use Rattle.layout.proofs.Accepted.{accepted}
-use Rattle.layout.specs.declared.Counted.{Counted}
 use Rattle.layout.specs.declared.Element.{Element}
-
--- ---- demand 1: "a refused call alters no octet or number of any buffer", and each contract has one outcome
-
-refused-leaves : (before : List ℕ) (x : Result (List ℕ)) (n p : ℕ) → x ≡ refused n p → roomAfter x before ≡ before
-unfolding roomAfter
-refused-leaves before x n p e = rw e refl
-
-pub refused-listing-alters-nothing : (book m before after : List ℕ) (r : Counted) (n p : ℕ)
-    → Lists book m before r after
-    → listOf book m (length before) ≡ refused n p
-    → after ≡ before
-refused-listing-alters-nothing book m before after r n p c e = c .room ∙ refused-leaves before _ n p e
-
-pub refused-writing-alters-nothing : (book : List ℕ) (id : ℕ) (l pool before after : List ℕ) (r : Counted) (n p : ℕ)
-    → Writes book id l pool before r after
-    → writeOf book id l pool (length before) ≡ refused n p
-    → after ≡ before
-refused-writing-alters-nothing book id l pool before after r n p c e = c .room ∙ refused-leaves before _ n p e
-
-pub listing-has-one-outcome : (book m before after after′ : List ℕ) (r r′ : Counted)
-    → Lists book m before r after
-    → Lists book m before r′ after′
-    → (r ≡ r′) × (after ≡ after′)
-listing-has-one-outcome book m before after after′ r r′ c c′ = (c .answer ∙ sym (c′ .answer), c .room ∙ sym (c′ .room))
-
-pub writing-has-one-outcome : (book : List ℕ) (id : ℕ) (l pool before after after′ : List ℕ) (r r′ : Counted)
-    → Writes book id l pool before r after
-    → Writes book id l pool before r′ after′
-    → (r ≡ r′) × (after ≡ after′)
-writing-has-one-outcome book id l pool before after after′ r r′ c c′ =
-    (c .answer ∙ sym (c′ .answer), c .room ∙ sym (c′ .room))
 
 -- ---- demand 2
 
@@ -64,10 +31,11 @@ writing-has-one-outcome book id l pool before after after′ r r′ c c′ =
 pub written-reads-back : (book : List ℕ) (id : ℕ) (l pool : List ℕ) (room : ℕ) (m : List ℕ)
     → Numbers64 l
     → writeOf book id l pool room ≡ done m
-    → (read : List ℕ) × (listOf book m (length l) ≡ done read) × (contents m read ≡ contents pool l)
+    → (read : List ℕ) × (listOf book m (length l) ≡ done read) × (length read ≡ length l)
+    × (contents m read ≡ contents pool l)
 written-reads-back book id l pool room m small e =
-    let r = reads-again book id l pool m small (written-by book id l pool room m e) in
-    (r .read, r .lists, r .same)
+    let r = reads-again book id l pool room m small (written-by book id l pool room m e) in
+    (r .read, r .lists, r .long, r .same)
 
 -- "what is read writes back to the same octets if it carries the book's own version and block lengths, has zero padding
 -- and no value out of range": that is `AsWritten`. "writing back has the message as pool and room for it"

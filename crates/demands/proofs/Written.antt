@@ -17,17 +17,16 @@ use Rattle.layout.specs.Message.{Entry, checkHeader, countGood, headerSize, hea
 use Rattle.layout.specs.Message.{readMessage, readRoot, schemaId}
 use Rattle.layout.specs.Reading.{listOf}
 use Rattle.layout.specs.Writing.{headerOf, judgeBlock, judgeGroups, judgeListing, messageOctets, numbers16, rowOctets}
-use Rattle.layout.specs.Writing.{writeOf, writtenLength}
+use Rattle.layout.specs.Writing.{writeOf}
 use Rattle.layout.specs.Demands.{contents}
 use Rattle.demands.proofs.Contents.{contents-measure, listing-says, treeContents}
-use Rattle.demands.proofs.Lengths.{written-long}
 use Rattle.demands.proofs.Needs.{need-within}
 use Rattle.demands.proofs.Present.{Writable, present-up, writable}
 use Rattle.demands.proofs.Relisted.{relisted}
 use Rattle.demands.proofs.Reread.{block-back, entryOctets, four-same, groups-back}
 use Rattle.layout.proofs.Accepted.{Accepted, accepted}
 use Rattle.layout.proofs.Records.{listing-three}
-use Rattle.layout.proofs.Results.{and-right, bind-done, done-inj, inv-bind, inv-found, inv-must}
+use Rattle.layout.proofs.Results.{and-left, and-right, bind-done, done-inj, inv-bind, inv-found, inv-must}
 use Rattle.layout.proofs.Stands.{AllWhole, AreAt, Stands, all-stands, length-numbers, numbers-are, split-to}
 use Rattle.layout.specs.declared.Answer.{Answer}
 
@@ -172,25 +171,28 @@ module _ (b : Book) (t : Template) (l pool : List ℕ) (small : Numbers64 l) (a 
 -- ---- from the octets
 
 -- How a message came to be written: the book, the template, and the tree that the listing was judged to be.
-pub record WrittenBy (book : List ℕ) (id : ℕ) (l pool m : List ℕ) : Type 0 where
+pub record WrittenBy (book : List ℕ) (id : ℕ) (l pool : List ℕ) (room : ℕ) (m : List ℕ) : Type 0 where
   pub by : Book
   pub template : Template
   pub said : Values
   pub good : bookOf book ≡ done by
   pub found : findTemplate id (by .templates) ≡ some template
   pub judged : judgeListing l (length pool) template ≡ done said
+  pub fits : length (messageOctets by template pool said) ≤ room
   pub short : length (messageOctets by template pool said) ≤ 65535
   pub is : messageOctets by template pool said ≡ m
 
 pub written-by : (book : List ℕ) (id : ℕ) (l pool : List ℕ) (room : ℕ) (m : List ℕ)
     → writeOf book id l pool room ≡ done m
-    → WrittenBy book id l pool m
+    → WrittenBy book id l pool room m
 unfolding writeOf
 written-by book id l pool room m e =
     let b = inv-bind _ _ _ e in
     let t = inv-bind _ _ _ (b .next) in
     let r = inv-bind _ _ _ (t .next) in
     let k = inv-bind _ _ _ (r .next) in
+    let n = length (messageOctets (b .value) (t .value) pool (r .value)) in
+    let h = inv-must _ _ _ _ (k .first) in
     record {
       by = b .value;
       template = t .value;
@@ -198,42 +200,39 @@ written-by book id l pool room m e =
       good = b .first;
       found = inv-found _ 50 0 (t .value) (t .first);
       judged = r .first;
-      short = leb-true (length (messageOctets (b .value) (t .value) pool (r .value))) 65535
-          (and-right _ _ (inv-must _ _ _ _ (k .first)));
+      fits = leb-true n room (and-left _ _ h);
+      short = leb-true n 65535 (and-right _ _ h);
       is = done-inj (k .next);
     }
-
--- "Its length is ..": the formula's.
-pub length-is : (book : List ℕ) (id : ℕ) (l pool m : List ℕ) (w : WrittenBy book id l pool m)
-    → length m ≡ writtenLength (w .template) (w .said)
-length-is book id l pool m w =
-    let a = accepted book (w .by) id (w .template) (w .good) (w .found) .1 in
-    ap length (sym (w .is)) ∙ written-long l pool (w .by) (w .template) (w .said) (a .layout) (w .judged)
 
 -- What is read of what was written: a listing with the same contents.
 pub record ReadsAgain (book l pool m : List ℕ) : Type 0 where
   pub read : List ℕ
   pub lists : listOf book m (length l) ≡ done read
+  pub long : length read ≡ length l
   pub same : contents m read ≡ contents pool l
 
-lists-within : (book m : List ℕ) (room : ℕ) (b : Book) (r : Values) → bookOf book ≡ done b → readMessage b m ≡ done r
+pub lists-within : (book m : List ℕ) (room : ℕ) (b : Book) (r : Values) → bookOf book ≡ done b
+    → readMessage b m ≡ done r
     → 3 * measure r ≤ room
     → listOf book m room ≡ done (listing r)
 unfolding listOf must _>>=_
 lists-within book m room b r e q h = rw (e, q, le-leb (3 * measure r) room h) refl
 
-pub reads-again : (book : List ℕ) (id : ℕ) (l pool m : List ℕ) → Numbers64 l → WrittenBy book id l pool m
+pub reads-again : (book : List ℕ) (id : ℕ) (l pool : List ℕ) (room : ℕ) (m : List ℕ) → Numbers64 l
+    → WrittenBy book id l pool room m
     → ReadsAgain book l pool m
-reads-again book id l pool m small w =
+reads-again book id l pool room m small w =
     let a = accepted book (w .by) id (w .template) (w .good) (w .found) .1 in
     let k = subst (λ (x : List ℕ). ReadsBack (w .by) x pool (w .said)) (w .is)
     (listing-reads (w .by) (w .template) l pool small a (w .said) (w .judged) (w .short)) in
     let relists = relisted l (length pool) (w .template) (w .said) (w .judged) in
     let count : measure (k .values) ≡ measure (w .said) =
     sym (contents-measure m (k .values)) ∙ ap length (k .same) ∙ contents-measure pool (w .said) in
-    let fits : 3 * measure (k .values) ≤ length l = omega (arith, count, listing-three (w .said), ap length relists) in
+    let all : 3 * measure (k .values) ≡ length l = omega (arith, count, listing-three (w .said), ap length relists) in
     record {
       read = listing (k .values);
-      lists = lists-within book m (length l) (w .by) (k .values) (w .good) (k .accepts) fits;
+      lists = lists-within book m (length l) (w .by) (k .values) (w .good) (k .accepts) (omega arith);
+      long = listing-three (k .values) ∙ all;
       same = listing-says m (k .values) ∙ k .same ∙ sym (listing-says pool (w .said)) ∙ ap (contents pool) relists;
     }

@@ -4,4 +4,7 @@ pub mod TypeLaws
 pub mod Accepted
 pub mod Fields
 pub mod Records
+pub mod Said
+pub mod Lengths
 pub mod Witness
+pub mod Returns

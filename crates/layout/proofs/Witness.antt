@@ -3,11 +3,11 @@
 use mathlib.Core.Path.{_≡_, ap, refl, subst, sym}
 use mathlib.Core.Bool.{true}
 use mathlib.Core.List.{List, [], _++_, _∷_}
-use Prim.Native.Nat.{_<_, suc, zero, ℕ}
+use Prim.Native.Nat.{_<_, _^_, suc, zero, ℕ}
 use native.Mathlib.Omega.{arith}
 use lib.ListN.{drop, getD, length, take}
 use Rattle.layout.specs.Result.{Each, done, if_then_else_}
-use Rattle.layout.specs.Octets.{AllOctets}
+use Rattle.layout.specs.Octets.{AllOctets, Numbers64}
 use Rattle.layout.specs.Book.{Book, Data, Field, Groups, Shape, Template, fieldSinces, findTemplate, groupSinces}
 use Rattle.layout.specs.Book.{more, none}
 use Rattle.layout.specs.BookRules.{bookOf}
@@ -40,7 +40,7 @@ shape453 = record {
   datas = [];
 }
 
-abbrev templateA : Template
+abbrev pub templateA : Template
 templateA =
     record {
       id = 1;
@@ -186,21 +186,25 @@ shorter-block x = omega (arith, would _ _ _ x .shape .longer)
 
 -- ---- M could have been written with A, and is written back
 
-octets-all : (s : List ℕ) → Each (λ b. b < 256) s → AllOctets s
+all-below : (k : ℕ) (s : List ℕ) → 0 < k → Each (λ x. x < k) s → (i : ℕ) → getD s i 0 < k
 unfolding Each
-octets-all [] h i = omega arith
-octets-all (b ∷ s) h zero = h .0
-octets-all (b ∷ s) h (suc i) = octets-all s (h .1) i
+all-below k [] z h i = z
+all-below k (x ∷ s) z h zero = h .0
+all-below k (x ∷ s) z h (suc i) = all-below k s z (h .1) i
 
 pub M-octets : AllOctets messageM
 unfolding Each
-M-octets = octets-all messageM (omega arith)
+M-octets = all-below 256 messageM (omega arith) (omega arith)
 
-pub valuesM : Values
+unfoldable pub valuesM : Values
 valuesM =
     entry (Number 1000 ∷ Number minus5 ∷ [])
     (group (Group 2) (entry (Number 1 ∷ []) nil [] (entry (Number 3 ∷ []) nil [] nil)) nil)
     (Octets 30 2 ∷ []) nil
+
+pub M-numbers : Numbers64 (listing valuesM)
+unfolding all valuesM Each
+M-numbers = all-below (2 ^ 64) (listing valuesM) (omega arith) (omega arith)
 
 pub M-is : readMessage treeA messageM ≡ done valuesM
 unfolding all valuesM

@@ -211,12 +211,30 @@ module _ (s : List ℕ) (k : IsBook s) where
   abbrev b : List ℕ
   b = wordsOf s
 
-  book-numbers : (k .tree .schema ≡ word b 0) × (k .tree .version ≡ word b 1)
+  pub book-numbers : (k .tree .schema ≡ word b 0) × (k .tree .version ≡ word b 1)
   unfolding bookOf
   book-numbers =
       let p = inv-bind _ _ _ (inv-bind _ _ _ (inv-bind _ _ _ (inv-bind _ _ _ (k .is) .next) .next) .next) in
       let q = done-inj (inv-bind _ _ _ (inv-bind _ _ _ (p .next) .next) .next) in
       (sym (ap (λ (t : Book). t .schema) q), sym (ap (λ (t : Book). t .version) q))
+
+  -- The row of a template's id leads to its body, of which the rules of 5 hold.
+  module _ (id : ℕ) (row : ContentsRow) (found : findRow id (rowsOf b) ≡ some row) where
+    pub row-inside : row .first + row .words ≤ length s / 2
+    row-inside = rw (← (length-words s)) (row-within _ _ _ _ (rowsOf b) row (contents s k .good) found)
+
+    pub row-leads : Leads b id row (k .tree .templates)
+    row-leads = unfold Agrees in (rw found at (templates-agree s k id))
+
+    pub row-good : GoodBlock (take (row .words) (drop (row .first) b)) 4 0
+    row-good =
+        let opened = open-body _ _ (row-leads .body) in
+        let good = accepted s (k .tree) _ _ (k .is) (row-leads .found) .1 .layout in
+        record {
+          stands = record { block = opened .block; row = opened .row };
+          shape = rw (opened .shape) at (and-left _ _ good);
+          groups = rw (opened .groups) at (and-right _ _ good);
+        }
 
   module _ (m : List ℕ) where
     -- The message is read by the body that its row leads to.
@@ -270,23 +288,16 @@ module _ (s : List ℕ) (k : IsBook s) where
       found = inv-found _ 13 2 row (inv-bind _ _ _ is .next)
 
       pub body-within : first + words ≤ length s / 2
-      body-within = rw (← (length-words s)) (row-within _ _ _ _ (rowsOf b) row (contents s k .good) found)
+      body-within = row-inside (templateId m) row found
 
       leads : Leads b (templateId m) row (k .tree .templates)
-      leads = unfold Agrees in (rw found at (templates-agree s k (templateId m)))
+      leads = row-leads (templateId m) row found
 
       opened : OpenedBody body (leads .shape) (leads .groups)
       opened = open-body body _ (leads .body)
 
-      -- The rules of 5 hold of it.
       pub body-good : GoodBlock body 4 0
-      body-good =
-          let good = accepted s (k .tree) _ _ (k .is) (leads .found) .1 .layout in
-          record {
-            stands = record { block = opened .block; row = opened .row };
-            shape = rw (opened .shape) at (and-left _ _ good);
-            groups = rw (opened .groups) at (and-right _ _ good);
-          }
+      body-good = row-good (templateId m) row found
 
       module _ (version : ℕ) (v : version ≡ word b 1) where
         read-found : readMessage (k .tree) m ≡ rootAt body m version

@@ -1,10 +1,10 @@
-// Reads a message: any octets for the book and any for the message. The book is checked first, and what it is refused
-// for is the answer.
+// Reads and writes a message: any octets for the book, the message and the rest. The book is checked first, and what it
+// is refused for is the answer.
 use layout::Checked;
 use layout::Counted;
 use layout::Element;
 use layout::Found;
-ghost use Rattle.layout.specs.Contracts.{AnswersPlace, Checks, Lists, Measures};
+ghost use Rattle.layout.specs.Contracts.{AnswersPlace, Checks, Lists, Measures, Writes};
 
 // Checks a message.
 pub fn check(book: &[u8], m: &[u8]) -> Checked
@@ -44,4 +44,16 @@ pub fn place(book: &[u8], m: &[u8], steps: &[u64], x: Element) -> Found
         return stream::place(book, m, steps, x);
     };
     Found::Refused(refusal)
+}
+
+// Writes the message that a listing gives for the template `id`, its starts referring to the pool: the number of
+// octets, which are stored from the room's start.
+pub fn write(book: &[u8], id: usize, listing: &[u64], pool: &[u8], room: &mut [u8]) -> Counted
+    ensures { λ r. ⌜ Writes (now (book .entry)) id (now (listing .entry)) (now (pool .entry)) (now (room .entry)) r
+        (now (room .exit)) ⌝ }
+{
+    let Checked::Refused(refusal) = book::check(book) else {
+        return stream::write(book, id, listing, pool, room);
+    };
+    Counted::Refused(refusal)
 }

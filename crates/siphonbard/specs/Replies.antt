@@ -3,9 +3,10 @@ use mathlib.Core.Path.{_≡_}
 use mathlib.Core.List.{List}
 use Prim.Native.Nat.{ℕ}
 use lib.ListN.{getD, length}
-use Rattle.layout.specs.Result.{Result, _>>=_}
+use Rattle.layout.specs.Result.{Result, done, _>>=_}
 use Rattle.layout.specs.Reading.{listOf, measureOf}
 use Rattle.layout.specs.Values.{recordOf}
+use Rattle.layout.specs.Writing.{writeOf}
 use Rattle.layout.specs.Contracts.{checked, counted, found, roomAfter}
 use Rattle.layout.specs.declared.Answer.{Answer}
 use Rattle.layout.specs.declared.Checked as Checked
@@ -54,3 +55,9 @@ replyFound r = sayFound (found r)
 pub record RepliesList (book m before : List ℕ) (r : CountedReply) (after : List ℕ) : Type 0 where
   pub reply : r ≡ replyCounted (listOf book m (length before) >>= λ _. measureOf book m)
   pub room : after ≡ roomAfter (listOf book m (length before)) before
+
+-- A message written for the template `id` from a listing and a pool.
+pub record RepliesWrite (book : List ℕ) (id : ℕ) (l pool before : List ℕ) (r : CountedReply)
+    (after : List ℕ) : Type 0 where
+  pub reply : r ≡ replyCounted (writeOf book id l pool (length before) >>= λ m. done (length m))
+  pub room : after ≡ roomAfter (writeOf book id l pool (length before)) before

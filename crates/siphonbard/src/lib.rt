@@ -11,7 +11,7 @@ ghost use Rattle.layout.specs.Contracts.{stepsOf};
 ghost use Rattle.layout.specs.Reading.{checkOf, measureOf};
 ghost use Rattle.templates.specs.Lookup.{IsBook};
 ghost use Rattle.siphonbard.specs.Replies.{sayChecked, sayCounted, sayFound};
-ghost use Rattle.siphonbard.specs.Replies.{replyChecked, replyCounted, replyFound, RepliesList};
+ghost use Rattle.siphonbard.specs.Replies.{replyChecked, replyCounted, replyFound, RepliesList, RepliesWrite};
 ghost use Rattle.siphonbard.specs.Places.{askedFor, placeAsked, SaysNoPlace};
 
 // The number of a reply that refuses nothing.
@@ -183,6 +183,22 @@ pub extern "C" fn siphonbard_place(
     say_found(reader::place(book, m, steps, x))
 }
 
+// Writes the message that a listing gives for a template, its starts referring to the pool: the number of octets, which
+// are stored from the room's start.
+#[no_mangle]
+pub extern "C" fn siphonbard_write(
+    book: &[u8],
+    template: u64,
+    listing: &[u64],
+    pool: &[u8],
+    room: &mut [u8],
+) -> CountedReply
+    ensures { λ r. ⌜ RepliesWrite (now (book .entry)) template (now (listing .entry)) (now (pool .entry)) (now
+        (room .entry)) r (now (room .exit)) ⌝ }
+{
+    say_counted(reader::write(book, template as usize, listing, pool, room))
+}
+
 // ---- streams: a book that siphonbard_check_book accepted and that has not been altered since. The checker holds a
 // caller in Rattle to the `requires`; in another language it is the caller's duty.
 
@@ -230,4 +246,21 @@ pub extern "C" fn siphonbard_stream_place(
         return say_found(no_place(stream::check(book, m)));
     };
     say_found(stream::place(book, m, steps, x))
+}
+
+// Writes the message that a listing gives for a template, its starts referring to the pool: the number of octets, which
+// are stored from the room's start.
+#[no_mangle]
+pub extern "C" fn siphonbard_stream_write(
+    book: &[u8],
+    template: u64,
+    listing: &[u64],
+    pool: &[u8],
+    room: &mut [u8],
+) -> CountedReply
+    requires { ⌜ IsBook (now book) ⌝ }
+    ensures { λ r. ⌜ RepliesWrite (now (book .entry)) template (now (listing .entry)) (now (pool .entry)) (now
+        (room .entry)) r (now (room .exit)) ⌝ }
+{
+    say_counted(stream::write(book, template as usize, listing, pool, room))
 }

@@ -8,7 +8,7 @@ use lib.ListN.{length, set, length-append}
 use lib.Seq.{sets, length-sets}
 use Rattle.store.specs.Prints.{Printed, got, not, prepend, andThen, endOf, numbersOf, Room, Stored}
 
-sets-append : (d : List ℕ) (at : ℕ) (a b : List ℕ) → sets d at (a ++ b) ≡ sets (sets d at a) (at + length a) b
+pub sets-append : (d : List ℕ) (at : ℕ) (a b : List ℕ) → sets d at (a ++ b) ≡ sets (sets d at a) (at + length a) b
 sets-append d at [] b = rw add-zero refl
 sets-append d at (x ∷ a) b = rw (sets-append (set d at x) (suc at) a b, suc-add, add-suc) refl
 
@@ -24,7 +24,7 @@ prepend-prepend a b not = refl
 
 -- ---- what was accepted, taken apart
 
-room-rest : (e : List ℕ) (x : Printed) (n k : ℕ) → Room (prepend e x) n k → Room x (n + length e) k
+pub room-rest : (e : List ℕ) (x : Printed) (n k : ℕ) → Room (prepend e x) n k → Room x (n + length e) k
 unfolding prepend endOf numbersOf
 room-rest e (got a xs) n k r = record { whole = refl; fits = omega (arith, simp length-append at (r .fits)) }
 room-rest e not n k r = absurd (let z : _≡_ {A = ℕ} 0 1 = cc (r .whole) in omega arith)

@@ -53,7 +53,7 @@ prints e p r a is = rw is refl
 -- What is told at last of what was read, after the numbers xs.
 module _ {A C : Type 0} (e : A → ℕ) (p : A → List ℕ) (e′ : C → ℕ) (p′ : C → List ℕ) (j : A → C) (xs : List ℕ)
     (ends : (a : A) → e′ (j a) ≡ e a) (tells : (a : A) → p′ (j a) ≡ xs ++ p a) where
-  mapped : (r : Result A) → printed e′ p′ (r >>= λ a. done (j a)) ≡ prepend xs (printed e p r)
+  pub mapped : (r : Result A) → printed e′ p′ (r >>= λ a. done (j a)) ≡ prepend xs (printed e p r)
   unfolding printed _>>=_ prepend
   mapped (done a) = rw (ends a, tells a) refl
   mapped (refused n q) = refl
@@ -62,7 +62,7 @@ module _ {A C : Type 0} (e : A → ℕ) (p : A → List ℕ) (e′ : C → ℕ) 
 module _ {A B C : Type 0} (e : A → ℕ) (p : A → List ℕ) (e″ : B → ℕ) (p″ : B → List ℕ) (e′ : C → ℕ) (p′ : C → List ℕ)
     (j : A → B → C) (xs : List ℕ) (ends : (a : A) (b : B) → e′ (j a b) ≡ e″ b)
     (tells : (a : A) (b : B) → p′ (j a b) ≡ xs ++ (p a ++ p″ b)) where
-  after : (r : Result A) (s : ℕ → Result B)
+  pub after : (r : Result A) (s : ℕ → Result B)
       → printed e′ p′ (r >>= λ a. s (e a) >>= λ b. done (j a b))
       ≡ prepend xs (andThen (printed e p r) (λ x. printed e″ p″ (s x)))
   unfolding printed _>>=_ andThen prepend

@@ -1,14 +1,23 @@
 // Reads messages by a book that was accepted before: at no book cost per message. Proved callers cannot misuse it: the
 // checker refuses a call whose book is not known to be accepted.
+use judges::Judged;
 use layout::Checked;
 use layout::Counted;
 use layout::Element;
 use layout::Found;
 use layout::Refusal;
 use messages::Body;
+use templates::Place;
 use wire::Walked;
-ghost use Rattle.layout.specs.Contracts.{AnswersPlace, Checks, Lists, Measures};
+use writer::Head;
+ghost use Rattle.layout.specs.Contracts.{AnswersPlace, Checks, Lists, Measures, Writes};
+ghost use Rattle.layout.specs.Octets.{wordsOf};
+ghost use mathlib.Core.Path.{_≡_};
+ghost use lib.ListN.{length};
+ghost use Rattle.layout.specs.Contracts.{refusal};
 ghost use Rattle.templates.specs.Lookup.{IsBook};
+ghost use Rattle.walk.specs.Walks.{GoodBlock};
+ghost use Rattle.stream.specs.Bodies.{WritesAs, writtenBy};
 
 // Checks a message.
 pub fn check(book: &[u8], m: &[u8]) -> Checked
@@ -65,4 +74,50 @@ pub fn place(book: &[u8], m: &[u8], steps: &[u64], x: Element) -> Found
         }
         Body::Refused(refusal) => Found::Refused(refusal),
     }
+}
+
+fn refuse(number: u8) -> Counted
+    ensures { λ r. ⌜ r ≡ Counted.Refused (refusal number 0) ⌝ }
+{
+    Counted::Refused(Refusal { number, place: 0 })
+}
+
+// Writes by the template's body: a pass judges the listing, and then, if there is room, a pass stores.
+fn write_by(body: &[u8], head: Head, listing: &[u64], pool: &[u8], room: &mut [u8]) -> Counted
+    requires { ⌜ GoodBlock (wordsOf (now body)) 4 0 ⌝ }
+    ensures { λ r. ⌜ WritesAs (writtenBy (wordsOf (now (body .entry))) head (now (listing .entry)) (now (pool .entry))
+        (length (now (room .entry)))) (now (room .entry)) r (now (room .exit)) ⌝ }
+{
+    match judges::judge_listing(body, listing, pool.len()) {
+        Judged::Refused(refusal) => Counted::Refused(refusal),
+        Judged::To { length, .. } => {
+            if 65535 < 12 + length {
+                return refuse(55);
+            }
+            if room.len() < 12 + length {
+                return refuse(55);
+            }
+            writer::write_message(body, head, listing, pool, room);
+            Counted::Count(12 + length)
+        }
+    }
+}
+
+// Writes the message that a listing gives for the template `id`, its starts referring to the pool: the number of
+// octets, which are stored from the room's start.
+pub fn write(book: &[u8], id: usize, listing: &[u64], pool: &[u8], room: &mut [u8]) -> Counted
+    requires { ⌜ IsBook (now book) ⌝ }
+    ensures { λ r. ⌜ Writes (now (book .entry)) id (now (listing .entry)) (now (pool .entry)) (now (room .entry)) r
+        (now (room .exit)) ⌝ }
+{
+    let Place::At { first, words } = templates::find(book, id) else {
+        return refuse(50);
+    };
+    let head = Head {
+        id,
+        schema: book::word(book, 0),
+        version: book::word(book, 1),
+    };
+    let end = 2 * first + 2 * words;
+    write_by(&book[2 * first..end], head, listing, pool, room)
 }

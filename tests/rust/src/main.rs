@@ -1,6 +1,6 @@
-//! Tests of the library `siphonbard`: named cases, recorded cases, and random books and messages against a reader
-//! in plain Rust. The arguments are a seed and how many random messages there are to be; without them both are
-//! fixed.
+//! Tests of the library `siphonbard`: named cases, recorded cases, and random books, messages and listings
+//! against a reader and a writer in plain Rust. The arguments are a seed and how many random messages there are to be;
+//! without them both are fixed.
 
 #![no_main]
 
@@ -17,7 +17,7 @@ use std::os::raw::{c_char, c_int};
 use std::panic;
 
 const SEED: u64 = 20140603;
-const MESSAGES: u64 = 300_000;
+const MESSAGES: u64 = 200_000;
 
 /// C's entry point and not Rust's: Rust's own reads the process's memory map first, which the emulator that
 /// `tests/run` uses off x86-64 does not survive.

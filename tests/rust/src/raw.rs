@@ -1,6 +1,7 @@
-//! The exports for a place, declared again from `include/siphonbard.h`: for what the safe crate cannot say, such as
-//! an unknown kind, an odd number of numbers for the steps, or a null pointer.
+//! The exports for a place and for writing, declared again from `include/siphonbard.h`: for what the safe crate cannot
+//! say, such as an unknown kind, an odd number of numbers for the steps, a template id over 65535, or a null pointer.
 
+use crate::plain::Draft;
 use siphonbard::{Answer, Book, Refusal};
 use std::ptr;
 
@@ -17,7 +18,16 @@ pub struct Found {
     record: [u64; 3],
 }
 
+#[repr(C)]
+#[derive(Debug, PartialEq, Eq)]
+pub struct Counted {
+    pub number: u64,
+    pub place: u64,
+    pub count: u64,
+}
+
 type Octets = *const u8;
+type Write = unsafe extern "C" fn(Octets, usize, u64, *const u64, usize, Octets, usize, *mut u8, usize) -> Counted;
 type Place = unsafe extern "C" fn(Octets, usize, Octets, usize, *const u64, usize, u64, u64) -> Found;
 
 extern "C" {
@@ -43,6 +53,28 @@ extern "C" {
         kind: u64,
         element: u64,
     ) -> Found;
+    fn siphonbard_write(
+        book: Octets,
+        book_len: usize,
+        template_id: u64,
+        listing: *const u64,
+        listing_len: usize,
+        pool: Octets,
+        pool_len: usize,
+        room: *mut u8,
+        room_len: usize,
+    ) -> Counted;
+    fn siphonbard_stream_write(
+        book: Octets,
+        book_len: usize,
+        template_id: u64,
+        listing: *const u64,
+        listing_len: usize,
+        pool: Octets,
+        pool_len: usize,
+        room: *mut u8,
+        room_len: usize,
+    ) -> Counted;
 }
 
 pub fn place(book: &[u8], message: &[u8], steps: &[u64], kind: u64, element: u64) -> Result<Answer, Refusal> {
@@ -76,4 +108,28 @@ pub fn check_null_book() -> Checked {
 pub fn check_null_message(book: &[u8]) -> Checked {
     // SAFETY: lends one slice; a null pointer with length 0 is an empty buffer.
     unsafe { siphonbard_check(book.as_ptr(), book.len(), ptr::null(), 0) }
+}
+
+/// Both calls for writing, on a book that was checked: the draft by another template id.
+pub fn write(book: &Book, template_id: u64, draft: &Draft, room: &mut [u8]) -> [Counted; 2] {
+    let (octets, listing, pool) = (book.octets(), &draft.listing, &draft.pool);
+    let mut by = |write: Write| {
+        let (numbers, len, start, space) = (listing.as_ptr(), listing.len(), room.as_mut_ptr(), room.len());
+        // SAFETY: lends four slices, and the room is borrowed mutably; the book was checked.
+        unsafe {
+            write(octets.as_ptr(), octets.len(), template_id, numbers, len, pool.as_ptr(), pool.len(), start, space)
+        }
+    };
+    [by(siphonbard_write), by(siphonbard_stream_write)]
+}
+
+/// Both calls for writing template 1, with listing and pool null pointers and length 0. So is the room if it is empty.
+pub fn write_nothing(book: &Book, room: &mut [u8]) -> [Counted; 2] {
+    let octets = book.octets();
+    let start = if room.is_empty() { ptr::null_mut() } else { room.as_mut_ptr() };
+    let by = |write: Write| {
+        // SAFETY: lends two slices; a null pointer with length 0 is an empty buffer; the book was checked.
+        unsafe { write(octets.as_ptr(), octets.len(), 1, ptr::null(), 0, ptr::null(), 0, start, room.len()) }
+    };
+    [by(siphonbard_write), by(siphonbard_stream_write)]
 }

@@ -1,6 +1,6 @@
-//! The library and the plain reader under one set of calls, so that every test asks all of them the same.
+//! The library and the plain reader and writer under one set of calls, so that every test asks all of them the same.
 
-use crate::plain::{refusal, Book, Message, Place, Record, Refusal};
+use crate::plain::{refusal, writer, Book, Draft, Message, Place, Record, Refusal};
 use crate::raw;
 use siphonbard::{Element, Step};
 
@@ -12,6 +12,16 @@ pub trait Reader {
     fn measure(&self, book: &[u8], message: &[u8]) -> Result<u64, Refusal>;
     fn list(&self, book: &[u8], message: &[u8], room: &mut [u64]) -> Result<u64, Refusal>;
     fn place(&self, book: &[u8], message: &[u8], place: &Place) -> Result<Record, Refusal>;
+    fn write(&self, book: &[u8], draft: &Draft, room: &mut [u8]) -> Result<usize, Refusal>;
+}
+
+const PATTERN: [u8; 7] = [0xa5, 0x5a, 0xc3, 0x3c, 0x96, 0x69, 0xf0];
+
+/// Room for a message, full of a pattern.
+pub fn lent(octets: usize) -> Vec<u8> {
+    let mut room = PATTERN.repeat(octets / PATTERN.len() + 1);
+    room.truncate(octets);
+    room
 }
 
 /// The reader of `plain`.
@@ -44,6 +54,10 @@ impl Reader for Plain {
 
     fn place(&self, book: &[u8], message: &[u8], place: &Place) -> Result<Record, Refusal> {
         Message::read(&Book::read(book)?, message)?.place(place)
+    }
+
+    fn write(&self, book: &[u8], draft: &Draft, room: &mut [u8]) -> Result<usize, Refusal> {
+        writer::write(&Book::read(book)?, draft, room)
     }
 }
 
@@ -79,6 +93,10 @@ impl Reader for Free {
         .map(|answer| answer.record())
         .map_err(own)
     }
+
+    fn write(&self, book: &[u8], draft: &Draft, room: &mut [u8]) -> Result<usize, Refusal> {
+        siphonbard::write(book, draft.template, &draft.listing, &draft.pool, room).map_err(own)
+    }
 }
 
 /// The library's calls on a book that was checked once.
@@ -111,6 +129,11 @@ impl Reader for Stream {
         let book = siphonbard::Book::checked(book).map_err(own)?;
         stream_place(&book, message, place)
     }
+
+    fn write(&self, book: &[u8], draft: &Draft, room: &mut [u8]) -> Result<usize, Refusal> {
+        let book = siphonbard::Book::checked(book).map_err(own)?;
+        stream_write(&book, draft, room)
+    }
 }
 
 pub fn stream_place(book: &siphonbard::Book, message: &[u8], place: &Place) -> Result<Record, Refusal> {
@@ -120,6 +143,10 @@ pub fn stream_place(book: &siphonbard::Book, message: &[u8], place: &Place) -> R
     }
     .map(|answer| answer.record())
     .map_err(own)
+}
+
+pub fn stream_write(book: &siphonbard::Book, draft: &Draft, room: &mut [u8]) -> Result<usize, Refusal> {
+    book.write(draft.template, &draft.listing, &draft.pool, room).map_err(own)
 }
 
 pub fn own(refused: siphonbard::Refusal) -> Refusal {

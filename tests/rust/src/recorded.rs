@@ -11,13 +11,14 @@
 //! - write: template id, 16 bits; octets of room, 32 bits; how many numbers the listing has, 32 bits; these, 64 bits
 //!   each; the pool.
 
-use crate::plain::{refusal, word, writer, Book, Place, Record, Refusal};
-use crate::readers::{Free, Plain, Reader, Stream};
+use crate::plain::{refusal, word, Draft, Place, Record, Refusal};
+use crate::readers::{lent, Free, Plain, Reader, Stream};
 use crate::report::{hex, same, Report};
 
 const CASES: &[u8] = include_bytes!("../../cases/base.cases");
 const EXPECTED: &str = include_str!("../../cases/base.expected");
 
+const WRITE: u8 = 3;
 /// The room of a listing, in numbers: the program's.
 const ROOM: usize = 6000;
 /// More octets of room than this make no difference to a message.
@@ -47,14 +48,12 @@ pub fn replay(report: &mut Report) {
     let cases = cases();
     let readers: [&dyn Reader; 3] = [&Plain, &Free, &Stream];
     for reader in readers {
-        let asked = cases.iter().filter(|case| case.call < 3);
-        let count = asked.clone().count();
-        let passed = asked.filter(|case| case.run(report, reader)).count();
-        println!("recorded cases, {}: {passed} of {count}", reader.name());
+        let (written, read): (Vec<&Case>, Vec<&Case>) = cases.iter().partition(|case| case.call == WRITE);
+        for (what, cases) in [("reading", read), ("writing", written)] {
+            let passed = cases.iter().filter(|case| case.run(report, reader)).count();
+            println!("recorded cases, {what}, {}: {passed} of {}", reader.name(), cases.len());
+        }
     }
-    let written: Vec<&Case> = cases.iter().filter(|case| case.call == 3).collect();
-    let passed = written.iter().filter(|case| case.check(report, "plain writer", write(case.input))).count();
-    println!("recorded cases, plain writer: {passed} of {}", written.len());
 }
 
 impl Case<'_> {
@@ -62,15 +61,12 @@ impl Case<'_> {
         let answer = match self.call {
             0 => list(self.input, reader),
             1 => measure(self.input, reader),
+            WRITE => write(self.input, reader),
             _ => place(self.input, reader),
         };
-        self.check(report, reader.name(), answer)
-    }
-
-    fn check(&self, report: &mut Report, who: &str, answer: Result<String, Refusal>) -> bool {
         let answer = answer.unwrap_or_else(|no| format!("refused {} {}", no.number, no.place));
         let outcome = same("answer", answer.as_str(), self.expected);
-        report.check(outcome, || format!("case {} by {who}, {}", self.number, hex(self.input)))
+        report.check(outcome, || format!("case {} by {}, {}", self.number, reader.name(), hex(self.input)))
     }
 }
 
@@ -126,12 +122,17 @@ fn place(mut input: &[u8], reader: &dyn Reader) -> Result<String, Refusal> {
     Ok(line(&found))
 }
 
-fn write(mut input: &[u8]) -> Result<String, Refusal> {
+fn write(mut input: &[u8], reader: &dyn Reader) -> Result<String, Refusal> {
     let book = book(&mut input)?;
     let template = number(&mut input, 2) as u16;
     let (room, count) = (number(&mut input, 4) as usize, number(&mut input, 4));
-    let listing: Vec<u64> = (0..count).map(|_| number(&mut input, 8)).collect();
-    let mut room = vec![0; room.min(ENOUGH)];
-    let length = writer::write(&Book::read(book)?, template, &listing, input, &mut room)?;
-    Ok(format!("ok {length} {}", hex(&room[..length])))
+    let listing = (0..count).map(|_| number(&mut input, 8)).collect();
+    let draft = Draft { template, listing, pool: input.to_vec() };
+    let mut room = lent(room.min(ENOUGH));
+    let outcome = reader.write(book, &draft, &mut room);
+    let used = outcome.unwrap_or(0);
+    if room[used..] != lent(room.len())[used..] {
+        return Ok("the room past the message is altered".into());
+    }
+    outcome.map(|length| format!("ok {length} {}", hex(&room[..length])))
 }

@@ -41,5 +41,6 @@ pub fn same<T: PartialEq + std::fmt::Debug>(call: &str, came: T, expected: T) ->
 }
 
 pub fn hex(octets: &[u8]) -> String {
-    octets.iter().map(|octet| format!("{octet:02x}")).collect()
+    let digit = |value: u8| char::from(b"0123456789abcdef"[usize::from(value)]);
+    octets.iter().flat_map(|octet| [digit(octet >> 4), digit(octet & 15)]).collect()
 }

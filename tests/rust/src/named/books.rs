@@ -41,7 +41,7 @@ pub const OCTET: u16 = 2;
 pub const DATA: Data = Data { id: 58, since: 0 };
 
 /// A block with a group in a group, so deep.
-fn nested(depth: usize) -> Block {
+pub fn nested(depth: usize) -> Block {
     let mut block = fields(1, vec![field(OCTET, 0, 0)]);
     if depth > 0 {
         block.groups = vec![Group { id: 453, since: 0, block: nested(depth - 1) }];

@@ -1,10 +1,12 @@
-//! What the safe crate and the C calls have besides answers: views of an answer, words for refusals, null pointers,
-//! odd lengths.
+//! What the safe crate and the C calls have besides answers and messages: views of an answer, listings made record by
+//! record, words for refusals, null pointers, odd lengths.
 
+use super::writing::draft_of_m;
 use super::{books, messages};
-use crate::raw;
+use crate::plain::Block;
+use crate::raw::{self, Counted};
 use crate::report::same;
-use siphonbard::{answers, Answer, Book, Element, Refusal, Step};
+use siphonbard::{answers, Answer, Book, Element, Listing, Refusal, Step};
 
 pub type Call = fn() -> Result<(), String>;
 
@@ -12,9 +14,13 @@ pub fn calls() -> Vec<(&'static str, Call)> {
     vec![
         ("crate: its example", example),
         ("crate: answers and records", records),
+        ("crate: the example of a listing", listing_example),
+        ("crate: a listing of what cannot be written", unwritable),
         ("crate: refusals in words", words),
         ("C: a null pointer of length 0 is an empty buffer", null_pointers),
         ("C: an odd number of numbers for the steps: 30", odd_steps),
+        ("C: writing with null pointers", null_writing),
+        ("C: writing a template id over 65535: 50", wide_ids),
     ]
 }
 
@@ -44,12 +50,51 @@ fn records() -> Result<(), String> {
     same("a null has no value", (Answer::Null.signed(), Answer::OutOfRange(7).unsigned()), (None, None))
 }
 
+/// The example of `Listing`.
+fn listing_example() -> Result<(), String> {
+    let (octets, expected) = (books::a(), messages::m());
+    let book = Book::checked(&octets).map_err(|refused| refused.to_string())?;
+    let mut listing = Listing::new();
+    listing.number(1000).signed(-5);
+    listing.group(2).number(1).number(3);
+    listing.octets(b"ab");
+    same("write_listing", book.write_listing(1, &listing).as_ref(), Ok(&expected))?;
+    let all = siphonbard::write_all(&octets, 1, listing.numbers(), listing.pool());
+    same("write_all", all.as_ref(), Ok(&expected))?;
+    let mut again = Listing::new();
+    for answer in book.list_all(&expected).map_err(|refused| refused.to_string())? {
+        again.record(answer, &expected);
+    }
+    same("read and written back", &again, &listing)?;
+    listing.null();
+    same("one record more", book.write_listing(1, &listing), Err(Refusal { number: 51, place: 6 }))
+}
+
+/// What is refused only by the writing, each in the place of M's data.
+fn unwritable() -> Result<(), String> {
+    let (octets, message) = (books::a(), messages::m());
+    let book = Book::checked(&octets).map_err(|refused| refused.to_string())?;
+    let (past, none) = (Answer::Octets { start: 31, len: 2 }, Answer::Octets { start: 33, len: 0 });
+    let wrapping = Answer::Octets { start: usize::MAX, len: 2 };
+    let answers = [(Answer::Absent, 51), (Answer::OutOfRange(7), 51), (past, 53), (none, 53), (wrapping, 53)];
+    for (answer, number) in answers {
+        let mut listing = Listing::new();
+        listing.number(1000).null().group(0).record(answer, &message);
+        same("write_listing", book.write_listing(1, &listing), Err(Refusal { number, place: 3 }))?;
+    }
+    Ok(())
+}
+
 fn words() -> Result<(), String> {
     let said = Refusal { number: 16, place: 28 }.to_string();
     same("16", said.as_str(), "refused 16 at octet 28: an element runs past the message's end")?;
     let unknown = Refusal { number: 99, place: 0 }.meaning();
-    let known = [1, 2, 3, 4, 5, 6, 10, 11, 12, 13, 14, 15, 16, 17, 18, 19, 20, 30, 31, 40];
-    let silent = known.iter().find(|&&number| Refusal { number, place: 0 }.meaning() == unknown);
+    let said = Refusal { number: 54, place: 2 }.to_string();
+    same("54", said.as_str(), "refused 54 at record 2: a group has over 65,534 entries")?;
+    let said = Refusal { number: 55, place: 0 }.to_string();
+    same("55", said.as_str(), "refused 55: the message is longer than the room or than 65,535 octets")?;
+    let mut known = (1..=6).chain(10..=20).chain([30, 31, 40]).chain(50..=55);
+    let silent = known.find(|&number| Refusal { number, place: 0 }.meaning() == unknown);
     same("a number without words", silent, None)
 }
 
@@ -67,6 +112,34 @@ fn odd_steps() -> Result<(), String> {
         let no = Err(Refusal { number: 30, place: 0 });
         same("siphonbard_place", raw::place(&octets, &message, steps, 0, 0), no)?;
         same("siphonbard_stream_place", raw::stream_place(&book, &message, steps, 0, 0), no)?;
+    }
+    Ok(())
+}
+
+/// Of a template without elements, whose listing and pool are empty.
+fn null_writing() -> Result<(), String> {
+    let octets = books::of(Block::default());
+    let book = Book::checked(&octets).map_err(|refused| refused.to_string())?;
+    let mut room = [0xff; 13];
+    let [free, stream] = raw::write_nothing(&book, &mut room);
+    same("both", &free, &stream)?;
+    same("written", free, Counted { number: 0, place: 0, count: 12 })?;
+    same("room", room, [0, 0, 1, 0, 7, 0, 0, 0, 0, 0, 0, 0, 0xff])?;
+    let [free, stream] = raw::write_nothing(&book, &mut []);
+    same("both", &free, &stream)?;
+    same("no room", free, Counted { number: 55, place: 0, count: 0 })
+}
+
+/// Also where their last 16 bits are a template's. A refusal has 0 for its count.
+fn wide_ids() -> Result<(), String> {
+    let octets = books::a();
+    let book = Book::checked(&octets).map_err(|refused| refused.to_string())?;
+    for (id, number, count) in [(1, 0, 32), (65537, 50, 0), ((1 << 32) + 1, 50, 0), ((1 << 63) + 1, 50, 0)] {
+        let mut room = [0xff; 32];
+        for counted in raw::write(&book, id, &draft_of_m(), &mut room) {
+            same("write", counted, Counted { number, place: 0, count })?;
+        }
+        same("room", room == [0xff; 32], number != 0)?;
     }
     Ok(())
 }

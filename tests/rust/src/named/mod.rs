@@ -1,17 +1,20 @@
-//! Cases with a name: those of the rules' own examples, and borders. Each is asked of the plain reader, of the
-//! library, and of the library with the book checked once.
+//! Cases with a name: those of the rules' own examples, and borders. Each is asked of the plain reader and writer, of
+//! the library, and of the library with the book checked once.
 
 mod books;
 mod calls;
 mod largest;
+mod longest;
 mod messages;
 mod readings;
+mod unwritten;
+mod writing;
 
-use crate::plain::{Place, Record, Refusal};
+use crate::plain::{Draft, Place, Record, Refusal};
 use crate::readers::{Free, Plain, Reader, Stream};
 use crate::report::{hex, same, Report};
 
-/// A book, a message (empty where only the book is asked about) and the right answer.
+/// A book, a message (empty where it is not asked about) and the right answer.
 pub struct Case {
     name: &'static str,
     book: Vec<u8>,
@@ -23,10 +26,12 @@ pub enum Expected {
     Book(Result<(), Refusal>),
     Listing(Result<Vec<Record>, Refusal>),
     Place(Place, Result<Record, Refusal>),
+    /// What is written into so many octets of room, and the message.
+    Written(Draft, usize, Result<Vec<u8>, Refusal>),
 }
 
 pub fn run(report: &mut Report) {
-    let cases = [books::cases(), messages::cases(), readings::cases()];
+    let cases = [books::cases(), messages::cases(), readings::cases(), writing::cases(), unwritten::cases()];
     for case in cases.iter().flatten() {
         let outcome = case.ask(&Plain).and_then(|()| case.ask(&Free)).and_then(|()| case.ask(&Stream));
         let input = || format!("{}, book {}, message {}", case.name, hex(&case.book), hex(&case.message));
@@ -34,7 +39,7 @@ pub fn run(report: &mut Report) {
             println!("ok {}", case.name);
         }
     }
-    let calls = calls::calls().into_iter().chain(largest::calls());
+    let calls = calls::calls().into_iter().chain(largest::calls()).chain(longest::calls());
     for (name, call) in calls {
         if report.check(call(), || name.into()) {
             println!("ok {name}");
@@ -44,6 +49,8 @@ pub fn run(report: &mut Report) {
 
 const PATTERN: u64 = 0x1122_3344_5566_7788;
 const ROOM: usize = 100;
+/// In the octets of a room.
+const ONES: u8 = 0xff;
 
 impl Case {
     fn ask(&self, reader: &dyn Reader) -> Result<(), String> {
@@ -51,6 +58,7 @@ impl Case {
         match &self.expected {
             Expected::Book(verdict) => same(name, reader.check_book(book), *verdict),
             Expected::Place(place, answer) => same(name, reader.place(book, message, place), *answer),
+            Expected::Written(draft, room, written) => self.write(reader, draft, *room, written),
             Expected::Listing(listing) => {
                 let mut room = [PATTERN; ROOM];
                 let listed = reader.list(book, message, &mut room).map(|count| count as usize);
@@ -63,6 +71,22 @@ impl Case {
                 same(name, reader.check(book, message), count.map(drop))
             }
         }
+    }
+
+    fn write(
+        &self,
+        reader: &dyn Reader,
+        draft: &Draft,
+        room: usize,
+        written: &Result<Vec<u8>, Refusal>,
+    ) -> Result<(), String> {
+        let (mut lent, mut left) = (vec![ONES; room], vec![ONES; room]);
+        if let Ok(message) = written {
+            left[..message.len()].copy_from_slice(message);
+        }
+        let length = written.as_ref().map(Vec::len).map_err(|refused| *refused);
+        same(reader.name(), reader.write(&self.book, draft, &mut lent), length)?;
+        same(reader.name(), hex(&lent), hex(&left))
     }
 }
 

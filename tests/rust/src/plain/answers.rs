@@ -8,7 +8,7 @@ const NULL: u64 = 1;
 const OCTETS: u64 = 2;
 const ABSENT: u64 = 3;
 const GROUP: u64 = 4;
-const OUT_OF_RANGE: u64 = 5;
+pub const OUT_OF_RANGE: u64 = 5;
 
 /// Steps (group, entry), then the kind of an element (0 field, 1 group, 2 data) and its number. All may be anything.
 #[derive(Clone, Debug, PartialEq, Eq)]
@@ -106,14 +106,14 @@ fn nth<T>(elements: &[T], number: u64) -> Option<&T> {
 impl Part {
     fn group(&self, number: usize) -> Record {
         match &self.groups[number] {
-            Some(entries) => [GROUP, entries.len() as u64, 0],
+            Some(entries) => [GROUP, entries.parts.len() as u64, 0],
             None => [ABSENT, 0, 0],
         }
     }
 
     /// None if the group is absent.
     pub fn entries(&self, number: usize) -> &[Part] {
-        self.groups[number].as_deref().unwrap_or(&[])
+        self.groups[number].as_ref().map_or(&[], |entries| &entries.parts)
     }
 
     fn data(&self, number: usize) -> Record {

@@ -13,8 +13,14 @@ pub struct Message<'a> {
 /// A block on the wire with what follows it: its start, and its block's groups and data, `None` where absent.
 pub struct Part {
     pub start: usize,
-    pub groups: Vec<Option<Vec<Part>>>,
+    pub groups: Vec<Option<Entries>>,
     pub data: Vec<Option<Octets>>,
+}
+
+/// A group on the wire: its dimension's block length, and its entries.
+pub struct Entries {
+    pub length: usize,
+    pub parts: Vec<Part>,
 }
 
 #[derive(Clone, Copy)]
@@ -117,13 +123,14 @@ impl Walk<'_> {
     }
 
     /// A known group: its dimension and the part of each entry.
-    fn entries(&mut self, block: &Block) -> Result<Vec<Part>, Refusal> {
+    fn entries(&mut self, block: &Block) -> Result<Entries, Refusal> {
         let place = self.at;
         let (length, entries) = self.dimension()?;
         if length < block.need(self.version) {
             return Err(refusal(18, place));
         }
-        (0..entries).map(|_| self.part(block, length, NO_SURPLUS)).collect()
+        let parts = (0..entries).map(|_| self.part(block, length, NO_SURPLUS)).collect::<Result<_, _>>()?;
+        Ok(Entries { length, parts })
     }
 
     /// Block length and entry count.

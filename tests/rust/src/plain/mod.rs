@@ -2,6 +2,7 @@
 //! library is compared with. Whatever is clear stands before what is fast.
 
 pub mod answers;
+pub mod as_written;
 pub mod book;
 pub mod extension;
 pub mod message;
@@ -12,6 +13,7 @@ pub mod writer;
 pub use answers::Place;
 pub use book::{Block, Book, Data, Field, Group, Template};
 pub use message::Message;
+pub use writer::Draft;
 
 /// A number and a place.
 #[derive(Clone, Copy, Debug, PartialEq, Eq)]

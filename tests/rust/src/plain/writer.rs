@@ -2,12 +2,29 @@
 
 use super::{refusal, Block, Book, Field, Record, Refusal, LONGEST};
 
+/// What a message is to be written from: a template id, a listing, and the pool that its starts refer to.
+#[derive(Clone, Debug)]
+pub struct Draft {
+    pub template: u16,
+    pub listing: Vec<u64>,
+    pub pool: Vec<u8>,
+}
+
 /// Writes at the room's start and gives the message's length. The room past it is unaltered, and all of it by a
 /// refusal.
-pub fn write(book: &Book, template: u16, listing: &[u64], pool: &[u8], room: &mut [u8]) -> Result<usize, Refusal> {
-    let block = &book.template(template).ok_or(refusal(50, 0))?.block;
+pub fn write(book: &Book, draft: &Draft, room: &mut [u8]) -> Result<usize, Refusal> {
+    let message = message(book, draft)?;
+    let part = room.get_mut(..message.len()).ok_or(refusal(55, 0))?;
+    part.copy_from_slice(&message);
+    Ok(message.len())
+}
+
+/// The message, where there is room enough.
+pub fn message(book: &Book, draft: &Draft) -> Result<Vec<u8>, Refusal> {
+    let Draft { template, listing, pool } = draft;
+    let block = &book.template(*template).ok_or(refusal(50, 0))?.block;
     let header =
-        [block.length, template, book.schema, book.version, block.groups.len() as u16, block.data.len() as u16];
+        [block.length, *template, book.schema, book.version, block.groups.len() as u16, block.data.len() as u16];
     let mut writer = Writer { listing, pool, record: 0, length: 0, message: Vec::new() };
     for number in header {
         writer.put(&number.to_le_bytes());
@@ -16,11 +33,10 @@ pub fn write(book: &Book, template: u16, listing: &[u64], pool: &[u8], room: &mu
     if writer.record * 3 < listing.len() {
         return Err(refusal(51, writer.record));
     }
-    if writer.length > room.len() || writer.length > LONGEST {
+    if writer.length > LONGEST {
         return Err(refusal(55, 0));
     }
-    room[..writer.length].copy_from_slice(&writer.message);
-    Ok(writer.length)
+    Ok(writer.message)
 }
 
 struct Writer<'a> {

@@ -3,6 +3,7 @@
 use super::places;
 use super::rng::Rng;
 use super::seen::Seen;
+use super::written;
 use crate::plain::{refusal, Book, Message, Place, Record, Refusal};
 use crate::readers::{own, stream_place, Free, Reader};
 use crate::report::same;
@@ -38,7 +39,11 @@ pub fn message(rng: &mut Rng, seen: &mut Seen, book: &BothBooks, octets: &[u8]) 
     asked.checks(seen)?;
     asked.measures()?;
     asked.lists(rng, seen)?;
-    asked.places(rng, seen)
+    asked.places(rng, seen)?;
+    match &asked.plain {
+        Ok(message) => written::back(rng, seen, book, message),
+        Err(_) => Ok(()),
+    }
 }
 
 struct Asked<'a> {

@@ -1,7 +1,8 @@
 //! Random messages: some by the plain writer from random listings, some with all the freedom that the wire has.
 
+use super::listings::{self, entries, number};
 use super::rng::Rng;
-use crate::plain::{types::Type, writer, Block, Book, Field, Template};
+use crate::plain::{writer, Block, Book, Field, Template};
 
 /// A whole message for one of the book's templates.
 pub fn message(rng: &mut Rng, book: &Book) -> Vec<u8> {
@@ -19,54 +20,16 @@ pub fn message(rng: &mut Rng, book: &Book) -> Vec<u8> {
     wire.message
 }
 
-const ROOM: usize = 8192;
+/// Longer ones take the time of many.
+const LONG: usize = 8192;
 
-/// By the plain writer, from a random listing; nothing where the room is too small.
+/// By the plain writer, from a random listing; nothing where it would be long.
 fn written(rng: &mut Rng, book: &Book, template: &Template) -> Vec<u8> {
-    let pool = rng.octets(1100);
-    let mut listing = Vec::new();
-    list(rng, &template.block, &mut listing);
-    let mut room = vec![0; ROOM];
-    let length = writer::write(book, template.id, &listing, &pool, &mut room).unwrap_or_else(|refused| {
-        assert_eq!(refused.number, 55, "the listing holds");
-        0
-    });
-    room.truncate(length);
-    room
-}
-
-fn list(rng: &mut Rng, block: &Block, listing: &mut Vec<u64>) {
-    for field in &block.fields {
-        listing.extend(match field.is_array() {
-            true => [2, rng.below(50) as u64, u64::from(field.length)],
-            false if field.is_optional() && rng.chance(30) => [1, 0, 0],
-            false => [0, number(rng, field.kind()) as u64, 0],
-        });
+    match writer::message(book, &listings::whole(rng, template)) {
+        Ok(message) if message.len() <= LONG => message,
+        Err(refused) if refused.number != 55 => panic!("the listing holds, and is refused by {refused:?}"),
+        _ => Vec::new(),
     }
-    for group in &block.groups {
-        let entries = entries(rng);
-        listing.extend([4, entries, 0]);
-        for _ in 0..entries {
-            list(rng, &group.block, listing);
-        }
-    }
-    for _ in &block.data {
-        listing.extend([2, rng.below(50) as u64, rng.below(7) as u64]);
-    }
-}
-
-/// In the type's range; its ends come often.
-fn number(rng: &mut Rng, kind: &Type) -> i128 {
-    let range = (kind.greatest - kind.least) as u64;
-    match rng.below(8) {
-        0 => kind.least,
-        1 => kind.greatest,
-        _ => kind.least + i128::from(rng.next() % range),
-    }
-}
-
-fn entries(rng: &mut Rng) -> u64 {
-    rng.pick(&[0, 0, 1, 1, 1, 2, 2, 3])
 }
 
 /// A message of any version: longer blocks than declared, padding that is not zero, values out of range, and groups

@@ -1,16 +1,19 @@
-//! Random books and messages, whole and damaged, by the library and by the plain reader.
+//! Random books, messages and listings, whole and damaged, by the library and by the plain reader and writer.
 
 mod books;
 mod borders;
 mod compare;
 mod damage;
+mod faults;
+mod listings;
 mod messages;
 mod places;
 mod rng;
 mod seen;
 mod two_books;
+mod written;
 
-use crate::plain::{extension::extends, Book};
+use crate::plain::{extension::extends, Book, Draft};
 use crate::report::{hex, same, Report};
 use compare::BothBooks;
 use rng::Rng;
@@ -19,16 +22,18 @@ use two_books::{Agreed, Pair};
 
 /// Messages for each pair of books.
 const MESSAGES: usize = 20;
+/// Listings for each of them.
+const LISTINGS: usize = 3;
 
-/// Compares so many messages, and a book or three for each twenty of them.
+/// Compares so many messages, and a book or three and some listings for each twenty of them.
 pub fn run(report: &mut Report, seed: u64, messages: u64) {
     let (seen, agreed) = (Seen::nothing(), Agreed::default());
-    let mut run = Run { rng: Rng::new(seed), seen, agreed, report, seed, compared: 0 };
+    let mut run = Run { rng: Rng::new(seed), seen, agreed, report, seed, compared: 0, drafts: 0 };
     while run.compared < messages {
         run.round();
     }
-    let Run { seen, agreed, compared, report, .. } = run;
-    println!("random: seed {seed}, {compared} messages compared; the library answered");
+    let Run { seen, agreed, compared, drafts, report, .. } = run;
+    println!("random: seed {seed}, {compared} messages and {drafts} listings compared; the library answered");
     seen.report(report);
     println!("two books: {} messages, {} accepted, {} not later", agreed.messages, agreed.accepted, agreed.not_later);
     let spoken_of = agreed.accepted > 0 && agreed.not_later > 0;
@@ -42,6 +47,7 @@ struct Run<'a> {
     report: &'a mut Report,
     seed: u64,
     compared: u64,
+    drafts: u64,
 }
 
 impl Run<'_> {
@@ -66,6 +72,8 @@ impl Run<'_> {
                 self.report.check(outcome, || format!("seed {}, {}, message {}", self.seed, books(), hex(&octets)));
             }
         }
+        self.listings(&older, &old_both, LISTINGS);
+        self.listings(&newer, &new_both, LISTINGS);
         self.damaged(&newer);
     }
 
@@ -79,6 +87,19 @@ impl Run<'_> {
         for _ in 0..2 {
             let octets = self.made(both.plain.as_ref().unwrap_or(book));
             self.message(&both, &octets);
+        }
+        self.listings(both.plain.as_ref().unwrap_or(book), &both, 1);
+    }
+
+    /// Listings made for a book and written by one that may be another.
+    fn listings(&mut self, made_for: &Book, written_by: &BothBooks, count: usize) {
+        for _ in 0..count {
+            self.drafts += 1;
+            let draft = listings::draft(&mut self.rng, made_for);
+            let outcome = written::draft(&mut self.rng, &mut self.seen, written_by, &draft);
+            let (seed, Draft { template, listing, pool }) = (self.seed, &draft);
+            let from = || format!("template {template}, listing {listing:?}, pool {}", hex(pool));
+            self.report.check(outcome, || format!("seed {seed}, book {}, {}", hex(written_by.octets), from()));
         }
     }
 

@@ -3,22 +3,33 @@
 use crate::plain::Refusal;
 use crate::report::Report;
 
-const REFUSALS: [(&str, &[usize]); 4] = [
+const REFUSALS: [(&str, &[usize]); 5] = [
     ("books", &[1, 2, 3, 4, 5, 6]),
     ("messages", &[10, 11, 12, 13, 14, 15, 16, 17, 18, 19, 20]),
     ("places", &[30, 31]),
     ("rooms", &[40]),
+    ("writing", &[50, 51, 52, 53, 54, 55]),
 ];
 const KINDS: [&str; 6] = ["number", "null", "octets", "absent", "group", "out of range"];
 
 pub struct Seen {
-    refusals: [u64; 41],
+    refusals: [u64; 56],
     kinds: [u64; 6],
+    pub trips: Trips,
+}
+
+/// How many messages were written and read back, read and written back to what they were, and read and not written
+/// back so, for they are not as the book's writer has them.
+#[derive(Default)]
+pub struct Trips {
+    pub read_back: u64,
+    pub written_back: u64,
+    pub not_so: u64,
 }
 
 impl Seen {
     pub fn nothing() -> Seen {
-        Seen { refusals: [0; 41], kinds: [0; 6] }
+        Seen { refusals: [0; 56], kinds: [0; 6], trips: Trips::default() }
     }
 
     /// Counts a refusal by its number.
@@ -40,6 +51,9 @@ impl Seen {
         }
         let counts = KINDS.iter().zip(self.kinds).map(|(name, count)| (name.to_string(), count));
         print(report, "answers", counts.collect());
+        let Trips { read_back, written_back, not_so } = self.trips;
+        let trips = [("written and read back", read_back), ("read and written back", written_back), ("not so", not_so)];
+        print(report, "round trips", trips.iter().map(|&(name, count)| (name.to_string(), count)).collect());
     }
 }
 

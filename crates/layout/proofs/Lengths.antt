@@ -8,23 +8,24 @@ use native.Mathlib.Omega.{arith}
 use lib.Dec.{eqb}
 use lib.ListN.{drop, length, length-append, length-drop, length-replicate, replicate, take}
 use lib.Seq.{length-take-le}
 use Rattle.layout.specs.Result.{Result, done, if_then_else_}
 use Rattle.layout.specs.Octets.{octetsOf}
 use Rattle.layout.specs.Types.{typeAt}
-use Rattle.layout.specs.Book.{Book, Data, Field, Groups, Shape, Template, end, groupSinces, isArray, more, none, size}
+use Rattle.layout.specs.Book.{Book, Data, Field, Groups, Shape, Template, end, groupSinces, isArray, more, none}
+use Rattle.layout.specs.Book.{size}
 use Rattle.layout.specs.BookRules.{fieldsGood, groupsGood, layoutGood, lengthGood}
 use Rattle.layout.specs.Values.{Values, entry, group, nil}
 use Rattle.layout.specs.Message.{Entry}
 use Rattle.layout.specs.Writing.{blockOctets, dataOctets, datasLength, entriesIn, fieldOctets, first, judgeBlock}
 use Rattle.layout.specs.Writing.{judgeData, judgeDatas, judgeEntries, judgeField, judgeFields, judgeGroups}
 use Rattle.layout.specs.Writing.{judgeListing, messageOctets, numbers16, rowLength, rowOctets, second, spanOctets}
 use Rattle.layout.specs.Writing.{spanOf, third, writtenLength}
-use Rattle.demands.proofs.Said.{array-said, data-said, number-said}
+use Rattle.layout.proofs.Said.{array-said, data-said, number-said}
 use Rattle.layout.proofs.Fields.{field-good, size-array, size-plain}
 use Rattle.layout.proofs.Results.{and-left, and-right, done-inj, inv-bind}
 use Rattle.layout.proofs.Stands.{length-numbers, length-octets}
 use Rattle.layout.specs.declared.Answer.{Answer}
 use Rattle.layout.specs.declared.Answer.the-variants.{Null, Number, Octets}
 
 pub span-long : (pool : List ℕ) (start len : ℕ) → start + len ≤ length pool → length (take len (drop start pool)) ≡ len
 span-long pool start len h = length-take-le len (drop start pool) (rw length-drop (omega arith))
