@@ -1,21 +1,23 @@
-//! The exports for a place and for writing, declared again from `include/siphonbard.h`: for what the safe crate cannot
-//! say, such as an unknown kind, an odd number of numbers for the steps, a template id over 65535, or a null pointer.
+//! The exports, declared again from `include/siphonbard.h`: for what the safe crate cannot say, such as an unknown
+//! kind, an odd number of numbers for the steps, a template id over 65535, a null pointer, or a room that is not set.
 
 use crate::plain::Draft;
 use siphonbard::{Answer, Book, Refusal};
 use std::ptr;
 
 #[repr(C)]
+#[derive(Debug, PartialEq, Eq)]
 pub struct Checked {
     pub number: u64,
     pub place: u64,
 }
 
 #[repr(C)]
+#[derive(Debug, PartialEq, Eq)]
 pub struct Found {
-    number: u64,
-    place: u64,
-    record: [u64; 3],
+    pub number: u64,
+    pub place: u64,
+    pub record: [u64; 3],
 }
 
 #[repr(C)]
@@ -27,13 +29,35 @@ pub struct Counted {
 }
 
 type Octets = *const u8;
-type Write = unsafe extern "C" fn(Octets, usize, u64, *const u64, usize, Octets, usize, *mut u8, usize) -> Counted;
-type Place = unsafe extern "C" fn(Octets, usize, Octets, usize, *const u64, usize, u64, u64) -> Found;
+pub type Check = unsafe extern "C" fn(Octets, usize, Octets, usize) -> Checked;
+pub type Measure = unsafe extern "C" fn(Octets, usize, Octets, usize) -> Counted;
+pub type List = unsafe extern "C" fn(Octets, usize, Octets, usize, *mut u64, usize) -> Counted;
+pub type Place = unsafe extern "C" fn(Octets, usize, Octets, usize, *const u64, usize, u64, u64) -> Found;
+pub type Write = unsafe extern "C" fn(Octets, usize, u64, *const u64, usize, Octets, usize, *mut u8, usize) -> Counted;
 
 extern "C" {
-    fn siphonbard_check_book(book: Octets, book_len: usize) -> Checked;
-    fn siphonbard_check(book: Octets, book_len: usize, message: Octets, message_len: usize) -> Checked;
-    fn siphonbard_place(
+    pub fn siphonbard_check_book(book: Octets, book_len: usize) -> Checked;
+    pub fn siphonbard_check(book: Octets, book_len: usize, message: Octets, message_len: usize) -> Checked;
+    pub fn siphonbard_stream_check(book: Octets, book_len: usize, message: Octets, message_len: usize) -> Checked;
+    pub fn siphonbard_measure(book: Octets, book_len: usize, message: Octets, message_len: usize) -> Counted;
+    pub fn siphonbard_stream_measure(book: Octets, book_len: usize, message: Octets, message_len: usize) -> Counted;
+    pub fn siphonbard_list(
+        book: Octets,
+        book_len: usize,
+        message: Octets,
+        message_len: usize,
+        room: *mut u64,
+        room_len: usize,
+    ) -> Counted;
+    pub fn siphonbard_stream_list(
+        book: Octets,
+        book_len: usize,
+        message: Octets,
+        message_len: usize,
+        room: *mut u64,
+        room_len: usize,
+    ) -> Counted;
+    pub fn siphonbard_place(
         book: Octets,
         book_len: usize,
         message: Octets,
@@ -43,7 +67,7 @@ extern "C" {
         kind: u64,
         element: u64,
     ) -> Found;
-    fn siphonbard_stream_place(
+    pub fn siphonbard_stream_place(
         book: Octets,
         book_len: usize,
         message: Octets,
@@ -53,7 +77,7 @@ extern "C" {
         kind: u64,
         element: u64,
     ) -> Found;
-    fn siphonbard_write(
+    pub fn siphonbard_write(
         book: Octets,
         book_len: usize,
         template_id: u64,
@@ -64,7 +88,7 @@ extern "C" {
         room: *mut u8,
         room_len: usize,
     ) -> Counted;
-    fn siphonbard_stream_write(
+    pub fn siphonbard_stream_write(
         book: Octets,
         book_len: usize,
         template_id: u64,

@@ -18,21 +18,22 @@ use crate::report::{hex, same, Report};
 const CASES: &[u8] = include_bytes!("../../cases/base.cases");
 const EXPECTED: &str = include_str!("../../cases/base.expected");
 
-const WRITE: u8 = 3;
+pub const PLACE: u8 = 2;
+pub const WRITE: u8 = 3;
 /// The room of a listing, in numbers: the program's.
 const ROOM: usize = 6000;
 /// More octets of room than this make no difference to a message.
 const ENOUGH: usize = 65536;
 const PATTERN: u64 = 0xa5a5_5a5a_c3c3_3c3c;
 
-struct Case<'a> {
+pub struct Case<'a> {
     number: usize,
-    call: u8,
-    input: &'a [u8],
+    pub call: u8,
+    pub input: &'a [u8],
     expected: &'a str,
 }
 
-fn cases() -> Vec<Case<'static>> {
+pub fn cases() -> Vec<Case<'static>> {
     let (mut rest, mut cases) = (CASES, Vec::new());
     for (number, line) in EXPECTED.lines().enumerate() {
         let length = u32::from_le_bytes([rest[1], rest[2], rest[3], rest[4]]) as usize;
@@ -71,13 +72,13 @@ impl Case<'_> {
 }
 
 /// The next so many octets; fewer where the input ends.
-fn take<'a>(rest: &mut &'a [u8], count: usize) -> &'a [u8] {
+pub fn take<'a>(rest: &mut &'a [u8], count: usize) -> &'a [u8] {
     let (taken, left) = rest.split_at(count.min(rest.len()));
     *rest = left;
     taken
 }
 
-fn number(rest: &mut &[u8], octets: usize) -> u64 {
+pub fn number(rest: &mut &[u8], octets: usize) -> u64 {
     take(rest, octets).iter().rev().fold(0, |value, &octet| value << 8 | u64::from(octet))
 }
 
@@ -91,6 +92,21 @@ fn book<'a>(rest: &mut &'a [u8]) -> Result<&'a [u8], Refusal> {
         count if count > 8192 => Err(refusal(1, 0)),
         count => Ok(take(rest, count)),
     }
+}
+
+/// The place that is asked for.
+pub fn place_asked(input: &mut &[u8]) -> Place {
+    let count = number(input, 1);
+    let steps = (0..count).map(|_| (number(input, 2), number(input, 2))).collect();
+    Place { steps, kind: number(input, 1), element: number(input, 2) }
+}
+
+/// What is to be written, and the octets of room for it.
+pub fn draft_asked(mut input: &[u8]) -> (Draft, usize) {
+    let template = number(&mut input, 2) as u16;
+    let (room, count) = (number(&mut input, 4) as usize, number(&mut input, 4));
+    let listing = (0..count).map(|_| number(&mut input, 8)).collect();
+    (Draft { template, listing, pool: input.to_vec() }, room.min(ENOUGH))
 }
 
 fn line(record: &[u64]) -> String {
@@ -115,20 +131,15 @@ fn measure(mut input: &[u8], reader: &dyn Reader) -> Result<String, Refusal> {
 
 fn place(mut input: &[u8], reader: &dyn Reader) -> Result<String, Refusal> {
     let book = book(&mut input)?;
-    let count = number(&mut input, 1);
-    let steps = (0..count).map(|_| (number(&mut input, 2), number(&mut input, 2))).collect();
-    let place = Place { steps, kind: number(&mut input, 1), element: number(&mut input, 2) };
+    let place = place_asked(&mut input);
     let found: Record = reader.place(book, input, &place)?;
     Ok(line(&found))
 }
 
 fn write(mut input: &[u8], reader: &dyn Reader) -> Result<String, Refusal> {
     let book = book(&mut input)?;
-    let template = number(&mut input, 2) as u16;
-    let (room, count) = (number(&mut input, 4) as usize, number(&mut input, 4));
-    let listing = (0..count).map(|_| number(&mut input, 8)).collect();
-    let draft = Draft { template, listing, pool: input.to_vec() };
-    let mut room = lent(room.min(ENOUGH));
+    let (draft, octets) = draft_asked(input);
+    let mut room = lent(octets);
     let outcome = reader.write(book, &draft, &mut room);
     let used = outcome.unwrap_or(0);
     if room[used..] != lent(room.len())[used..] {

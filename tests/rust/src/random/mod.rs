@@ -1,14 +1,14 @@
 //! Random books, messages and listings, whole and damaged, by the library and by the plain reader and writer.
 
-mod books;
-mod borders;
+pub mod books;
+pub mod borders;
 mod compare;
-mod damage;
-mod faults;
-mod listings;
-mod messages;
-mod places;
-mod rng;
+pub mod damage;
+pub mod faults;
+pub mod listings;
+pub mod messages;
+pub mod places;
+pub mod rng;
 mod seen;
 mod two_books;
 mod written;

@@ -1,0 +1,139 @@
+//! The book in flat tables, and what a message's version has of a block.
+
+use super::numbers::Field;
+use crate::plain;
+
+pub struct Book {
+    pub schema: u16,
+    pub version: u16,
+    /// The templates' ids. They rise.
+    ids: Vec<u16>,
+    /// The templates' own, in the order of their ids; then those of groups, a block's groups side by side.
+    blocks: Vec<Block>,
+    fields: Vec<Field>,
+    /// The sinces of data.
+    data: Vec<u16>,
+}
+
+#[derive(Clone, Copy, Default)]
+pub struct Block {
+    pub length: usize,
+    /// That of the group whose block it is.
+    pub since: u16,
+    /// Has neither groups nor data, so that entries follow each other at the block's length.
+    pub leaf: bool,
+    /// The need at the book's own version.
+    need: usize,
+    fields: Span,
+    groups: Span,
+    data: Span,
+}
+
+/// Part of a table.
+#[derive(Clone, Copy, Default)]
+struct Span {
+    first: usize,
+    end: usize,
+}
+
+impl Span {
+    fn of<T>(self, table: &[T]) -> &[T] {
+        &table[self.first..self.end]
+    }
+}
+
+impl Book {
+    /// Of a book that was accepted.
+    pub fn compiled(tree: &plain::Book) -> Book {
+        let ids: Vec<u16> = tree.templates.iter().map(|template| template.id).collect();
+        let blocks = vec![Block::default(); ids.len()];
+        let mut book =
+            Book { schema: tree.schema, version: tree.version, ids, blocks, fields: Vec::new(), data: Vec::new() };
+        for (number, template) in tree.templates.iter().enumerate() {
+            book.compile(number, &template.block, 0);
+        }
+        book
+    }
+
+    fn compile(&mut self, number: usize, tree: &plain::Block, since: u16) {
+        let (fields, data, groups) = (self.fields.len(), self.data.len(), self.blocks.len());
+        self.fields.extend(tree.fields.iter().map(Field::compiled));
+        self.data.extend(tree.data.iter().map(|data| data.since));
+        self.blocks.resize(groups + tree.groups.len(), Block::default());
+        self.blocks[number] = Block {
+            length: tree.length.into(),
+            since,
+            leaf: tree.groups.is_empty() && tree.data.is_empty(),
+            need: tree.fields.last().map_or(0, plain::Field::end),
+            fields: Span { first: fields, end: self.fields.len() },
+            groups: Span { first: groups, end: self.blocks.len() },
+            data: Span { first: data, end: self.data.len() },
+        };
+        for (at, group) in tree.groups.iter().enumerate() {
+            self.compile(groups + at, &group.block, group.since);
+        }
+    }
+
+    pub fn template(&self, id: u16) -> Option<&Block> {
+        self.ids.binary_search(&id).ok().map(|number| &self.blocks[number])
+    }
+
+    pub fn fields(&self, block: &Block) -> &[Field] {
+        block.fields.of(&self.fields)
+    }
+
+    pub fn groups(&self, block: &Block) -> &[Block] {
+        block.groups.of(&self.blocks)
+    }
+
+    pub fn data(&self, block: &Block) -> &[u16] {
+        block.data.of(&self.data)
+    }
+}
+
+/// A book as a version has it. Sinces never fall, so that what is present comes first.
+#[derive(Clone, Copy)]
+pub struct View<'a> {
+    pub book: &'a Book,
+    version: u16,
+    /// Nothing in the book is younger.
+    whole: bool,
+}
+
+impl<'a> View<'a> {
+    pub fn new(book: &'a Book, version: u16) -> View<'a> {
+        View { book, version, whole: version >= book.version }
+    }
+
+    pub fn fields(&self, block: &Block) -> &'a [Field] {
+        let fields = self.book.fields(block);
+        if self.whole {
+            return fields;
+        }
+        &fields[..fields.partition_point(|field| field.since <= self.version)]
+    }
+
+    pub fn groups(&self, block: &Block) -> &'a [Block] {
+        let groups = self.book.groups(block);
+        if self.whole {
+            return groups;
+        }
+        &groups[..groups.partition_point(|group| group.since <= self.version)]
+    }
+
+    /// How many.
+    pub fn data(&self, block: &Block) -> usize {
+        let data = self.book.data(block);
+        if self.whole {
+            return data.len();
+        }
+        data.partition_point(|&since| since <= self.version)
+    }
+
+    pub fn need(&self, block: &Block) -> usize {
+        if self.whole {
+            return block.need;
+        }
+        self.fields(block).last().map_or(0, Field::end)
+    }
+}

@@ -1,0 +1,117 @@
+//! The listing of a message that was checked and counted.
+
+use super::book::{Block, Book, View};
+use super::check::Root;
+use super::numbers::Field;
+use super::{refusal, Record, Refusal, ABSENT, GROUP, HEADER, OCTETS};
+use std::mem;
+
+impl Book {
+    /// Lists the message into the room, three numbers a record, and gives how many records there are.
+    pub fn list(&self, message: &[u8], room: &mut [u64]) -> Result<usize, Refusal> {
+        let root = Root::read(self, message)?;
+        let records = root.records(message)?;
+        let room = room.get_mut(..3 * records).ok_or_else(|| refusal(40, 0))?;
+        let mut store = Store { view: root.view, message, at: HEADER, room };
+        store.block(root.block, root.length);
+        store.groups(root.block);
+        for _ in 0..root.surplus_groups {
+            let (length, entries) = store.dimension();
+            store.at += length * entries;
+        }
+        store.data(root.block);
+        Ok(records)
+    }
+}
+
+struct Store<'a> {
+    view: View<'a>,
+    message: &'a [u8],
+    at: usize,
+    /// For the records that are still to come.
+    room: &'a mut [u64],
+}
+
+impl<'a> Store<'a> {
+    fn take(&mut self, records: usize) -> &'a mut [u64] {
+        let (taken, left) = mem::take(&mut self.room).split_at_mut(3 * records);
+        self.room = left;
+        taken
+    }
+
+    fn put(&mut self, record: Record) {
+        self.take(1).copy_from_slice(&record);
+    }
+
+    fn block(&mut self, block: &Block, length: usize) {
+        let room = self.take(self.view.book.fields(block).len());
+        fields(self.view.fields(block), self.message, self.at, room);
+        self.at += length;
+    }
+
+    fn groups(&mut self, block: &Block) {
+        let present = self.view.groups(block);
+        for group in present {
+            self.group(group);
+        }
+        for _ in present.len()..self.view.book.groups(block).len() {
+            self.put([ABSENT, 0, 0]);
+        }
+    }
+
+    fn group(&mut self, block: &Block) {
+        let (length, entries) = self.dimension();
+        self.put([GROUP, entries as u64, 0]);
+        if block.leaf {
+            return self.leaves(block, length, entries);
+        }
+        for _ in 0..entries {
+            self.block(block, length);
+            self.groups(block);
+            self.data(block);
+        }
+    }
+
+    fn leaves(&mut self, block: &Block, length: usize, entries: usize) {
+        let count = self.view.book.fields(block).len();
+        let present = self.view.fields(block);
+        for room in self.take(count * entries).chunks_exact_mut(3 * count) {
+            fields(present, self.message, self.at, room);
+            self.at += length;
+        }
+    }
+
+    fn data(&mut self, block: &Block) {
+        let present = self.view.data(block);
+        for _ in 0..present {
+            let (start, length) = (self.at + 2, self.word(self.at));
+            self.put([OCTETS, start as u64, length as u64]);
+            self.at = start + length;
+        }
+        for _ in present..self.view.book.data(block).len() {
+            self.put([ABSENT, 0, 0]);
+        }
+    }
+
+    fn dimension(&mut self) -> (usize, usize) {
+        let at = self.at;
+        self.at += 4;
+        (self.word(at), self.word(at + 2))
+    }
+
+    fn word(&self, at: usize) -> usize {
+        u16::from_le_bytes([self.message[at], self.message[at + 1]]).into()
+    }
+}
+
+/// The records of a block's fields: those that are present, and absent ones in the room that is left.
+#[inline]
+fn fields(present: &[Field], message: &[u8], start: usize, room: &mut [u64]) {
+    let mut records = room.chunks_exact_mut(3);
+    for (field, record) in present.iter().zip(&mut records) {
+        record.copy_from_slice(&field.read(message, start));
+    }
+    for record in records {
+        record.copy_from_slice(&[ABSENT, 0, 0]);
+    }
+}

@@ -1,0 +1,135 @@
+//! Times the library beside the plain reader and writer of its tests, lean ones that are made for speed, and a copy of
+//! the message's octets. The arguments are how many rounds there are to be and the one workload to run.
+
+mod agree;
+mod lean;
+#[path = "../../tests/rust/src/plain/mod.rs"]
+#[allow(dead_code)]
+mod plain;
+mod rivals;
+#[path = "../../tests/rust/src/random/rng.rs"]
+#[allow(dead_code)]
+mod rng;
+mod tables;
+mod timing;
+mod workloads;
+
+use rivals::Rival;
+use tables::Compared;
+use timing::{medians, Contender};
+use workloads::{Entry, Workload, ALL, SIZES};
+
+const ROUNDS: usize = 151;
+/// A round of the stream is long by itself: it has one of so many rounds, but five at least.
+const FEWER: usize = 10;
+const FEWEST: usize = 5;
+
+/// The name by which the growth is chosen.
+const GROWTH: &str = "growth";
+
+#[derive(Clone, Copy, PartialEq)]
+pub enum Operation {
+    Check,
+    Measure,
+    List,
+    Place,
+    Write,
+}
+
+const OPERATIONS: [Operation; 5] =
+    [Operation::Check, Operation::Measure, Operation::List, Operation::Place, Operation::Write];
+
+impl Operation {
+    pub fn name(self) -> &'static str {
+        match self {
+            Operation::Check => "check",
+            Operation::Measure => "measure",
+            Operation::List => "list",
+            Operation::Place => "place",
+            Operation::Write => "write",
+        }
+    }
+}
+
+fn main() {
+    let mut words = std::env::args().skip(1);
+    let rounds: usize = words.next().map_or(ROUNDS, |word| word.parse().expect("a number of rounds"));
+    let only = words.next();
+    let chosen = |name: &str| only.as_deref().map_or(true, |only| only == name);
+    let entries: Vec<&Entry> = ALL.iter().filter(|(name, ..)| chosen(name)).collect();
+    assert!(!entries.is_empty() || chosen(GROWTH), "no such workload");
+    tables::head(rounds, fewer(rounds));
+    if !entries.is_empty() {
+        let compared: Vec<Compared> = entries.into_iter().map(|entry| compare(entry, rounds)).collect();
+        tables::workloads(&compared);
+        tables::times(&compared);
+    }
+    if chosen(GROWTH) {
+        growth(rounds);
+    }
+}
+
+fn fewer(rounds: usize) -> usize {
+    (rounds / FEWER).max(FEWEST)
+}
+
+/// Times every operation, once the rivals agree.
+fn compare(&(name, what, make): &Entry, rounds: usize) -> Compared {
+    let workload = &make();
+    let library = siphonbard::Book::checked(&workload.book).expect("a book");
+    let plain = plain::Book::read(&workload.book).expect("a book");
+    let lean = lean::Book::compiled(&plain);
+    agree::agree(&library, &plain, workload);
+    agree::agree(&library, &lean, workload);
+    let rounds = if workload.counts().messages == 1 { rounds } else { fewer(rounds) };
+    let mut rooms = workload.rooms();
+    let time = |operation| {
+        let mut contenders = [
+            contender(&library, workload, operation),
+            contender(&plain, workload, operation),
+            contender(&lean, workload, operation),
+            copying(workload, operation),
+        ];
+        (operation, medians(&mut contenders, &mut rooms, rounds))
+    };
+    let times = OPERATIONS.iter().copied().map(time).collect();
+    Compared { name, what, counts: workload.counts(), drafted: workload.drafted(), times }
+}
+
+fn contender<'a, R: Rival>(rival: &'a R, workload: &'a Workload, operation: Operation) -> Contender<'a> {
+    let samples = workload.samples();
+    match operation {
+        Operation::Check => Contender::new(samples, move |sample, _| rival.check(sample.octets)),
+        Operation::Measure => Contender::new(samples, move |sample, _| rival.measure(sample.octets)),
+        Operation::List => Contender::new(samples, move |sample, rooms| rival.list(sample.octets, &mut rooms.numbers)),
+        Operation::Place => Contender::new(samples, move |sample, _| rival.place(sample.octets, sample.asked)),
+        Operation::Write => {
+            let drafts = workload.drafts.iter().collect();
+            Contender::new(drafts, move |draft, rooms| rival.write(draft, &mut rooms.octets))
+        }
+    }
+}
+
+/// The floor: the octets of the same messages are copied.
+fn copying(workload: &Workload, operation: Operation) -> Contender<'_> {
+    let messages: Vec<&[u8]> = match operation {
+        Operation::Write => workload.drafts.iter().map(|draft| &draft.pool[..]).collect(),
+        _ => workload.samples().iter().map(|sample| sample.octets).collect(),
+    };
+    Contender::new(messages, |message, rooms| rooms.octets[..message.len()].copy_from_slice(message))
+}
+
+/// The library alone, on messages of one shape that grow.
+fn growth(rounds: usize) {
+    let workloads: Vec<Workload> = SIZES.iter().map(|&kib| workloads::of_size(kib)).collect();
+    let books = workloads.iter().map(|workload| siphonbard::Book::checked(&workload.book).expect("a book"));
+    let books: Vec<siphonbard::Book> = books.collect();
+    let mut rooms = workloads[workloads.len() - 1].rooms();
+    let time = |operation| {
+        let pairs = books.iter().zip(&workloads);
+        let mut contenders: Vec<_> = pairs.map(|(book, workload)| contender(book, workload, operation)).collect();
+        medians(&mut contenders, &mut rooms, rounds)
+    };
+    let columns: Vec<Vec<f64>> = tables::GROWING.iter().copied().map(time).collect();
+    tables::growth(&workloads, &columns);
+}

@@ -1,0 +1,83 @@
+//! The tables, in Markdown.
+
+use crate::workloads::{Counts, Workload, SIZES};
+use crate::Operation;
+
+/// A workload, and what each operation takes on it.
+pub struct Compared {
+    pub name: &'static str,
+    pub what: &'static str,
+    pub counts: Counts,
+    /// Of what is written.
+    pub drafted: Counts,
+    /// Nanoseconds per message of the library, the plain and the lean rival, and a copy.
+    pub times: Vec<(Operation, Vec<f64>)>,
+}
+
+/// How it is timed.
+pub fn head(rounds: usize, stream_rounds: usize) {
+    let processor = std::env::consts::ARCH;
+    println!("Medians of {rounds} interleaved rounds ({stream_rounds} of the stream), {processor}.");
+    println!();
+}
+
+/// What the workloads are.
+pub fn workloads(all: &[Compared]) {
+    println!("| Workload | Messages | Octets | Records | What it is |");
+    println!("|---|--:|--:|--:|---|");
+    for Compared { name, what, counts, .. } in all {
+        println!("| {name} | {} | {} | {} | {what} |", counts.messages, counts.octets, counts.records);
+    }
+    println!();
+}
+
+/// Nanoseconds per message and per record, and how many times as long as the library the rivals take.
+pub fn times(all: &[Compared]) {
+    println!("Nanoseconds per message, and per record in brackets.");
+    println!();
+    println!("| Workload | Operation | library | plain | lean | copy | plain / library | lean / library |");
+    println!("|---|---|--:|--:|--:|--:|--:|--:|");
+    for compared in all {
+        for (operation, times) in &compared.times {
+            let counts = if *operation == Operation::Write { compared.drafted } else { compared.counts };
+            let records = counts.records as f64 / counts.messages as f64;
+            let cells: Vec<String> = times.iter().map(|&time| cell(time, records)).collect();
+            let (plain, lean) = (digits(times[1] / times[0]), digits(times[2] / times[0]));
+            println!("| {} | {} | {} | {plain} | {lean} |", compared.name, operation.name(), cells.join(" | "));
+        }
+    }
+    println!();
+}
+
+/// A time, and each of so many's part of it.
+fn cell(time: f64, parts: f64) -> String {
+    format!("{} ({})", digits(time), digits(time / parts))
+}
+
+/// Three digits, leading zeros aside, or all before the point.
+fn digits(number: f64) -> String {
+    let places = (2.0 - number.log10().floor()).max(0.0) as usize;
+    format!("{number:.places$}")
+}
+
+/// The operations whose growth is shown.
+pub const GROWING: [Operation; 4] = [Operation::List, Operation::Measure, Operation::Write, Operation::Place];
+
+/// The library's nanoseconds per message and per octet: a column of times for each operation.
+pub fn growth(workloads: &[Workload], columns: &[Vec<f64>]) {
+    let octets: Vec<usize> = workloads.iter().map(|workload| workload.counts().octets).collect();
+    let names: Vec<&str> = GROWING.iter().map(|operation| operation.name()).collect();
+    println!("The library on M's shape: nanoseconds per message, and per octet in brackets.");
+    println!();
+    println!("| Size | Octets | {} |", names.join(" | "));
+    println!("|---|--:|{}", "--:|".repeat(names.len()));
+    for (number, &size) in SIZES.iter().enumerate() {
+        let cells: Vec<String> = columns.iter().map(|column| cell(column[number], octets[number] as f64)).collect();
+        println!("| {size} KiB | {} | {} |", octets[number], cells.join(" | "));
+    }
+    let last = SIZES.len() - 1;
+    let per_octet = |column: &[f64], number: usize| column[number] / octets[number] as f64;
+    let ratios: Vec<String> =
+        columns.iter().map(|column| digits(per_octet(column, last) / per_octet(column, 0))).collect();
+    println!("| {} KiB / {} KiB, per octet | | {} |", SIZES[last], SIZES[0], ratios.join(" | "));
+}

@@ -1,0 +1,144 @@
+//! The books of the workloads.
+
+use crate::plain::{Block, Book, Data, Field, Group, Template};
+
+const CHAR: u16 = 0;
+const UINT8: u16 = 2;
+const INT16: u16 = 3;
+const UINT16: u16 = 4;
+const INT32: u16 = 5;
+const UINT32: u16 = 6;
+const INT64: u16 = 7;
+const UINT64: u16 = 8;
+
+/// At its version the book has everything; at the one before, not what is since it.
+pub const VERSION: u16 = 1;
+
+const SCHEMA: u16 = 7;
+
+/// A required field.
+const fn one(kind: u16) -> Field {
+    Field { id: 1, kind, length: 1, offset: 0, presence: 0, since: 0 }
+}
+
+const fn optional(kind: u16) -> Field {
+    Field { presence: 1, ..one(kind) }
+}
+
+const fn array(length: u16) -> Field {
+    Field { length, ..one(CHAR) }
+}
+
+const fn newer(field: Field) -> Field {
+    Field { since: VERSION, ..field }
+}
+
+/// The fields side by side, and padding after them.
+fn block(fields: &[Field], padding: u16) -> Block {
+    let mut end = 0;
+    let placed = fields.iter().map(|&field| {
+        let field = Field { offset: end, ..field };
+        end = field.end() as u16;
+        field
+    });
+    let fields = placed.collect();
+    Block { length: end + padding, fields, ..Block::default() }
+}
+
+fn group(block: Block) -> Group {
+    Group { id: 2, since: 0, block }
+}
+
+const DATA: Data = Data { id: 3, since: 0 };
+
+fn book(blocks: Vec<Block>) -> Book {
+    let template = |(number, block)| Template { id: number as u16 + 1, block };
+    Book { schema: SCHEMA, version: VERSION, templates: blocks.into_iter().enumerate().map(template).collect() }
+}
+
+/// Book A of the rules: a uint32, an optional int16, a group with a uint8, and a data.
+pub fn a() -> Book {
+    let entry = block(&[one(UINT8)], 1);
+    let root = block(&[one(UINT32), optional(INT16)], 2);
+    let block = Block { groups: vec![group(entry)], data: vec![DATA], ..root };
+    Book { version: 0, ..book(vec![block]) }
+}
+
+/// An order of ten fields.
+pub fn flat() -> Book {
+    book(vec![order()])
+}
+
+/// Groups in groups, to depth four; the entries at depth two have a data.
+pub fn deep() -> Book {
+    let fourth = block(&[one(UINT32), optional(INT64)], 0);
+    let third = Block { groups: vec![group(fourth)], ..block(&[one(UINT16), array(6)], 0) };
+    let second = Block { groups: vec![group(third)], data: vec![DATA], ..block(&[one(UINT64), one(UINT8)], 3) };
+    let first = Block { groups: vec![group(second)], ..block(&[one(UINT32), one(CHAR)], 3) };
+    book(vec![Block { groups: vec![group(first)], data: vec![DATA], ..block(&[one(UINT64), one(UINT32)], 0) }])
+}
+
+/// Price levels of eight fields each.
+pub fn market() -> Book {
+    let price =
+        [one(INT64), one(UINT64), one(UINT32), one(UINT32), one(UINT16), optional(UINT8), one(UINT8), one(CHAR)];
+    let root = block(&[one(UINT64), one(UINT32), one(UINT8)], 3);
+    book(vec![Block { groups: vec![group(block(&price, 3))], ..root }])
+}
+
+/// Eight templates, as a session of trading has them.
+pub fn session() -> Book {
+    book(vec![
+        newer_order(),
+        block(&[one(UINT64), one(UINT64), one(UINT32), one(CHAR), one(UINT64)], 3),
+        execution(),
+        prices(),
+        snapshot(),
+        Block { data: vec![DATA; 2], ..block(&[one(UINT64), one(UINT8)], 0) },
+        allocation(),
+        block(&[one(UINT64), one(UINT32)], 0),
+    ])
+}
+
+const ORDER: [Field; 10] = [
+    one(UINT64),
+    array(16),
+    one(UINT32),
+    one(CHAR),
+    one(INT64),
+    one(UINT32),
+    optional(INT32),
+    one(UINT8),
+    one(UINT16),
+    one(UINT64),
+];
+
+fn order() -> Block {
+    block(&ORDER, 0)
+}
+
+fn newer_order() -> Block {
+    block(&[&ORDER[..], &[newer(one(UINT8))]].concat(), 7)
+}
+
+fn execution() -> Block {
+    let of_fill = [one(INT64), one(UINT32), one(UINT32), optional(INT64), one(CHAR), newer(optional(UINT32))];
+    Block { data: vec![DATA], ..block(&[&ORDER[..], &of_fill].concat(), 0) }
+}
+
+fn prices() -> Block {
+    let price = [one(INT64), one(UINT32), one(UINT32), one(UINT16), optional(UINT8), one(UINT8), one(CHAR)];
+    Block { groups: vec![group(block(&price, 0))], ..block(&[one(UINT64), one(UINT32)], 0) }
+}
+
+fn snapshot() -> Block {
+    let level = block(&[one(INT64), one(UINT32), one(UINT16)], 2);
+    Block { groups: vec![group(level); 2], ..block(&[one(UINT64), one(UINT32), one(UINT32)], 0) }
+}
+
+fn allocation() -> Block {
+    let part = block(&[one(UINT32), one(INT64), one(UINT8)], 0);
+    let account = Block { groups: vec![group(part)], data: vec![DATA], ..block(&[one(UINT32), one(UINT64)], 0) };
+    let root = block(&[one(UINT64), one(UINT32), array(12)], 0);
+    Block { groups: vec![group(account)], data: vec![DATA], ..root }
+}

@@ -1,0 +1,62 @@
+//! Random listings of a template: the same seed gives the same ones everywhere.
+
+use crate::plain::{writer, Block, Book, Draft, Field, Template};
+use crate::rng::Rng;
+use std::ops::RangeInclusive;
+
+pub struct Fill {
+    pub rng: Rng,
+    /// How many entries a group may have.
+    pub entries: RangeInclusive<usize>,
+    /// How many octets a data may have.
+    pub data: RangeInclusive<usize>,
+}
+
+const NULLS_PERCENT: usize = 20;
+
+impl Fill {
+    /// A message of the template, as the book's writer has it.
+    pub fn message(&mut self, book: &Book, template: &Template) -> Vec<u8> {
+        let mut draft = Draft { template: template.id, listing: Vec::new(), pool: Vec::new() };
+        self.block(&template.block, &mut draft);
+        writer::message(book, &draft).expect("every value is in range")
+    }
+
+    fn block(&mut self, block: &Block, draft: &mut Draft) {
+        for field in &block.fields {
+            self.field(field, draft);
+        }
+        for group in &block.groups {
+            let entries = self.between(self.entries.clone());
+            draft.listing.extend([4, entries as u64, 0]);
+            for _ in 0..entries {
+                self.block(&group.block, draft);
+            }
+        }
+        for _ in &block.data {
+            let octets = self.between(self.data.clone());
+            self.octets(octets, draft);
+        }
+    }
+
+    fn field(&mut self, field: &Field, draft: &mut Draft) {
+        if field.is_array() {
+            return self.octets(field.octets(), draft);
+        }
+        let kind = field.kind();
+        if field.is_optional() && self.rng.chance(NULLS_PERCENT) {
+            return draft.listing.extend([1, 0, 0]);
+        }
+        let value = kind.least + i128::from(self.rng.next()) % (kind.greatest - kind.least + 1);
+        draft.listing.extend([0, value as u64, 0]);
+    }
+
+    fn octets(&mut self, count: usize, draft: &mut Draft) {
+        draft.listing.extend([2, draft.pool.len() as u64, count as u64]);
+        draft.pool.extend(self.rng.octets(count));
+    }
+
+    fn between(&mut self, range: RangeInclusive<usize>) -> usize {
+        self.rng.between(*range.start(), *range.end())
+    }
+}

@@ -1,0 +1,105 @@
+#!/usr/bin/env python3
+"""make.py: makes the books and messages of this folder from a description in words. `make.py FOLDER` makes them there.
+
+For a book of your own, copy it and write your templates where the fill stands."""
+import os
+import struct
+import sys
+
+# ---- What a book is made of: words of 16 bits, least significant octet first ----
+
+TYPES = ["char", "int8", "uint8", "int16", "uint16", "int32", "uint32", "int64", "uint64"]
+PRESENCES = ["required", "optional"]
+
+
+def field(id, type, offset, length=1, presence="required", since=0):
+    """Six words. A char or uint8 of a length over 1 is an array: plain octets. The id is a label, here a FIX tag."""
+    return [id, TYPES.index(type), length, offset, PRESENCES.index(presence), since]
+
+
+def data(id, since=0):
+    """Two words."""
+    return [id, since]
+
+
+def block(length, fields=(), groups=(), datas=()):
+    """The declared length in octets and the numbers of fields, groups and data; then the fields, the data, the groups.
+    Offsets rise, and each field ends before the next begins and within the length. What is between is padding."""
+    rows = [*fields, *datas, *groups]
+    return [length, len(fields), len(groups), len(datas)] + [word for row in rows for word in row]
+
+
+def group(id, block, since=0):
+    """Its id and since, then its block, which has at least one field; the first field has the group's since."""
+    return [id, since] + block
+
+
+def book(schema, version, templates):
+    """The head: schema id, version, number of templates, number of words. The contents, a row for each template, ids
+    rising: its id, the first word of its body, the words in its body. Then the bodies, back to back, each one block."""
+    first = 4 + 3 * len(templates)
+    contents, bodies = [], []
+    for id, body in sorted(templates.items()):
+        contents += [id, first + len(bodies), len(body)]
+        bodies += body
+    words = [schema, version, len(templates), first + len(bodies)] + contents + bodies
+    return struct.pack("<%dH" % len(words), *words)
+
+
+# ---- The books: a fill, and the fill with a quantity where there was padding ----
+
+SCHEMA, FILL = 7, 1
+BLOCK = 20  # octets of a fill's block, in both books
+
+FIELDS = [
+    field(37, "char", offset=0, length=8),  # the order: eight characters
+    field(44, "int32", offset=8),  # the price: cents a tonne over the exchange's, or under it
+    field(64, "uint8", offset=12, presence="optional"),  # the week of delivery; null while none is agreed
+]
+QUANTITY = field(32, "uint32", offset=16, since=1)  # the filled quantity, in tonnes
+
+MILLS = group(78, block(4, [
+    field(79, "uint16", offset=0),  # a mill
+    field(80, "uint8", offset=2),  # its share of the fill, in percent
+]))
+NOTE = data(58)
+
+OLDER = book(SCHEMA, 0, {FILL: block(BLOCK, FIELDS, [MILLS], [NOTE])})
+NEWER = book(SCHEMA, 1, {FILL: block(BLOCK, FIELDS + [QUANTITY], [MILLS], [NOTE])})
+
+# ---- The messages: numbers are least significant octet first, and x is an octet of padding ----
+
+NO_WEEK = 255  # null for a uint8
+
+
+def message(version, root, mills, note):
+    """The header, with one group and one data; the root block; the group: its block length, its number of entries and
+    the entries; the data: its length and its octets."""
+    header = struct.pack("<6H", BLOCK, FILL, SCHEMA, version, 1, 1)
+    entries = b"".join(struct.pack("<HBx", mill, share) for mill, share in mills)
+    return header + root + struct.pack("<2H", 4, len(mills)) + entries + struct.pack("<H", len(note)) + note
+
+
+OLDER_FILL = message(0, struct.pack("<8siB7x", b"B7-10423", -125, NO_WEEK), [(12, 60), (31, 40)], b"May delivery")
+NEWER_FILL = message(1, struct.pack("<8siB3xI", b"C2-00917", 340, 23, 500), [(12, 100)], b"300 t to come")
+
+FILES = {
+    "books/older.book": OLDER,
+    "books/newer.book": NEWER,
+    "messages/older_fill.sbe": OLDER_FILL,
+    "messages/newer_fill.sbe": NEWER_FILL,
+    "messages/cut_fill.sbe": NEWER_FILL[:-1],  # its last octet was lost on the way
+}
+
+
+def main():
+    folder = sys.argv[1] if len(sys.argv) > 1 else os.path.dirname(os.path.abspath(__file__))
+    for name, octets in FILES.items():
+        path = os.path.join(folder, name)
+        os.makedirs(os.path.dirname(path), exist_ok=True)
+        with open(path, "wb") as file:
+            file.write(octets)
+
+
+if __name__ == "__main__":
+    main()

@@ -1,0 +1,97 @@
+#!/usr/bin/env python3
+"""read_fill.py: reads a fill, asks for its filled quantity alone, and writes it back: read_fill.py BOOK MESSAGE.
+
+Prints what the fill says, or the refusal. Exit status: 0 read, 1 refused, 2 without two files."""
+import sys
+
+from siphonbard import ABSENT, ENTRIES, FIELD, NULL, NUMBER, OCTETS, Book, Refused
+
+# The template of a fill, and its elements in the order of a listing: fields, the group of mills, a note.
+FILL = 1
+FIELDS = ["order", "price", "delivery week", "filled quantity"]
+MILL = ["  mill", "  share"]
+
+# The filled quantity is this field of the root block. Only the newer book has it.
+QUANTITY = 3
+
+
+def main():
+    if len(sys.argv) != 3:
+        stop("usage: read_fill.py BOOK MESSAGE")
+    try:
+        read_fill(octets_of(sys.argv[1]), octets_of(sys.argv[2]))
+    except Refused as refusal:
+        print(refusal)
+        sys.exit(1)
+
+
+def read_fill(octets, message):
+    book = Book(octets)
+    records = book.list(message)
+    try:
+        alone, fields = words(book.place(message, [], FIELD, QUANTITY), message), FIELDS
+    except Refused as refusal:
+        # The message is accepted by now: the place is refused if the book has no such field.
+        alone, fields = refusal, FIELDS[:QUANTITY]
+    show(fields, records, message)
+    print("filled quantity, asked alone: %s" % alone)
+    print("written back: %s" % written_back(book, records, message))
+
+
+def show(fields, records, message):
+    """A line for each record of the listing, with its element's name."""
+    mills = records[len(fields)][1] if len(fields) < len(records) else 0
+    for name, record in zip([*fields, "mills", *MILL * mills, "note"], records):
+        print("%-17s%s" % (name, words(record, message)))
+
+
+def words(record, message):
+    """What a record says."""
+    first, second, third = record
+    if first == NUMBER:
+        return str(signed(second))
+    if first == NULL:
+        return "null"
+    if first == OCTETS:
+        return text(message[second:second + third])
+    if first == ABSENT:
+        return "absent: it is younger than the message"
+    if first == ENTRIES:
+        return "group of %d" % second
+    return "out of range: %d" % signed(second)
+
+
+def signed(number):
+    """No field of a fill is a uint64, so every value is that of a signed number."""
+    return number - 2**64 if number >= 2**63 else number
+
+
+def text(octets):
+    """The octets as characters; those that cannot be shown are dots."""
+    return "".join(chr(octet) if 32 <= octet < 127 else "." for octet in octets)
+
+
+def written_back(book, records, message):
+    """Writes a message of the book's own version from the records: is it the message that was read?"""
+    try:
+        written = book.write(FILL, records, message)
+    except Refused as refusal:
+        return refusal
+    return "%d octets, %s" % (len(written), "the same" if written == message else "not the same")
+
+
+def octets_of(path):
+    try:
+        with open(path, "rb") as file:
+            return file.read()
+    except OSError as error:
+        return stop("%s: %s" % (path, error.strerror))
+
+
+def stop(why):
+    print(why, file=sys.stderr)
+    sys.exit(2)
+
+
+if __name__ == "__main__":
+    main()
