@@ -1,7 +1,7 @@
 -- What is left of a row answers as the whole does, one element at a time, as the loops find them.
-use mathlib.Core.Path.{_≡_, refl}
+use mathlib.Core.Path.{_≡_, refl, subst, sym}
 use mathlib.Core.List.{List, _∷_}
-use Prim.Native.Nat.{ℕ, zero, suc, _+_, _-_, _/_, _<_, _≤_}
+use Prim.Native.Nat.{ℕ, zero, suc, _+_, _-_, _*_, _/_, _<_, _≤_}
 use native.Mathlib.Omega.{arith}
 use lib.Dec.{leb}
 use lib.ListN.{length}
@@ -20,25 +20,31 @@ block-fits s w block = rw (← (length-words s)) (block .fits)
 
 -- ---- fields
 
-module _ (b : List ℕ) (v e w : ℕ) where
-  abbrev since : ℕ
-  since = word b (w + 5)
+-- The last of n + 1 fields decides if it is present, and leaves it to those before it if not.
+need-last : (b : List ℕ) (v n e w : ℕ)
+    → needAfter v e (parseFields b (suc n) w)
+    ≡ (if leb (word b (w + 6 * n + 5)) v then end (fieldAt b (w + 6 * n)) else needAfter v e (parseFields b n w))
+unfolding needAfter parseFields
+need-last b v zero e w = let q : w + 6 * 0 ≡ w = omega arith in rw q refl
+need-last b v (suc n) e w =
+    let q : w + 6 * suc n ≡ w + 6 + 6 * n = omega arith in
+    rw q (need-last b v n (if leb (word b (w + 5)) v then end (fieldAt b w) else e) (w + 6))
 
-  need-step : (n : ℕ) → 0 < n
-      → needAfter v e (parseFields b n w)
-      ≡ needAfter v (if leb since v then end (fieldAt b w) else e) (parseFields b (n - 1) (w + 6))
-  unfolding needAfter parseFields
-  need-step zero h = absurd (omega arith)
-  need-step (suc n) h = let q : suc n - 1 ≡ n = omega arith in rw q refl
+-- f is the last of n fields from w on.
+module _ (b : List ℕ) (v e w n f : ℕ) (some-are : 0 < n) (is : f ≡ w + 6 * (n - 1)) where
+  last : needAfter v e (parseFields b n w)
+      ≡ (if leb (word b (f + 5)) v then end (fieldAt b f) else needAfter v e (parseFields b (n - 1) w))
+  last =
+      let q : n ≡ suc (n - 1) = omega arith in
+      rw is (subst (λ k. needAfter v e (parseFields b k w)
+      ≡ (if leb (word b (w + 6 * (n - 1) + 5)) v then end (fieldAt b (w + 6 * (n - 1)))
+      else needAfter v e (parseFields b (n - 1) w))) (sym q) (need-last b v (n - 1) e w))
 
-  -- A field that is present, and a later one.
-  pub need-here : (n : ℕ) → 0 < n → since ≤ v
-      → needAfter v e (parseFields b n w) ≡ needAfter v (end (fieldAt b w)) (parseFields b (n - 1) (w + 6))
-  need-here n h s = rw (need-step n h, le-leb since v s) (unfold if_then_else_ in refl)
+  pub need-here : word b (f + 5) ≤ v → needAfter v e (parseFields b n w) ≡ end (fieldAt b f)
+  need-here s = rw (last, le-leb _ v s) (unfold if_then_else_ in refl)
 
-  pub need-later : (n : ℕ) → 0 < n → v < since
-      → needAfter v e (parseFields b n w) ≡ needAfter v e (parseFields b (n - 1) (w + 6))
-  need-later n h s = rw (need-step n h, lt-leb since v s) (unfold if_then_else_ in refl)
+  pub need-later : v < word b (f + 5) → needAfter v e (parseFields b n w) ≡ needAfter v e (parseFields b (n - 1) w)
+  need-later s = rw (last, lt-leb _ v s) (unfold if_then_else_ in refl)
 
 pub need-end : (b : List ℕ) (v e n w : ℕ) → n ≤ 0 → needAfter v e (parseFields b n w) ≡ e
 unfolding needAfter parseFields

@@ -8,24 +8,22 @@ ghost use Rattle.layout.specs.Book.{need as needOf, present, dataSinces, groupS
 ghost use Rattle.layout.specs.BookRules.{parseDatas};
 ghost use Rattle.templates.specs.Positions.{IsBlock, IsRow, Opened, shapeAt, groupsAt, groupsEnd, groupsFrom};
 
-// The need of the block at word w, at version v.
+// The need of the block at word w, at version v: the end of its last field that is present, looked for from the back.
 pub fn need(body: &[u8], w: usize, v: usize) -> usize
     requires { ⌜ IsBlock (wordsOf (now body)) w ⌝ }
     ensures { λ r. ⌜ r ≡ needOf v (shapeAt (wordsOf (now (body .entry))) w) ⌝ }
 {
     let mut left = book::word(body, w + 1);
-    let mut at = w + 4;
-    let mut e = 0;
     while 0 < left {
-        if book::word(body, at + 5) <= v {
-            let t = book::word(body, at + 1);
-            let n = book::word(body, at + 2);
-            e = book::field_end(t, n, book::word(body, at + 3));
-        }
-        at = at + 6;
         left = left - 1;
+        let f = w + 4 + 6 * left;
+        if book::word(body, f + 5) <= v {
+            let t = book::word(body, f + 1);
+            let n = book::word(body, f + 2);
+            return book::field_end(t, n, book::word(body, f + 3));
+        }
     }
-    e
+    0
 }
 
 // How many of the n data at word `from` are present at version v.

@@ -21,10 +21,10 @@ use Rattle.layout.specs.Writing.{first, isThere, judgeBlock, judgeData, judgeDa
 use Rattle.layout.specs.Writing.{judgeFields, judgeGroups, judgeListing, judgeNumber, judgeOctets, second, third}
 use Rattle.layout.specs.Demands.{InRange, ValuesInRange}
 use Rattle.demands.proofs.Needs.{need-grows}
-use Rattle.demands.proofs.Present.{GoodGroups, GoodShape, UpTo}
 use Rattle.demands.proofs.Read.{data-read, datas-read, dimension-read, group-read}
 use Rattle.demands.proofs.Reread.{no-datas, no-groups}
 use Rattle.layout.proofs.Fields.{field-good, size-array}
+use Rattle.layout.proofs.Present.{GoodGroups, GoodShape, UpTo}
 use Rattle.layout.proofs.Records.{record-three}
 use Rattle.layout.proofs.Results.{and-left, done-inj, inv-bind, inv-must}
 use Rattle.layout.proofs.Stands.{Stands, all-stands, split-to, three-stand}

@@ -3,7 +3,6 @@ pub mod Needs
 pub mod Kept
 pub mod Beside
 pub mod TwoBooks
-pub mod Present
 pub mod Contents
 pub mod Reread
 pub mod Relisted

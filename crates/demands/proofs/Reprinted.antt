@@ -20,10 +20,10 @@ use Rattle.layout.specs.Message.{readGroups}
 use Rattle.layout.specs.Writing.{blockOctets, dataOctets, datasLength, entriesIn, fieldOctets, rowLength, rowOctets}
 use Rattle.layout.specs.Writing.{spanOf}
 use Rattle.layout.specs.Demands.{InRange, OwnBlocks, ValuesInRange, ZeroPadding, Zeros}
-use Rattle.demands.proofs.Present.{GoodGroups, GoodShape, UpTo}
 use Rattle.demands.proofs.Read.{DimensionRead, data-read, datas-read, dimension-read, group-read}
 use Rattle.demands.proofs.Reread.{no-datas, no-groups}
 use Rattle.layout.proofs.Fields.{field-good, size-array, size-plain}
+use Rattle.layout.proofs.Present.{GoodGroups, GoodShape, UpTo}
 use Rattle.layout.proofs.Results.{and-right, done-inj, inv-bind, inv-must}
 use Rattle.layout.proofs.Stands.{AreAt, Stands, join, nothing-stands, numbers-stand, octets-stand, slice-stands}
 use Rattle.layout.proofs.TypeLaws.{octets-value}

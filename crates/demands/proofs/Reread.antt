@@ -22,10 +22,9 @@ use Rattle.layout.specs.Writing.{judgeDatas, judgeEntries, judgeField, judgeFie
 use Rattle.layout.specs.Writing.{second, spanOctets, spanOf, third}
 use Rattle.demands.proofs.Contents.{contentOf, contentsOf, treeContents}
 use Rattle.layout.proofs.Lengths.{field-long, fields-long, span-long}
-use Rattle.demands.proofs.Needs.{need-within}
-use Rattle.demands.proofs.Present.{GoodGroups, GoodShape, UpTo}
+use Rattle.layout.proofs.Present.{GoodGroups, GoodShape, UpTo}
 use Rattle.layout.proofs.Said.{OctetsSaid, array-said, data-said, number-said}
-use Rattle.layout.proofs.Fields.{field-good}
+use Rattle.layout.proofs.Fields.{field-good, need-within}
 use Rattle.layout.proofs.Results.{and-left, and-right, done-inj, inv-bind, inv-must}
 use Rattle.layout.proofs.Stands.{AreAt, Stands, length-numbers, length-octets, number-stands, numbers-are, split-to}
 use Rattle.layout.proofs.TypeLaws.{null-back, number-back}

@@ -19,10 +19,10 @@ use Rattle.layout.specs.Message.{readBlock, readGroups, readMessage, readRoot, 
 use Rattle.layout.specs.Writing.{headerOf, judgeListing, messageOctets, rowOctets, writeOf}
 use Rattle.layout.specs.Demands.{AsWritten, OwnBlocks, ValuesInRange}
 use Rattle.demands.proofs.Judged.{listing-judged}
-use Rattle.demands.proofs.Needs.{need-within}
-use Rattle.demands.proofs.Present.{UpTo, Writable, present-up, writable}
 use Rattle.demands.proofs.Reprinted.{block-stands, entryPrinted, groups-stand}
+use Rattle.layout.proofs.Fields.{need-within}
 use Rattle.layout.proofs.Accepted.{accepted}
+use Rattle.layout.proofs.Present.{UpTo, Writable, present-up, writable}
 use Rattle.layout.proofs.Results.{and-left, and-right, bind-done, done-inj, inv-bind, inv-must}
 use Rattle.layout.proofs.Stands.{AreAt, Stands, join, nothing-stands, numbers-stand, stands-all}
 

@@ -21,9 +21,9 @@ use Rattle.layout.specs.All.{all}
 use Rattle.demands.proofs.Beside.{keptBlock, present-groups, sees-block, sees-groups}
 use Rattle.demands.proofs.Kept.{kept, kept-answer}
 use Rattle.demands.proofs.Needs.{need-adds, present-absent, present-append, present-most}
-use Rattle.demands.proofs.Present.{UpTo, present-up, writable}
 use Rattle.demands.proofs.Sees.{Sees, seen-done, sees-bind, sees-done, sees-leb, sees-must, sees-same, sees-then}
 use Rattle.layout.proofs.Accepted.{accepted, found-holds}
+use Rattle.layout.proofs.Present.{UpTo, present-up, writable}
 use Rattle.layout.proofs.Results.{and-left, and-right, bind-done, inv-bind, inv-must}
 use Rattle.layout.specs.declared.Answer.the-variants.{Group}
 use Rattle.layout.specs.declared.Element.{Element}

@@ -20,11 +20,11 @@ use Rattle.layout.specs.Writing.{headerOf, judgeBlock, judgeGroups, judgeListin
 use Rattle.layout.specs.Writing.{writeOf}
 use Rattle.layout.specs.Demands.{contents}
 use Rattle.demands.proofs.Contents.{contents-measure, listing-says, treeContents}
-use Rattle.demands.proofs.Needs.{need-within}
-use Rattle.demands.proofs.Present.{Writable, present-up, writable}
 use Rattle.demands.proofs.Relisted.{relisted}
 use Rattle.demands.proofs.Reread.{block-back, entryOctets, four-same, groups-back}
+use Rattle.layout.proofs.Fields.{need-within}
 use Rattle.layout.proofs.Accepted.{Accepted, accepted}
+use Rattle.layout.proofs.Present.{Writable, present-up, writable}
 use Rattle.layout.proofs.Records.{listing-three}
 use Rattle.layout.proofs.Results.{and-left, and-right, bind-done, done-inj, inv-bind, inv-found, inv-must}
 use Rattle.layout.proofs.Stands.{AllWhole, AreAt, Stands, all-stands, length-numbers, numbers-are, split-to}

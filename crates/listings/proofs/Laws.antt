@@ -1,53 +1,90 @@
--- A whole message that was accepted, taken apart for the storing pass.
-use mathlib.Core.Path.{_≡_, refl, sym, ap, _∙_}
-use mathlib.Core.List.{List, _++_, append-nil}
-use Prim.Native.Nat.{ℕ, _+_, _≤_}
+-- What the walk over a message says of its listing.
+use mathlib.Core.Path.{_≡_, refl, ap, _∙_}
+use mathlib.Core.List.{List, append-nil}
+use Prim.Native.Nat.{ℕ, _+_, _*_, _/_, _≤_, _<_}
+use native.Mathlib.Nat.{zero-add}
 use native.Mathlib.Omega.{arith}
 use lib.ListN.{length}
-use Rattle.layout.specs.Result.{Result, refused}
-use Rattle.layout.specs.Book.{need}
-use Rattle.layout.specs.Message.{versionOf}
-use Rattle.layout.specs.Values.{Values, listing, recordsOf}
-use Rattle.layout.proofs.Results.{inv-bind}
-use Rattle.templates.specs.Positions.{shapeAt}
+use lib.Seq.{sets, sets-eq}
+use borrow.Author.Tests.{le-leb, lt-leb}
+use Rattle.layout.specs.Result.{Result, refused, must, _>>=_}
+use Rattle.layout.specs.Contracts.{counted, refusal, roomAfter}
+use Rattle.layout.specs.Values.{Values, listing, measure}
+use Rattle.layout.specs.declared.Counted.the-variants as Counted
+use Rattle.layout.specs.declared.Refusal.{Refusal}
+use Rattle.layout.proofs.Records.{listing-three}
+use Rattle.layout.proofs.Results.{done-inj, inv-bind}
 use Rattle.walk.specs.declared.OnWire.{OnWire}
-use Rattle.messages.specs.Whole.{rooted, wholeAt, wireAt}
-use Rattle.messages.specs.declared.Root.the-variants.{On}
-use Rattle.messages.proofs.Laws.{root-need, root-on}
-use Rattle.store.specs.Prints.{Printed, Room, endOf, got, numbersOf, printed}
+use Rattle.wire.specs.Walks.{walked}
+use Rattle.wire.specs.declared.Walked.the-variants.{Refused, To}
+use Rattle.wire.proofs.Laws.{Reached, inv-refused, inv-to}
+use Rattle.messages.specs.Whole.{rootEnd, wholeAt}
+use Rattle.store.specs.Prints.{Room, endOf, got, numbersOf}
 use Rattle.store.specs.Stores.{blockPrint}
-use Rattle.store.proofs.Laws.{prints, room-done}
-use Rattle.listings.specs.Whole.{noEnd, rootPrint}
+use Rattle.store.proofs.Laws.{prints}
+use Rattle.listings.specs.Whole.{ListsAs, listed, measured}
 
--- ---- the root
+-- A listing that is refused, whatever for.
+not-listed : (x : Result Values) (room : List ℕ) (n p : ℕ) → listed x (length room) ≡ refused n p
+    → ListsAs x room (Counted.Refused (refusal n p)) room
+unfolding _>>=_ counted roomAfter
+not-listed x room n p e = record { answer = rw e refl; room = rw e refl }
 
--- What has room was not refused.
-pub not-refused : (r : Result Values) (n p k : ℕ) → Room (printed noEnd listing r) 0 k → r ≡ refused n p → ⊥
-not-refused r n p k h e =
-    let y : _≡_ {A = ℕ} 0 1 = cc (room-done noEnd listing r 0 k h .is) in omega arith
+-- The listing of a message that is refused.
+pub list-refused : (x : Result Values) (z : Refusal) → x ≡ refused (z .number) (z .place) → (room : List ℕ)
+    → ListsAs x room (Counted.Refused z) room
+unfolding listed _>>=_
+list-refused x z e room = not-listed x room _ _ (rw e refl)
 
--- The root's block is long enough, and the root's numbers are the block's.
-pub record RootOpen (b m : List ℕ) (version v : ℕ) (wire : OnWire) (k : ℕ) : Type 0 where
-  pub long : need v (shapeAt b 0) ≤ wire .length
-  pub room : Room (blockPrint b 4 0 m v wire 12) 0 k
-  pub same : numbersOf (blockPrint b 4 0 m v wire 12) ≡ numbersOf (rootPrint b m version)
+-- The message by what its root block is on the wire; v is its version.
+module _ (b m : List ℕ) (v : ℕ) (wire : OnWire) (room : List ℕ) where
+  abbrev whole : Result Values
+  whole = wholeAt b m v wire
 
-as-much : (x y : Printed) (a b k : ℕ) (xs ys : List ℕ) → x ≡ got a xs → y ≡ got b ys → xs ≡ ys → Room y 0 k
-    → Room x 0 k × (numbersOf x ≡ numbersOf y)
-unfolding endOf numbersOf
-as-much x y a b k xs ys p q e r =
-    let fits : 0 + length ys ≤ k = rw q at (r .fits) in
-    rw (p, q, e) (record { whole = refl; fits = fits }, refl)
+  -- The walk refuses it.
+  pub whole-refused : (z : Refusal) → Refused z ≡ walked (rootEnd m) whole → ListsAs whole room (Counted.Refused z) room
+  whole-refused z e = list-refused whole z (inv-refused _ whole z e) room
 
-pub root-open : (b m : List ℕ) (version v : ℕ) (wire : OnWire) (k : ℕ) → On wire ≡ rooted (wireAt b m version)
-    → v ≡ versionOf m → Room (rootPrint b m version) 0 k → RootOpen b m version v wire k
-unfolding rootPrint blockPrint wholeAt listing
-root-open b m version v wire k w is r =
-    let d = room-done noEnd listing _ 0 k r in
-    let p = inv-bind _ _ _ (sym (root-on b m version wire w v is) ∙ d .is) in
-    let q = inv-bind _ _ _ (p .next) in
-    let e = p .value in
-    let same = ap (λ (z : List ℕ). recordsOf (e .0) ++ (listing (e .1) ++ z)) (sym (append-nil (recordsOf (e .2)))) in
-    let whole = prints noEnd listing _ _ (d .is ∙ sym (q .next)) in
-    let both = as-much _ _ _ _ k _ _ (prints (λ a. a .3) _ _ e (p .first)) whole same r in
-    record { long = root-need b m version wire w v is; room = both .0; same = both .1 }
+  -- The walk comes to its end, at x, after n records.
+  module _ (x n : ℕ) (e : To x n ≡ walked (rootEnd m) whole) where
+    read : Reached (rootEnd m) whole x n
+    read = inv-to (rootEnd m) whole x n e
+
+    -- The root block prints what the message lists.
+    block-prints : (end : ℕ) × (blockPrint b 4 0 m v wire 12 ≡ got end (listing (read .value)))
+    unfolding wholeAt blockPrint listing
+    block-prints =
+        let p = inv-bind _ _ _ (read .is) in
+        let end = p .value .3 in
+        let is = done-inj (inv-bind _ _ _ (p .next) .next) in
+        (end, prints (λ a. a .3) _ _ _ (p .first) ∙ ap (got end) (rw append-nil at (ap listing is)))
+
+    -- The room is too small.
+    pub whole-full : length room / 3 < n → ListsAs whole room (Counted.Refused (refusal 40 0)) room
+    unfolding listed _>>=_ must
+    whole-full h =
+        let full : length room < 3 * measure (read .value) = omega (arith, read .records, h) in
+        not-listed whole room 40 0 (rw (read .is, lt-leb _ _ full) refl)
+
+    module _ (h : n ≤ length room / 3) where
+      fits : 3 * measure (read .value) ≤ length room
+      fits = omega (arith, read .records, h)
+
+      within : 0 + length (listing (read .value)) ≤ length room
+      within = omega (arith, listing-three (read .value), fits)
+
+      -- There is room for the root block's records.
+      pub whole-room : Room (blockPrint b 4 0 m v wire 12) 0 (length room)
+      unfolding endOf numbersOf
+      whole-room = rw (block-prints .1) (record { whole = refl; fits = within })
+
+      -- The root block's records were stored.
+      pub whole-stored : (after : List ℕ) → after ≡ sets room 0 (numbersOf (blockPrint b 4 0 m v wire 12))
+          → ListsAs whole room (Counted.Count n) after
+      unfolding listed measured _>>=_ must counted roomAfter numbersOf
+      whole-stored after q =
+          let laid = rw (block-prints .1) at q ∙ sets-eq (listing (read .value)) room 0 within in
+          record {
+            answer = rw (read .is, le-leb _ _ fits, read .records) refl;
+            room = rw (read .is, le-leb _ _ fits) (rw zero-add at laid);
+          }

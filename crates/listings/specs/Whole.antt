@@ -1,16 +1,27 @@
--- The numbers that a whole message prints.
+-- Listing of a message that was read or refused: what the operations of reading go on with.
+use mathlib.Core.Path.{_≡_}
 use mathlib.Core.List.{List}
-use Prim.Native.Nat.{ℕ}
-use Rattle.layout.specs.Values.{Values, listing}
-use Rattle.messages.specs.Whole.{messageOf, rootAt}
-use Rattle.store.specs.Prints.{Printed, printed}
+use Prim.Native.Nat.{ℕ, _*_}
+use lib.Dec.{leb}
+use lib.ListN.{length}
+use Rattle.layout.specs.Result.{Result, done, must, _>>=_}
+use Rattle.layout.specs.Contracts.{counted, roomAfter}
+use Rattle.layout.specs.Values.{Values, listing, measure}
+use Rattle.layout.specs.declared.Counted.{Counted}
 
--- Nothing is read past a whole message.
-abbrev pub noEnd : Values → ℕ
-noEnd r = 0
+-- 40; `room` is how many numbers there is room for.
+unfoldable pub listed : Result Values → ℕ → Result (List ℕ)
+listed x room = do
+  r ← x
+  _ ← must (leb (3 * measure r) room) 40 0
+  done (listing r)
 
-unfoldable pub rootPrint : List ℕ → List ℕ → ℕ → Printed
-rootPrint b m version = printed noEnd listing (rootAt b m version)
+unfoldable pub measured : Result Values → Result ℕ
+measured x = do
+  r ← x
+  done (measure r)
 
-unfoldable pub messagePrint : List ℕ → List ℕ → Printed
-messagePrint book m = printed noEnd listing (messageOf book m)
+-- What the call answers of a message that comes to x, and what it leaves in the room.
+pub record ListsAs (x : Result Values) (before : List ℕ) (r : Counted) (after : List ℕ) : Type 0 where
+  pub answer : r ≡ counted (listed x (length before) >>= λ _. measured x)
+  pub room : after ≡ roomAfter (listed x (length before)) before

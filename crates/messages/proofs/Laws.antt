@@ -1,13 +1,13 @@
 -- What a message comes to, test by test, in the code's terms; and where an accepted book leads a template's id.
 use mathlib.Core.Path.{_≡_, _∙_, ap, refl, sym}
-use mathlib.Core.Bool.{Bool, false, true}
+use mathlib.Core.Bool.{Bool, false, not, true}
 use mathlib.Core.List.{List, [], _∷_}
 use mathlib.Core.Option.{Option, none as no, some}
 use Prim.Native.Nat.{ℕ, zero, suc, _+_, _-_, _/_, _≤_}
 use native.Mathlib.Omega.{arith}
-use lib.Dec.{leb, eqb}
+use lib.Dec.{leb, eqb, ltb}
 use lib.ListN.{drop, length, take}
-use borrow.Author.Tests.{eq-eqb, eqb-true, leb-true, ne-eqb}
+use borrow.Author.Tests.{eq-eqb, eqb-true, le-leb, le-ltb, leb-true, lt-leb, ltb-false, ltb-true, ne-eqb}
 use Rattle.layout.specs.Result.{Result, _>>=_, _and_, done, if_then_else_, must, orRefuse, refused}
 use Rattle.layout.specs.Octets.{wordsOf}
 use Rattle.layout.specs.Book.{Book, dataSinces, groupSinces, need, present}
@@ -20,6 +20,8 @@ use Rattle.layout.specs.Values.{Step, answerAt, measure}
 use Rattle.layout.specs.declared.Element.{Element}
 use Rattle.layout.specs.declared.Refusal.{Refusal}
 use Rattle.layout.proofs.Accepted.{accepted}
+use Rattle.layout.proofs.Fields.{need-within}
+use Rattle.layout.proofs.Present.{UpTo, present-up, writable}
 use Rattle.layout.proofs.Results.{and-left, and-right, bind-assoc, bind-done, done-inj, either, inv-bind, inv-found}
 use Rattle.layout.proofs.Results.{inv-must}
 use Rattle.book.proofs.Bodies.{contents-within}
@@ -35,8 +37,8 @@ use Rattle.wire.proofs.Laws.{inv-to, refused-on}
 use Rattle.walk.specs.Walks.{GoodBlock, Lent, blockAt, entryEnd, innerAt}
 use Rattle.walk.specs.declared.OnWire.{OnWire}
 use Rattle.walk.proofs.Laws.{reached, then-to}
-use Rattle.messages.specs.Whole.{bodyAt, bodyFound, leftOver, messageOf, rootAt, rootEnd, rooted, surplusOf}
-use Rattle.messages.specs.Whole.{wholeAt, wireAt}
+use Rattle.messages.specs.Whole.{Within, bodyAt, bodyFound, leftOver, messageOf, rootAt, rootEnd, rooted}
+use Rattle.messages.specs.Whole.{surplusOf, wholeAt, wireAt}
 use Rattle.messages.specs.declared.Body.the-variants as Body
 use Rattle.messages.specs.declared.Root.{Root}
 use Rattle.messages.specs.declared.Root.the-variants as Root
@@ -77,6 +79,12 @@ pub surplus-is : (version v : ℕ) (ss : List ℕ) (k all here n : ℕ) → all 
     → leftOver version v all here n ≡ surplusOf version v ss k
 surplus-is version v ss k all here n a h e = rw (a, h, e) refl
 
+-- At the book's version, and later, all are present.
+pub surplus-all : (version v : ℕ) (ss : List ℕ) (k all n : ℕ) → all ≡ length ss → UpTo version ss → version ≤ v → n ≡ k
+    → leftOver version v all all n ≡ surplusOf version v ss k
+surplus-all version v ss k all n a u h e =
+    surplus-is version v ss k all all n a (a ∙ sym (present-up v version ss u h)) e
+
 -- ---- the header
 
 pub header-lent : (m : List ℕ) (schema x j : ℕ) → To x j ≡ walked headerEnd (checkHeader schema m) → Lent m 12
@@ -97,31 +105,43 @@ unfolding rooted
 wire-refused (done x) z e = cc
 wire-refused (refused n p) z e = let q : z ≡ refusal n p = cc in rw q refl
 
--- The answer by what the code finds: whether the block is long enough, its length, and what is left over.
+-- The declared length is enough at every version: the rules of 5 hold every field to it.
+pub declared-enough : (b : List ℕ) (v l : ℕ) → GoodBlock b 4 0 → word b 0 ≤ l → ltb l (need v (shapeAt b 0)) ≡ false
+declared-enough b v l good h =
+    let s = shapeAt b 0 in
+    let least : need v s ≤ s .length = need-within v _ 0 0 (s .fields) (and-right _ _ (good .shape)) (omega arith) in
+    le-ltb l (need v s) (omega (arith, least, h))
+
+-- What is not too short is long enough.
+enough : (l n : ℕ) (t : Bool) → ltb l n ≡ t → leb n l ≡ not t
+enough l n true e = lt-leb n l (ltb-true l n e)
+enough l n false e = le-leb n l (ltb-false l n e)
+
+-- The answer by what the code finds: whether the block is too short, its length, and what is left over.
 unfoldable pub wireBy : Bool → ℕ → Surplus → Surplus → Root
-wireBy false l g d = Root.Refused (refusal 14 0)
-wireBy true l Wrong d = Root.Refused (refusal 15 8)
-wireBy true l (Is x) Wrong = Root.Refused (refusal 15 10)
-wireBy true l (Is x) (Is y) = Root.On (record { length = l; groups = x; datas = y })
+wireBy true l g d = Root.Refused (refusal 14 0)
+wireBy false l Wrong d = Root.Refused (refusal 15 8)
+wireBy false l (Is x) Wrong = Root.Refused (refusal 15 10)
+wireBy false l (Is x) (Is y) = Root.On (record { length = l; groups = x; datas = y })
 
 decided : (t u w : Bool) (l x y : ℕ)
     → wireBy t l (if u then Is x else Wrong) (if w then Is y else Wrong)
-    ≡ rooted (must t 14 0 >>= λ _. must u 15 8 >>= λ _. must w 15 10
+    ≡ rooted (must (not t) 14 0 >>= λ _. must u 15 8 >>= λ _. must w 15 10
     >>= λ _. done (record { length = l; groups = x; datas = y }))
 unfolding wireBy rooted must _>>=_ if_then_else_
-decided false u w l x y = refl
-decided true false w l x y = refl
-decided true true false l x y = refl
-decided true true true l x y = refl
+decided true u w l x y = refl
+decided false false w l x y = refl
+decided false true false l x y = refl
+decided false true true l x y = refl
 
 module _ (b m : List ℕ) (version : ℕ) where
-  pub wired : (v l least : ℕ) → v ≡ versionOf m → l ≡ blockLength m → least ≡ need v (shapeAt b 0)
-      → (t : Bool) (g d : Surplus) → leb least l ≡ t
-      → g ≡ surplusOf version v (groupSinces (innerAt b 4 0)) (groupCount m)
+  pub wired : (v l : ℕ) → v ≡ versionOf m → l ≡ blockLength m → (r t : Bool) → r ≡ ltb l (need v (shapeAt b 0)) → r ≡ t
+      → (g d : Surplus) → g ≡ surplusOf version v (groupSinces (innerAt b 4 0)) (groupCount m)
       → d ≡ surplusOf version v (dataSinces (shapeAt b 0 .datas)) (dataCount m)
       → wireBy t l g d ≡ rooted (wireAt b m version)
   unfolding leftOver countGood wireAt
-  wired v l least e f n t g d h p q = rw (← h, p, q, n, e, f) (decided _ _ _ _ _ _)
+  wired v l e f r t n h g d p q =
+      rw (p, q, ← e, ← f, enough l (need v (shapeAt b 0)) t (sym n ∙ h)) (decided t _ _ _ _ _)
 
   -- The root is read by what it is on the wire.
   pub root-wired : rootAt b m version ≡ (wireAt b m version >>= λ wire. wholeAt b m (versionOf m) wire)
@@ -300,6 +320,15 @@ module _ (s : List ℕ) (k : IsBook s) where
       body-good = row-good (templateId m) row found
 
       module _ (version : ℕ) (v : version ≡ word b 1) where
+        -- No since of the root's groups and data is above the book's version.
+        pub body-sinces : Within body version
+        body-sinces =
+            let w = writable _ _ (accepted s (k .tree) _ _ (k .is) (leads .found) .1) in
+            rw (v, ← (book-numbers .1)) (record {
+              groups = rw (opened .groups) at (w .groupsIn);
+              datas = rw (opened .shape) at (w .shape .datasIn);
+            })
+
         read-found : readMessage (k .tree) m ≡ rootAt body m version
         unfolding _>>=_
         read-found = rw (read-bodied, is, v) refl

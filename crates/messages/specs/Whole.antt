@@ -1,9 +1,9 @@
 -- The whole message at word positions: what the header's counts leave over, the root, and the message's end.
 use mathlib.Core.List.{List}
-use Prim.Native.Nat.{ℕ, _-_}
+use Prim.Native.Nat.{ℕ, _-_, _≤_}
 use lib.Dec.{leb, eqb}
 use lib.ListN.{length}
-use Rattle.layout.specs.Result.{Result, done, refused, must, orRefuse, if_then_else_, _>>=_}
+use Rattle.layout.specs.Result.{Each, Result, done, refused, must, orRefuse, if_then_else_, _>>=_}
 use Rattle.layout.specs.Octets.{wordsOf}
 use Rattle.layout.specs.Book.{dataSinces, groupSinces, need, present}
 use Rattle.layout.specs.BookRules.{ContentsRow, bookOf, word}
@@ -21,6 +21,11 @@ use Rattle.messages.specs.declared.Root as Root
 use Rattle.messages.specs.declared.Root.{Root}
 use Rattle.messages.specs.declared.Surplus as Surplus
 use Rattle.messages.specs.declared.Surplus.{Surplus}
+
+-- "Since: never above the schema version": those of the root's groups and data.
+pub record Within (b : List ℕ) (version : ℕ) : Type 0 where
+  pub groups : Each (λ since. since ≤ version) (groupSinces (innerAt b 4 0))
+  pub datas : Each (λ since. since ≤ version) (dataSinces (shapeAt b 0 .datas))
 
 -- Of `all` elements `here` are present, and the header counts n.
 unfoldable pub leftOver : ℕ → ℕ → ℕ → ℕ → ℕ → Surplus

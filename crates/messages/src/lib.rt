@@ -5,15 +5,16 @@ use walk::OnWire;
 use wire::Walked;
 ghost use mathlib.Core.Path.{_≡_};
 ghost use Prim.Native.Nat.{_≤_};
+ghost use lib.Dec.{ltb};
 ghost use Rattle.layout.specs.Octets.{wordsOf};
-ghost use Rattle.layout.specs.Book.{dataSinces, groupSinces};
+ghost use Rattle.layout.specs.Book.{dataSinces, groupSinces, need};
 ghost use Rattle.layout.specs.Message.{groupCount, dataCount};
 ghost use Rattle.templates.specs.Lookup.{IsBook};
 ghost use Rattle.templates.specs.Positions.{shapeAt};
 ghost use Rattle.wire.specs.Walks.{walked};
-ghost use Rattle.walk.specs.Walks.{BlockAt, Lent, innerAt};
-ghost use Rattle.messages.specs.Whole.{bodyAt, bodyFound, leftOver, messageOf, rootAt, rootEnd, rooted};
-ghost use Rattle.messages.specs.Whole.{surplusOf, wholeAt, wireAt};
+ghost use Rattle.walk.specs.Walks.{BlockAt, GoodBlock, Lent, innerAt};
+ghost use Rattle.messages.specs.Whole.{Within, bodyAt, bodyFound, leftOver, messageOf, rootAt, rootEnd};
+ghost use Rattle.messages.specs.Whole.{rooted, surplusOf, wholeAt, wireAt};
 
 // How many groups or data the wire has more than are present, or that the header's count of them is wrong.
 enum Surplus {
@@ -40,22 +41,32 @@ fn left_over(version: usize, v: usize, all: usize, present: usize, n: usize) -> 
 
 fn surplus_groups(body: &[u8], version: usize, v: usize, m: &[u8]) -> Surplus
     requires { ⌜ BlockAt (wordsOf (now body)) 4 0 × Lent (now m) 12 ⌝ }
+    requires { ⌜ Within (wordsOf (now body)) version ⌝ }
     ensures { λ r. ⌜ r ≡ surplusOf version v (groupSinces (innerAt (wordsOf (now (body .entry))) 4 0)) (groupCount
         (now (m .entry))) ⌝ }
 {
     let all = book::word(body, 2);
+    let n = octets::get2(m, 8) as usize;
+    if version <= v {
+        return left_over(version, v, all, all, n);
+    }
     let present = blocks::present_groups(body, blocks::groups_from(body, 0), all, 4, v);
-    left_over(version, v, all, present, octets::get2(m, 8) as usize)
+    left_over(version, v, all, present, n)
 }
 
 fn surplus_datas(body: &[u8], version: usize, v: usize, m: &[u8]) -> Surplus
     requires { ⌜ BlockAt (wordsOf (now body)) 4 0 × Lent (now m) 12 ⌝ }
+    requires { ⌜ Within (wordsOf (now body)) version ⌝ }
     ensures { λ r. ⌜ r ≡ surplusOf version v (dataSinces (shapeAt (wordsOf (now (body .entry))) 0 .datas))
         (dataCount (now (m .entry))) ⌝ }
 {
     let all = book::word(body, 3);
+    let n = octets::get2(m, 10) as usize;
+    if version <= v {
+        return left_over(version, v, all, all, n);
+    }
     let present = blocks::present_datas(body, 4 + 6 * book::word(body, 1), all, v);
-    left_over(version, v, all, present, octets::get2(m, 10) as usize)
+    left_over(version, v, all, present, n)
 }
 
 // What the root block is on the wire, or the refusal 14 or 15.
@@ -64,14 +75,26 @@ pub enum Root {
     Refused(Refusal),
 }
 
+// Whether l octets are under the root block's need at version v. The declared length is enough at every version.
+fn is_short(body: &[u8], v: usize, l: usize) -> bool
+    requires { ⌜ GoodBlock (wordsOf (now body)) 4 0 ⌝ }
+    ensures { λ r. ⌜ r ≡ ltb l (need v (shapeAt (wordsOf (now (body .entry))) 0)) ⌝ }
+{
+    if book::word(body, 0) <= l {
+        return false;
+    }
+    l < blocks::need(body, 0, v)
+}
+
 // The header's numbers against the template's body, in a book of this version.
 pub fn on_wire(body: &[u8], version: usize, m: &[u8]) -> Root
-    requires { ⌜ BlockAt (wordsOf (now body)) 4 0 × Lent (now m) 12 ⌝ }
+    requires { ⌜ GoodBlock (wordsOf (now body)) 4 0 × Lent (now m) 12 ⌝ }
+    requires { ⌜ Within (wordsOf (now body)) version ⌝ }
     ensures { λ r. ⌜ r ≡ rooted (wireAt (wordsOf (now (body .entry))) (now (m .entry)) version) ⌝ }
 {
     let v = octets::get2(m, 6) as usize;
     let length = octets::get2(m, 0) as usize;
-    if length < blocks::need(body, 0, v) {
+    if is_short(body, v, length) {
         return Root::Refused(Refusal {
             number: 14,
             place: 0,
@@ -97,24 +120,25 @@ pub fn on_wire(body: &[u8], version: usize, m: &[u8]) -> Root
 }
 
 // The root block and what follows it, up to the message's end.
-fn walk_whole(body: &[u8], m: &[u8], v: usize, wire: OnWire) -> Walked
+pub fn walk_whole(body: &[u8], m: &[u8], v: usize, wire: OnWire) -> Walked
     requires { ⌜ BlockAt (wordsOf (now body)) 4 0 × Lent (now m) 12 ⌝ }
     ensures { λ r. ⌜ r ≡ walked (rootEnd (now (m .entry))) (wholeAt (wordsOf (now (body .entry))) (now (m .entry)) v
         wire) ⌝ }
 {
-    let root = walk::walk_block(body, 0, 4, m, v, wire, 12);
-    let Walked::To { next, .. } = root else {
+    let root = walk::pass_block(body, 0, 4, m, v, wire, 12);
+    let Walked::To { next, records } = root else {
         return root;
     };
     if next == m.len() {
-        return root;
+        return Walked::To { next, records };
     }
     wire::refuse(20, next)
 }
 
 // A message by its template's body, in a book of this version: 14 to 20.
 pub fn walk_root(body: &[u8], version: usize, m: &[u8]) -> Walked
-    requires { ⌜ BlockAt (wordsOf (now body)) 4 0 × Lent (now m) 12 ⌝ }
+    requires { ⌜ GoodBlock (wordsOf (now body)) 4 0 × Lent (now m) 12 ⌝ }
+    requires { ⌜ Within (wordsOf (now body)) version ⌝ }
     ensures { λ r. ⌜ r ≡ walked (rootEnd (now (m .entry))) (rootAt (wordsOf (now (body .entry))) (now (m .entry))
         version) ⌝ }
 {

@@ -10,84 +10,144 @@ ghost use Rattle.layout.specs.Result.{_and_};
 ghost use Rattle.layout.specs.Octets.{octetsOf};
 ghost use Rattle.layout.specs.Types.{typeAt, isWidth, valueOf, inRange, classify as classOf};
 ghost use Rattle.octets.specs.Spelt.{Spelt};
-ghost use Rattle.number_types.specs.Value.{valueAt};
+ghost use Rattle.number_types.specs.Value.{kept, valueAt};
 
-const WIDTH: [usize; 9] = [1, 1, 1, 2, 2, 4, 4, 8, 8];
+// A type: its octets, whether it has a sign, its range and its null.
+pub struct NumberType {
+    pub width: usize,
+    pub signed: bool,
+    pub least: u64,
+    pub greatest: u64,
+    pub null: u64,
+}
 
-const SIGNED: [bool; 9] = [false, true, false, true, false, true, false, true, false];
+const CHAR: NumberType = NumberType {
+    width: 1,
+    signed: false,
+    least: 0x20,
+    greatest: 0x7e,
+    null: 0,
+};
 
-const LEAST: [u64; 9] = [
-    0x20,
-    0xffff_ffff_ffff_ff81,
-    0,
-    0xffff_ffff_ffff_8001,
-    0,
-    0xffff_ffff_8000_0001,
-    0,
-    0x8000_0000_0000_0001,
-    0,
-];
+const INT8: NumberType = NumberType {
+    width: 1,
+    signed: true,
+    least: 0xffff_ffff_ffff_ff81,
+    greatest: 0x7f,
+    null: 0xffff_ffff_ffff_ff80,
+};
 
-const GREATEST: [u64; 9] = [
-    0x7e,
-    0x7f,
-    0xfe,
-    0x7fff,
-    0xfffe,
-    0x7fff_ffff,
-    0xffff_fffe,
-    0x7fff_ffff_ffff_ffff,
-    0xffff_ffff_ffff_fffe,
-];
+const UINT8: NumberType = NumberType {
+    width: 1,
+    signed: false,
+    least: 0,
+    greatest: 0xfe,
+    null: 0xff,
+};
 
-const NULL: [u64; 9] = [
-    0,
-    0xffff_ffff_ffff_ff80,
-    0xff,
-    0xffff_ffff_ffff_8000,
-    0xffff,
-    0xffff_ffff_8000_0000,
-    0xffff_ffff,
-    0x8000_0000_0000_0000,
-    0xffff_ffff_ffff_ffff,
-];
+const INT16: NumberType = NumberType {
+    width: 2,
+    signed: true,
+    least: 0xffff_ffff_ffff_8001,
+    greatest: 0x7fff,
+    null: 0xffff_ffff_ffff_8000,
+};
+
+const UINT16: NumberType = NumberType {
+    width: 2,
+    signed: false,
+    least: 0,
+    greatest: 0xfffe,
+    null: 0xffff,
+};
+
+const INT32: NumberType = NumberType {
+    width: 4,
+    signed: true,
+    least: 0xffff_ffff_8000_0001,
+    greatest: 0x7fff_ffff,
+    null: 0xffff_ffff_8000_0000,
+};
+
+const UINT32: NumberType = NumberType {
+    width: 4,
+    signed: false,
+    least: 0,
+    greatest: 0xffff_fffe,
+    null: 0xffff_ffff,
+};
+
+const INT64: NumberType = NumberType {
+    width: 8,
+    signed: true,
+    least: 0x8000_0000_0000_0001,
+    greatest: 0x7fff_ffff_ffff_ffff,
+    null: 0x8000_0000_0000_0000,
+};
+
+const UINT64: NumberType = NumberType {
+    width: 8,
+    signed: false,
+    least: 0,
+    greatest: 0xffff_ffff_ffff_fffe,
+    null: 0xffff_ffff_ffff_ffff,
+};
 
 // 2^63: half of all numbers.
 const HALF: u64 = 0x8000_0000_0000_0000;
+
+// The type with code t. The constants are told apart by `match`, not by an index: an array of constants would be laid
+// on the stack at each call.
+pub fn number_type(t: usize) -> NumberType
+    requires { ⌜ t < 9 ⌝ }
+    ensures { λ r. ⌜ r ≡ kept (typeAt t) ⌝ }
+{
+    match t {
+        0 => CHAR,
+        1 => INT8,
+        2 => UINT8,
+        3 => INT16,
+        4 => UINT16,
+        5 => INT32,
+        6 => UINT32,
+        7 => INT64,
+        _ => UINT64,
+    }
+}
 
 pub fn width_of(t: usize) -> usize
     requires { ⌜ t < 9 ⌝ }
     ensures { λ r. ⌜ r ≡ typeAt t .width ⌝ }
 {
-    WIDTH[t]
+    number_type(t).width
 }
 
 pub fn least_of(t: usize) -> u64
     requires { ⌜ t < 9 ⌝ }
     ensures { λ r. ⌜ r ≡ typeAt t .least ⌝ }
 {
-    LEAST[t]
+    number_type(t).least
 }
 
 pub fn greatest_of(t: usize) -> u64
     requires { ⌜ t < 9 ⌝ }
     ensures { λ r. ⌜ r ≡ typeAt t .greatest ⌝ }
 {
-    GREATEST[t]
+    number_type(t).greatest
 }
 
 pub fn null_of(t: usize) -> u64
     requires { ⌜ t < 9 ⌝ }
     ensures { λ r. ⌜ r ≡ typeAt t .null ⌝ }
 {
-    NULL[t]
+    number_type(t).null
 }
 
 pub fn is_signed(t: usize) -> bool
     requires { ⌜ t < 9 ⌝ }
     ensures { λ r. ⌜ r ≡ typeAt t .signed ⌝ }
 {
-    SIGNED[t]
+    number_type(t).signed
 }
 
 // The number that the w octets at `at` are.
@@ -157,25 +217,44 @@ fn is_null(t: usize, optional: bool, x: u64) -> bool
     if optional { x == null_of(t) } else { false }
 }
 
-// What a value is to an optional or a required field: a number, null, or out of range.
+// What a value is to an optional or a required field: a number, null, or out of range. No null is in its range, so that
+// what is most frequent is asked first.
 pub fn classify(t: usize, optional: bool, x: u64) -> Answer
     requires { ⌜ t < 9 ⌝ }
     ensures { λ r. ⌜ r ≡ classOf (typeAt t) optional x ⌝ }
 {
-    if is_null(t, optional, x) {
-        return Answer::Null;
-    }
     if in_range(t, x) {
         return Answer::Number(x);
+    }
+    if is_null(t, optional, x) {
+        return Answer::Null;
     }
     Answer::OutOfRange(x)
 }
 
-// What the octets of a field of type t at `at` are.
-pub fn read(s: &[u8], at: usize, t: usize, optional: bool) -> Answer
+// What the octets of a number of type t at `at` are.
+fn read_as(s: &[u8], at: usize, t: usize, optional: bool) -> Answer
     requires { ⌜ (t < 9) × (at + typeAt t .width ≤ length (now s)) ⌝ }
     ensures { λ r. ⌜ r ≡ classOf (typeAt t) optional (valueAt (now (s .entry)) at t) ⌝ }
 {
     let x = raw(s, at, width_of(t));
     classify(t, optional, value_of(t, x))
+}
+
+// The same. The compiler makes of each arm code for its one type.
+pub fn read(s: &[u8], at: usize, t: usize, optional: bool) -> Answer
+    requires { ⌜ (t < 9) × (at + typeAt t .width ≤ length (now s)) ⌝ }
+    ensures { λ r. ⌜ r ≡ classOf (typeAt t) optional (valueAt (now (s .entry)) at t) ⌝ }
+{
+    match t {
+        0 => read_as(s, at, 0, optional),
+        1 => read_as(s, at, 1, optional),
+        2 => read_as(s, at, 2, optional),
+        3 => read_as(s, at, 3, optional),
+        4 => read_as(s, at, 4, optional),
+        5 => read_as(s, at, 5, optional),
+        6 => read_as(s, at, 6, optional),
+        7 => read_as(s, at, 7, optional),
+        _ => read_as(s, at, 8, optional),
+    }
 }

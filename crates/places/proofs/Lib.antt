@@ -1,5 +1,6 @@
 pub mod Stages
 pub mod Joins
+pub mod Plain
 pub mod Rows
 pub mod Steps
 pub mod Elements

@@ -18,9 +18,7 @@ use Rattle.templates.specs.Positions.{IsRow, groupCount, groupsEnd, groupsFrom,
 use Rattle.wire.specs.Walks.{dimensionEnd, walked}
 use Rattle.wire.specs.declared.Walked.the-variants as Walked
 use Rattle.walk.specs.Walks.{BlockAt, GoodBlock, groupAt, innerAt, rowAt}
-use Rattle.walk.specs.declared.OnWire.{OnWire}
-use Rattle.places.specs.Asks.{Asked, HasRest, Inner, Paired, blockSought, countOf, groupAsked, groupItself}
-use Rattle.places.specs.Asks.{groupSought}
+use Rattle.places.specs.Asks.{Asked, HasRest, Inner, Paired, countOf, groupAsked, groupItself, groupSought}
 use Rattle.places.specs.Asks.{groupTo, inGroup, inRow, numberOf}
 use Rattle.places.specs.declared.Sought.the-variants.{To}
 use Rattle.places.proofs.Steps.{has-element, not-empty, row-halves, row-opens, steps-none, steps-open}
@@ -29,9 +27,9 @@ use Rattle.places.proofs.Along.{Cut, group-good, group-has, group-there
 -- ---- a place without steps
 
 module _ (steps : List ℕ) (empty : length steps ≡ 0) where
-  pub at-once : (b : List ℕ) (depth w : ℕ) (m : List ℕ) (v : ℕ) (wire : OnWire) (at : ℕ) (x y : Element) → x ≡ y
-      → blockSought b depth w m v wire at [] y ≡ blockSought b depth w m v wire at (stepsOf steps) x
-  at-once b depth w m v wire at x y e = rw (steps-none steps empty, e) refl
+  -- What is asked of the steps and the element is asked of the element alone.
+  pub at-once : {A : Type 0} (f : List Step → Element → A) (x y : Element) → x ≡ y → f [] y ≡ f (stepsOf steps) x
+  at-once f x y e = rw (steps-none steps empty, e) refl
 
   pub group-itself : (b : List ℕ) (depth w : ℕ) (m : List ℕ) (v at : ℕ) (x : Element)
       → groupItself b depth w m v at ≡ groupSought b depth w m v at (stepsOf steps) x

@@ -39,6 +39,9 @@ not-empty (g ∷ l) h = omega arith
 abbrev pub later : List ℕ → List ℕ
 later l = take (length l - 2) (drop 2 l)
 
+pub later-none : (l : List ℕ) → length l ≤ 2 → length (later l) ≡ 0
+later-none l h = let q : length l - 2 ≡ 0 = omega arith in rw q refl
+
 -- The first step, and those after it.
 pub steps-open : (l : List ℕ) → 0 < length l → Paired l
     → (stepsOf l ≡ record { group = getD l 0 0; entry = getD l 1 0 } ∷ stepsOf (later l)) × (2 ≤ length l)

@@ -1,30 +1,38 @@
--- The whole message: its end, and 30 after its own refusals.
-use mathlib.Core.Path.{_∙_, _≡_, refl}
+-- The whole message: its end, a field of its root, and 30 after its own refusals.
+use mathlib.Core.Path.{_∙_, _≡_, refl, sym}
 use mathlib.Core.Bool.{false, true}
-use mathlib.Core.List.{List}
-use Prim.Native.Nat.{ℕ}
+use mathlib.Core.List.{List, []}
+use Prim.Native.Nat.{ℕ, _+_, _*_, _<_}
 use native.Mathlib.Omega.{arith}
 use lib.ListN.{length}
 use borrow.Author.Tests.{eq-eqb, leb-true, ne-eqb}
 use Rattle.layout.specs.Result.{Result, _>>=_, done, must, refused}
+use Rattle.layout.specs.BookRules.{fieldAt}
 use Rattle.layout.specs.Contracts.{found, refusal, stepsOf}
-use Rattle.layout.specs.Message.{versionOf}
-use Rattle.layout.specs.Values.{Step}
+use Rattle.layout.specs.Message.{Entry, readField, versionOf}
+use Rattle.layout.specs.Values.{Step, entry, nil}
 use Rattle.layout.specs.declared.Answer.{Answer}
 use Rattle.layout.specs.declared.Element.{Element}
+use Rattle.layout.specs.declared.Element.the-variants as Element
 use Rattle.layout.specs.declared.Found.{Found}
 use Rattle.layout.specs.declared.Found.the-variants as Found
 use Rattle.layout.specs.declared.Refusal.{Refusal}
-use Rattle.layout.proofs.Results.{and-left, and-right}
+use Rattle.layout.proofs.Results.{and-left, and-right, bind-done, inv-bind}
+use Rattle.templates.specs.Positions.{fieldCount}
+use Rattle.fields.specs.Readable.{Fits}
 use Rattle.wire.specs.Walks.{walked}
+use Rattle.wire.specs.declared.Walked.the-variants as Walked
+use Rattle.wire.proofs.Laws.{inv-to}
+use Rattle.walk.specs.Walks.{blockAt}
 use Rattle.walk.specs.declared.OnWire.{OnWire}
 use Rattle.messages.specs.Whole.{rootAt, rootEnd, rooted, wholeAt, wireAt}
 use Rattle.messages.specs.declared.Root.the-variants as Root
 use Rattle.messages.proofs.Laws.{root-on, root-refused}
-use Rattle.places.specs.Asks.{Asked, blockSought, entryTo, hasAll, inEntry, lackingAt, placeAt, sought}
-use Rattle.places.specs.Asks.{wholeAnswer}
+use Rattle.places.specs.Asks.{Asked, Readable, blockSought, entryTo, hasAll, inEntry, lackingAt, placeAt}
+use Rattle.places.specs.Asks.{sought, wholeAnswer}
 use Rattle.places.specs.declared.Sought.{Sought}
 use Rattle.places.specs.declared.Sought.the-variants.{Refused, To}
+use Rattle.places.proofs.Elements.{field-fits, field-found}
 use Rattle.places.proofs.Stages.{inv-sought}
 use Rattle.places.proofs.Steps.{steps-many}
 
@@ -56,6 +64,34 @@ module _ (b m : List ℕ) (v : ℕ) (wire : OnWire) (p : List Step) (x : Element
     whole-left h =
         let o = inv-sought entryTo (inEntry p x) _ y f e in
         rw (o .is, o .next, ne-eqb y (length m) h) refl
+
+-- ---- a field of the root
+
+-- What the walk refuses is the answer.
+pub walk-denied : {A : Type 0} (f : A → ℕ × ℕ) (k : A → Result Answer) (z : Refusal) (r : Result A)
+    → Walked.Refused z ≡ walked f r → found (r >>= k) ≡ Found.Refused z
+unfolding walked found _>>=_
+walk-denied f k z (done a) e = absurd (let y : _≡_ {A = ℕ} 0 1 = cc in omega arith)
+walk-denied f k z (refused n p) e = cc
+
+module _ (b m : List ℕ) (v : ℕ) (wire : OnWire) (block : Readable b 4 0 m v (wire .length) 12) (k : ℕ)
+    (h : k < fieldCount b 0) (y j : ℕ) (e : Walked.To y j ≡ walked (rootEnd m) (wholeAt b m v wire)) where
+  -- The root block was read, and the whole is its entry.
+  root-read : (a : Entry) × (blockAt b 4 0 m v wire 12 ≡ done a)
+      × (wholeAt b m v wire ≡ done (entry (a .0) (a .1) (a .2) nil))
+  unfolding wholeAt
+  root-read =
+      let whole = inv-to (rootEnd m) (wholeAt b m v wire) y j e .is in
+      let p = inv-bind _ _ _ whole in
+      (p .value, p .first, whole ∙ sym (inv-bind _ _ _ (p .next) .next))
+
+  -- The field's octets are there, and its answer is the answer.
+  pub root-fits : Fits m v 12 (fieldAt b (4 + 6 * k))
+  root-fits = field-fits b 4 0 m v wire 12 block (root-read .0) (root-read .1) k h
+
+  pub root-found : found (wholeAnswer b m v wire [] (Element.Field k))
+      ≡ Found.Is (readField m v 12 (fieldAt b (4 + 6 * k)))
+  root-found = rw (root-read .2, bind-done) (field-found b 4 0 m v wire 12 block (root-read .0) (root-read .1) k h)
 
 -- ---- whether the book has the place
 

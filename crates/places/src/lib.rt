@@ -7,15 +7,17 @@ use messages::Root;
 use walk::OnWire;
 use wire::Walked;
 ghost use mathlib.Core.Path.{_≡_};
+ghost use mathlib.Core.Bool.{true};
 ghost use mathlib.Core.List.{[]};
-ghost use Prim.Native.Nat.{_+_, _/_, _<_, _≤_};
+ghost use Prim.Native.Nat.{_+_, _*_, _/_, _<_, _≤_};
 ghost use lib.ListN.{length};
 ghost use Rattle.layout.specs.Octets.{wordsOf};
 ghost use Rattle.layout.specs.BookRules.{word};
 ghost use Rattle.layout.specs.Contracts.{found, refusal, stepsOf};
 ghost use Rattle.layout.specs.Reading.{hasPlace};
 ghost use Rattle.templates.specs.Positions.{IsBlock, dataCount, fieldCount, shapeAt};
-ghost use Rattle.walk.specs.Walks.{BlockAt, GoodBlock, Lent, innerAt};
+ghost use Rattle.walk.specs.Walks.{BlockAt, GoodBlock, Lent, Plain, innerAt};
+ghost use Rattle.messages.specs.Whole.{Within};
 ghost use Rattle.places.specs.Asks.{Asked, HasRest, Inner, Paired, Reaches, Readable, blockSought};
 ghost use Rattle.places.specs.Asks.{countOf, dataIs, datasSought, entriesSought, groupAsked, groupItself};
 ghost use Rattle.places.specs.Asks.{groupSought, hasAll, lackingAt, numberOf, placeAt, rowSought, wholeAnswer};
@@ -90,6 +92,9 @@ fn has(body: &[u8], steps: &[u64], x: Element) -> bool
     requires { ⌜ BlockAt (wordsOf (now body)) 4 0 ⌝ }
     ensures { λ r. ⌜ r ≡ hasAll (wordsOf (now (body .entry))) (stepsOf (now (steps .entry))) x ⌝ }
 {
+    if steps.len() == 0 {
+        return number(x) < count(body, 0, x);
+    }
     if steps.len() % 2 == 1 {
         return false;
     }
@@ -222,7 +227,60 @@ fn seek_count(body: &[u8], w: usize, depth: usize, m: &[u8], v: usize, at: usize
     }
 }
 
+// Field k of entry e of the n entries of the block at word w, which has neither groups nor data.
+fn plain_field(
+    body: &[u8],
+    w: usize,
+    depth: usize,
+    m: &[u8],
+    v: usize,
+    l: usize,
+    n: usize,
+    start: usize,
+    e: usize,
+    k: usize,
+) -> Sought
+    requires { ⌜ Readable (wordsOf (now body)) depth w (now m) v l start × (k < fieldCount (wordsOf (now body)) w) ⌝ }
+    requires { ⌜ Plain (wordsOf (now body)) w × (start + l * n ≤ length (now m)) ⌝ }
+    ensures { λ r. ⌜ r ≡ entriesSought (wordsOf (now (body .entry))) depth w (now (m .entry)) v l n start e []
+        (Element.Field k) ⌝ }
+    ensures { λ r. ⌜ Reaches (now (m .entry)) r ⌝ }
+{
+    let next = start + l * n;
+    if n <= e {
+        let found = refuse(31, 0);
+        return Sought::To { next, found };
+    }
+    let found = Found::Is(fields::read_field(body, w + 4 + 6 * k, m, v, start + l * e));
+    Sought::To { next, found }
+}
+
 // ---- along the steps
+
+// Whether the last step leads to a field, and the n entries of the block at word w, with l octets each, are passed at
+// once.
+fn is_plain_field(
+    body: &[u8],
+    w: usize,
+    l: usize,
+    n: usize,
+    left: usize,
+    steps: &[u64],
+    x: Element,
+) -> bool
+    requires { ⌜ IsBlock (wordsOf (now body)) w × (left ≤ 65535) × (n ≤ 65535) ⌝ }
+    ensures { λ r. ⌜ (r ≡ true → Plain (wordsOf (now (body .entry))) w × (l * n ≤ left) × (length (now (steps .entry))
+        ≤ 2) × (x ≡ Element.Field (numberOf x))) ⌝ }
+{
+    if 2 < steps.len() {
+        return false;
+    }
+    match x {
+        Element::Field(_) => walk::at_once(body, w, l, n, left),
+        Element::Group(_) => false,
+        Element::Data(_) => false,
+    }
+}
 
 // The number of the group that the steps and the element lead to first.
 fn group_asked(steps: &[u64], x: Element) -> usize
@@ -354,6 +412,9 @@ fn seek_group(
     let l = octets::get2(m, at) as usize;
     let k = octets::get2(m, at + 2) as usize;
     let e = steps[1] as usize;
+    if is_plain_field(body, w + 2, l, k, m.len() - next, steps, x) {
+        return plain_field(body, w + 2, depth, m, v, l, k, next, e, number(x));
+    }
     seek_entry(body, w + 2, depth, m, v, l, k, next, e, &steps[2..], x)
 }
 
@@ -404,6 +465,19 @@ fn seek_entry(
 
 // ---- the whole message
 
+// Field k of the root block, the place that is asked for most.
+fn root_field(body: &[u8], m: &[u8], v: usize, wire: OnWire, k: usize) -> Found
+    requires { ⌜ Readable (wordsOf (now body)) 4 0 (now m) v (wire .length) 12 ⌝ }
+    requires { ⌜ k < fieldCount (wordsOf (now body)) 0 ⌝ }
+    ensures { λ r. ⌜ r ≡ found (wholeAnswer (wordsOf (now (body .entry))) (now (m .entry)) v wire [] (Element.Field
+        k)) ⌝ }
+{
+    match messages::walk_whole(body, m, v, wire) {
+        Walked::To { .. } => Found::Is(fields::read_field(body, 4 + 6 * k, m, v, 12)),
+        Walked::Refused(refusal) => Found::Refused(refusal),
+    }
+}
+
 // The root block and what follows it, up to the message's end.
 fn seek_whole(body: &[u8], m: &[u8], v: usize, wire: OnWire, steps: &[u64], x: Element) -> Found
     requires { ⌜ Readable (wordsOf (now body)) 4 0 (now m) v (wire .length) 12 ⌝ }
@@ -411,6 +485,11 @@ fn seek_whole(body: &[u8], m: &[u8], v: usize, wire: OnWire, steps: &[u64], x: E
     ensures { λ r. ⌜ r ≡ found (wholeAnswer (wordsOf (now (body .entry))) (now (m .entry)) v wire (stepsOf (now
         (steps .entry))) x) ⌝ }
 {
+    if steps.len() == 0 {
+        if let Element::Field(k) = x {
+            return root_field(body, m, v, wire, k);
+        }
+    }
     match seek_block(body, 0, 4, m, v, wire, 12, steps, x) {
         Sought::To { next, found } => {
             if next == m.len() {
@@ -435,6 +514,7 @@ fn lacking(walked: Walked) -> Found
 // A message by its template's body, in a book of this version.
 pub fn answer(body: &[u8], version: usize, m: &[u8], steps: &[u64], x: Element) -> Found
     requires { ⌜ GoodBlock (wordsOf (now body)) 4 0 × Lent (now m) 12 ⌝ }
+    requires { ⌜ Within (wordsOf (now body)) version ⌝ }
     ensures { λ r. ⌜ r ≡ found (placeAt (wordsOf (now (body .entry))) (now (m .entry)) version (stepsOf (now
         (steps .entry))) x) ⌝ }
 {

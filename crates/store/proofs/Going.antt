@@ -32,7 +32,7 @@ room-rest e not n k r = absurd (let z : _≡_ {A = ℕ} 0 1 = cc (r .whole) in o
 pub room-put : (e : List ℕ) (x : Printed) (n k : ℕ) → Room (prepend e x) n k → n + length e ≤ k
 room-put e x n k r = omega (arith, room-rest e x n k r .fits)
 
-room-first : (x : Printed) (f : ℕ → Printed) (n k : ℕ) → Room (andThen x f) n k → Room x n k
+pub room-first : (x : Printed) (f : ℕ → Printed) (n k : ℕ) → Room (andThen x f) n k → Room x n k
 unfolding andThen endOf numbersOf
 room-first (got a xs) f n k r = record { whole = refl; fits = omega (arith, room-put xs (f a) n k r) }
 room-first not f n k r = absurd (let z : _≡_ {A = ℕ} 0 1 = cc (r .whole) in omega arith)

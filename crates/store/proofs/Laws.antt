@@ -1,6 +1,6 @@
 -- What each part of a message prints, taken apart in the code's terms. That it was accepted is known: no test is made.
 use mathlib.Core.Path.{_≡_, refl, sym, _∙_}
-use mathlib.Core.List.{List, [], _++_, map, append-assoc}
+use mathlib.Core.List.{List, [], _++_, map, append-assoc, append-nil}
 use mathlib.Core.Bool.{true, false}
 use Prim.Native.Nat.{ℕ, zero, suc, _+_, _-_, _≤_, _<_}
 use native.Mathlib.Omega.{arith}
@@ -19,7 +19,9 @@ use Rattle.layout.specs.declared.Answer.{Answer}
 use Rattle.layout.specs.declared.Answer.the-variants.{Absent, Group, Octets}
 use Rattle.layout.proofs.Results.{inv-bind, inv-must}
 use Rattle.layout.proofs.Records.{record-three}
-use Rattle.templates.specs.Positions.{Opened, groupCount, groupsAt, groupsEnd, groupsFrom, shapeAt}
+use Rattle.templates.specs.Positions.{Opened, dataCount, groupCount, groupsAt, groupsEnd, groupsFrom, shapeAt}
+use Rattle.templates.specs.Positions.{datasFrom as datasStart}
+use Rattle.templates.proofs.Open.{no-groups-at}
 use Rattle.wire.specs.Walks.{Inside, skipEnd, walked}
 use Rattle.wire.specs.declared.Walked.{Walked}
 use Rattle.wire.specs.declared.Walked.the-variants.{Refused, To}
@@ -31,7 +33,7 @@ use Rattle.store.specs.Prints.{Printed, got, printed, prepend, andThen, 
 use Rattle.store.specs.Stores.{blockPrint, dataPrint, datasPrint, entriesPrint}
 use Rattle.store.specs.Stores.{fieldsPrint, groupPrint, pastOf}
 use Rattle.store.specs.Stores.{rowPrint}
-use Rattle.store.proofs.Going.{prepend-nil, prepend-prepend}
+use Rattle.store.proofs.Going.{prepend-nil, prepend-prepend, room-first}
 
 -- ---- whatever is printed
 
@@ -281,3 +283,48 @@ module _ (b m : List ℕ) (depth v surplus n w at : ℕ) where
     unfolding rowPrint
     row-past =
         past listing nil (unfold listing in refl) _ _ (walking.row-none m v b depth surplus 0 n w at h) i k r c
+
+-- ---- entries of a block with neither groups nor data
+
+-- Where there are no groups it is all one how many levels are left.
+pub entries-level : (b : List ℕ) (depth w : ℕ) (m : List ℕ) (v l n at : ℕ) → groupCount b w ≡ 0
+    → entriesPrint b depth w m v l n at ≡ entriesPrint b 0 w m v l n at
+unfolding entriesPrint
+entries-level b depth w m v l n at none =
+    rw (
+      no-groups-at b depth (groupCount b w) (groupsFrom b w) (omega arith),
+      no-groups-at b 0 (groupCount b w) (groupsFrom b w) (omega arith),
+    ) refl
+
+-- The first entry is its fields and no more, in l octets of the message; the others stand after these octets.
+pub record PlainOpen (b : List ℕ) (w : ℕ) (m : List ℕ) (v l n at : ℕ) : Type 0 where
+  pub within : at + l ≤ length m
+  pub same : entriesPrint b 0 w m v l n at
+      ≡ andThen (fieldsPrint b w m v at) (λ a. entriesPrint b 0 w m v l (n - 1) (a + l))
+
+-- No groups and no data, none being surplus, print nothing and use no octets.
+row-empty : (b m : List ℕ) (depth v n w at : ℕ) → n ≤ 0 → rowPrint b depth n w m v 0 at ≡ got at []
+unfolding rowPrint printed listing skipGroups _>>=_
+row-empty b m depth v n w at h = rw (walking.row-none m v b depth 0 0 n w at h) refl
+
+datas-empty : (b m : List ℕ) (v n d at : ℕ) → n ≤ 0 → datasFrom b m v 0 n d at ≡ got at []
+unfolding printed recordsOf skipDatas _>>=_
+datas-empty b m v n d at h = rw (walking.datas-none m v b 0 n d at h) refl
+
+module _ (b : List ℕ) (w : ℕ) (m : List ℕ) (v l n at i k : ℕ) (groups : groupCount b w ≡ 0) (datas : dataCount b w ≡ 0)
+    (h : 0 < n) (r : Room (entriesPrint b 0 w m v l n at) i k) where
+  pub plain-open : PlainOpen b w m v l n at
+  unfolding andThen prepend
+  plain-open =
+      let step = entries-step b 0 w m v l n at h in
+      let block = block-open b 0 w m v (plain l) at i k (room-first _ _ i k (rw step at r)) in
+      record {
+        within = block .within;
+        same =
+            step ∙ rw (
+              block .same,
+              row-empty b m 0 v (groupCount b w) (groupsFrom b w) (at + l) (omega arith),
+              datas-empty b m v (dataCount b w) (datasStart b w) (at + l) (omega arith),
+              append-nil (recordsOf (map (readField m v at) (shapeAt b w .fields))),
+            ) refl;
+      }

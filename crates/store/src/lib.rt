@@ -3,12 +3,14 @@ use layout::Answer;
 use walk::OnWire;
 use wire::Walked;
 ghost use mathlib.Core.Path.{_≡_};
+ghost use mathlib.Core.Bool.{true};
 ghost use Prim.Native.Nat.{_+_, _≤_};
 ghost use lib.ListN.{length};
 ghost use Rattle.layout.specs.Result.{Each};
 ghost use Rattle.layout.specs.Octets.{wordsOf};
 ghost use Rattle.layout.specs.Book.{need};
-ghost use Rattle.templates.specs.Positions.{IsBlock, shapeAt};
+ghost use Rattle.layout.specs.BookRules.{shapeGood};
+ghost use Rattle.templates.specs.Positions.{IsBlock, dataCount, groupCount, shapeAt};
 ghost use Rattle.fields.specs.Readable.{Fits};
 ghost use Rattle.store.specs.Prints.{Room, Stored};
 ghost use Rattle.walk.specs.Walks.{GoodBlock, GoodRow};
@@ -138,6 +140,37 @@ pub fn store_block(
     store_datas(body, w, m, v, wire.datas, room, s)
 }
 
+// n entries of the block at word w, which has neither groups nor data, with l octets each: no level is left in it.
+fn store_plain(
+    body: &[u8],
+    w: usize,
+    m: &[u8],
+    v: usize,
+    l: usize,
+    n: usize,
+    room: &mut [u64],
+    c: Cursor,
+) -> Cursor
+    requires { ⌜ IsBlock (wordsOf (now body)) w × (groupCount (wordsOf (now body)) w ≡ 0) × (dataCount (wordsOf (now
+        body)) w ≡ 0) ⌝ }
+    requires { ⌜ (shapeGood (shapeAt (wordsOf (now body)) w) ≡ true) × (need v (shapeAt (wordsOf (now body)) w) ≤ l) ⌝ }
+    requires { ⌜ Room (entriesPrint (wordsOf (now body)) 0 w (now m) v l n (c .at)) (c .n) (length (now room)) ⌝ }
+    requires { ⌜ c .at ≤ length (now m) ⌝ }
+    ensures { λ r. ⌜ Stored (entriesPrint (wordsOf (now (body .entry))) 0 w (now (m .entry)) v l n (c .at)) (c .n)
+        (now (room .entry)) (r .at) (r .n) (now (room .exit)) ⌝ }
+    ensures { λ r. ⌜ r .at ≤ length (now (m .entry)) ⌝ }
+{
+    let mut left = n;
+    let mut at = c.at;
+    let mut k = c.n;
+    while 0 < left {
+        k = store_fields(body, w, m, v, at, room, k);
+        at = at + l;
+        left = left - 1;
+    }
+    Cursor { at, n: k }
+}
+
 // n entries of the block at word w, with l octets each.
 fn store_entries(
     body: &[u8],
@@ -157,6 +190,9 @@ fn store_entries(
         .n) (now (room .entry)) (r .at) (r .n) (now (room .exit)) ⌝ }
     ensures { λ r. ⌜ r .at ≤ length (now (m .entry)) ⌝ }
 {
+    if book::word(body, w + 2) + book::word(body, w + 3) == 0 {
+        return store_plain(body, w, m, v, l, n, room, c);
+    }
     let mut due = n;
     let mut s = c;
     while 0 < due {

@@ -1,50 +1,31 @@
 -- What the walk over a message says of each operation: each goes on from the message's tree.
 use mathlib.Core.Path.{_≡_, refl, sym, ap, _∙_}
 use mathlib.Core.List.{List}
-use Prim.Native.Nat.{ℕ, _+_, _*_, _/_, _≤_, _<_}
-use native.Mathlib.Nat.{zero-add}
-use native.Mathlib.Omega.{arith}
-use lib.ListN.{drop, length, take}
-use lib.Seq.{sets, sets-eq}
-use borrow.Author.Tests.{le-leb, lt-leb}
-use Rattle.layout.specs.Result.{Result, done, refused, must, _>>=_}
+use Prim.Native.Nat.{ℕ}
+use lib.ListN.{drop, take}
+use Rattle.layout.specs.Result.{Result, done, refused, _>>=_}
 use Rattle.layout.specs.BookRules.{bookOf, word}
 use Rattle.layout.specs.Octets.{wordsOf}
-use Rattle.layout.specs.Contracts.{Lists, checked, counted, refusal, roomAfter}
+use Rattle.layout.specs.Contracts.{Lists, checked, counted}
 use Rattle.layout.specs.Reading.{checkOf, listOf, measureOf, placeIn, placeOf}
 use Rattle.layout.specs.Message.{readMessage}
-use Rattle.layout.specs.Values.{Step, Values, listing, measure}
+use Rattle.layout.specs.Values.{Step, Values}
 use Rattle.layout.specs.declared.Element.{Element}
 use Rattle.layout.specs.declared.Refusal.{Refusal}
 use Rattle.layout.specs.declared.Checked.the-variants as Checked
+use Rattle.layout.specs.declared.Counted.{Counted}
 use Rattle.layout.specs.declared.Counted.the-variants as Counted
 use Rattle.layout.proofs.Results.{bind-assoc, bind-done}
-use Rattle.layout.proofs.Records.{listing-three}
 use Rattle.wire.specs.Walks.{walked}
 use Rattle.wire.specs.declared.Walked.the-variants.{To, Refused}
-use Rattle.wire.proofs.Laws.{Reached, inv-to}
+use Rattle.wire.proofs.Laws.{Reached, inv-refused, inv-to}
 use Rattle.templates.specs.Lookup.{IsBook}
-use Rattle.messages.specs.Whole.{bodyAt, bodyFound, messageOf, rootEnd}
+use Rattle.messages.specs.Whole.{bodyAt, bodyFound, messageOf, rootAt, rootEnd}
 use Rattle.messages.specs.declared.Body.the-variants as Body
-use Rattle.messages.proofs.Laws.{place-found, place-refused}
+use Rattle.messages.proofs.Laws.{message-found, place-found, place-refused}
 use Rattle.places.specs.Asks.{placeAt}
-use Rattle.store.specs.Prints.{Room, endOf, got, numbersOf}
-use Rattle.store.proofs.Laws.{prints}
-use Rattle.listings.specs.Whole.{messagePrint, noEnd}
-
-inv-refused : {A : Type 0} (f : A → ℕ × ℕ) (r : Result A) (z : Refusal) → Refused z ≡ walked f r
-    → r ≡ refused (z .number) (z .place)
-unfolding walked
-inv-refused f (done a) z e = absurd (let y : _≡_ {A = ℕ} 0 1 = cc in omega arith)
-inv-refused f (refused n p) z e =
-    let q : z ≡ refusal n p = cc in
-    rw q refl
-
--- A listing that is refused.
-pub no-listing : (s m room : List ℕ) (n p : ℕ) → listOf s m (length room) ≡ refused n p
-    → Lists s m room (Counted.Refused (refusal n p)) room
-unfolding _>>=_ counted roomAfter
-no-listing s m room n p e = record { answer = rw e refl; room = rw e refl }
+use Rattle.listings.specs.Whole.{ListsAs, listed, measured}
+use Rattle.listings.proofs.Laws.{list-refused}
 
 module _ (s m : List ℕ) where
   goes-on : {A : Type 0} (k : Values → Result A) (r : Result Values) → messageOf s m ≡ r
@@ -67,10 +48,6 @@ module _ (s m : List ℕ) where
     unfolding measureOf counted
     measure-refused = ap counted (sym (stops _))
 
-    pub list-refused : (room : List ℕ) → Lists s m room (Counted.Refused z) room
-    unfolding listOf
-    list-refused room = no-listing s m room _ _ (stops _)
-
   -- ---- the message is walked to its end
 
   module _ (x n : ℕ) (e : To x n ≡ walked (rootEnd m) (messageOf s m)) where
@@ -84,50 +61,43 @@ module _ (s m : List ℕ) where
     unfolding checkOf checked
     check-accepted = ap checked (sym (follows _))
 
-    measured : measureOf s m ≡ done n
-    unfolding measureOf
-    measured = follows _ ∙ ap done (read .records)
-
     pub measure-is : Counted.Count n ≡ counted (measureOf s m)
-    unfolding counted
-    measure-is = ap counted (sym measured)
+    unfolding measureOf counted
+    measure-is = ap counted (sym (follows _ ∙ ap done (read .records)))
 
-    module _ (room : List ℕ) where
-      pub list-full : length room / 3 < n → Lists s m room (Counted.Refused (refusal 40 0)) room
-      unfolding listOf _>>=_ must
-      list-full h =
-          let full : length room < 3 * measure (read .value) = omega (arith, read .records, h) in
-          no-listing s m room 40 0 (follows _ ∙ rw (lt-leb _ _ full) refl)
+  -- ---- the message is listed
 
-      module _ (h : n ≤ length room / 3) where
-        fits : 3 * measure (read .value) ≤ length room
-        fits = omega (arith, read .records, h)
+  -- Listing and measuring go on from what the message comes to.
+  list-from : (room : ℕ) → listOf s m room ≡ listed (messageOf s m) room
+  unfolding listOf listed
+  list-from room = goes-on _ _ refl
 
-        within : 0 + length (listing (read .value)) ≤ length room
-        within = omega (arith, listing-three (read .value), fits)
+  measure-from : measureOf s m ≡ measured (messageOf s m)
+  unfolding measureOf measured
+  measure-from = goes-on _ _ refl
 
-        listed : listOf s m (length room) ≡ done (listing (read .value))
-        unfolding listOf _>>=_ must
-        listed = follows _ ∙ rw (le-leb _ _ fits) refl
+  lists : (before : List ℕ) (r : Counted) (after : List ℕ) → ListsAs (messageOf s m) before r after
+      → Lists s m before r after
+  lists before r after h =
+      record { answer = rw (list-from, measure-from) (h .answer); room = rw list-from (h .room) }
 
-        message-prints : messagePrint s m ≡ got 0 (listing (read .value))
-        unfolding messagePrint
-        message-prints = prints noEnd listing _ _ (read .is)
-
-        pub list-room : Room (messagePrint s m) 0 (length room)
-        unfolding endOf numbersOf
-        list-room = rw message-prints (record { whole = refl; fits = within })
-
-        pub list-stored : (after : List ℕ) → after ≡ sets room 0 (numbersOf (messagePrint s m))
-            → Lists s m room (Counted.Count n) after
-        unfolding _>>=_ counted roomAfter numbersOf
-        list-stored after q =
-            let laid = rw message-prints at q ∙ sets-eq (listing (read .value)) room 0 within in
-            record { answer = rw (listed, measured) refl; room = rw listed (rw zero-add at laid) }
-
--- ---- a place
+  -- A listing that is refused, for the book or for the message.
+  pub no-listing : (z : Refusal) → messageOf s m ≡ refused (z .number) (z .place) → (room : List ℕ)
+      → Lists s m room (Counted.Refused z) room
+  no-listing z e room = lists room _ room (list-refused _ z e room)
 
 module _ (s : List ℕ) (k : IsBook s) (m : List ℕ) where
+  -- ---- a listing
+
+  -- The message is listed as its root is.
+  pub list-at : (first words : ℕ) → Body.At first words ≡ bodyFound (bodyAt s m) → (version : ℕ)
+      → version ≡ word (wordsOf s) 1 → (before : List ℕ) (r : Counted) (after : List ℕ)
+      → ListsAs (rootAt (take words (drop first (wordsOf s))) m version) before r after → Lists s m before r after
+  list-at first words e version v before r after h =
+      lists s m before r after (rw (message-found s k m first words e version v) h)
+
+  -- ---- a place
+
   placed : (p : List Step) (x : Element) → placeOf s m p x ≡ placeIn (k .tree) m p x
   unfolding placeOf _>>=_
   placed p x = rw (k .is) refl

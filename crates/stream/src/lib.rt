@@ -47,18 +47,12 @@ pub fn list(book: &[u8], m: &[u8], room: &mut [u64]) -> Counted
     requires { ⌜ IsBook (now book) ⌝ }
     ensures { λ r. ⌜ Lists (now (book .entry)) (now (m .entry)) (now (room .entry)) r (now (room .exit)) ⌝ }
 {
-    match messages::walk(book, m) {
-        Walked::Refused(refusal) => Counted::Refused(refusal),
-        Walked::To { records, .. } => {
-            if room.len() / 3 < records {
-                return Counted::Refused(Refusal {
-                    number: 40,
-                    place: 0,
-                });
-            }
-            listings::store_message(book, m, room);
-            Counted::Count(records)
+    match messages::find_body(book, m) {
+        Body::At { first, words } => {
+            let end = 2 * first + 2 * words;
+            listings::list_root(&book[2 * first..end], book::word(book, 1), m, room)
         }
+        Body::Refused(refusal) => Counted::Refused(refusal),
     }
 }
 

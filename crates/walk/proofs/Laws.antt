@@ -1,32 +1,34 @@
 -- One law for each way that a function of the walk ends or goes on, in the code's terms.
 use mathlib.Core.Path.{_≡_, refl, sym, ap, _∙_}
-use mathlib.Core.List.{List, [], _∷_}
+use mathlib.Core.List.{List, [], _∷_, map}
 use mathlib.Core.Bool.{true}
 use Prim.Native.Nat.{ℕ, zero, suc, _+_, _-_, _*_, _≤_, _<_}
+use native.Mathlib.Numerals.{unary-clauses}
 use native.Mathlib.Omega.{arith}
-use lib.Dec.{leb}
+use lib.Dec.{eqb, leb}
 use lib.ListN.{length, length-map}
-use borrow.Author.Tests.{le-leb, lt-leb}
+use borrow.Author.Tests.{eqb-true, le-leb, lt-leb}
 use Rattle.layout.specs.Result.{Result, done, refused, must, if_then_else_, _>>=_}
 use Rattle.layout.specs.Octets.{number16}
 use Rattle.layout.specs.Book.{Shape, need}
 use Rattle.layout.specs.BookRules.{groupsGood, parseDatas, parseFields, word}
 use Rattle.layout.specs.Contracts.{refusal}
-use Rattle.layout.specs.Values.{Values, entry, group, measure, nil}
+use Rattle.layout.specs.Values.{Values, entriesFrom, entry, group, measure, nil}
 use Rattle.layout.specs.Message.{Entry, readBlock, readData, readDatas, readDimension, readEntries, readField}
 use Rattle.layout.specs.Message.{readGroup, readGroups, skipDatas, skipGroups}
 use Rattle.layout.specs.declared.Answer.{Answer}
 use Rattle.layout.specs.declared.Answer.the-variants.{Absent, Group}
 use Rattle.layout.specs.declared.Refusal.{Refusal}
 use Rattle.layout.proofs.Results.{and-left, and-right}
-use Rattle.templates.specs.Positions.{Opened, groupCount, groupsAt, groupsEnd, groupsFrom}
+use Rattle.templates.specs.Positions.{Opened, dataCount, datasFrom, fieldCount, fieldsFrom, groupCount, groupsAt}
+use Rattle.templates.specs.Positions.{groupsEnd, groupsFrom, shapeAt}
 use Rattle.templates.proofs.Open.{no-groups-at}
 use Rattle.wire.specs.Walks.{walked, dataEnd, dimensionEnd, skipEnd}
 use Rattle.wire.specs.declared.Walked.{Walked}
 use Rattle.wire.specs.declared.Walked.the-variants.{To, Refused}
 use Rattle.wire.proofs.Laws.{dimension-reached, refused-on}
 use Rattle.walk.specs.Walks.{Bounded, GoodBlock, GoodRow, datasEnd, entryEnd, groupAt, groupEnd, rate}
-use Rattle.walk.specs.Walks.{valuesEnd}
+use Rattle.walk.specs.Walks.{Plain, entriesAt, innerAt, valuesEnd}
 
 -- ---- whatever is walked
 
@@ -278,3 +280,68 @@ module _ (m : List ℕ) (v : ℕ) (b : List ℕ) (depth s seen n w at : ℕ) whe
         rw row-step
         (then-to _ groupEnd x k e _ _ _ λ a p q.
         rw p (told _ _ _ _ λ r. ap (λ (i : ℕ). (r .1, i)) (omega (arith, q))))
+
+-- ---- plain blocks
+
+-- A block whose counts of groups and data add up to nothing.
+pub plain-counts : (b : List ℕ) (w g d : ℕ) → g ≡ groupCount b w → d ≡ dataCount b w → eqb (g + d) 0 ≡ true
+    → Plain b w
+plain-counts b w g d p q e =
+    let none = eqb-true (g + d) 0 e in
+    record { noGroups = omega (arith, none, p); noDatas = omega (arith, none, q) }
+
+-- Blocks with l octets each that are the fields of the block at word w, and nothing else.
+module _ (m : List ℕ) (v : ℕ) (b : List ℕ) (w l : ℕ) where
+  -- The fields' answers, of a block that starts at `at`.
+  abbrev pub fieldsRead : ℕ → List Answer
+  fieldsRead at = map (readField m v at) (shapeAt b w .fields)
+
+  fields-read : (at : ℕ) → length (fieldsRead at) ≡ fieldCount b w
+  fields-read at =
+      length-map (shapeAt b w .fields) (readField m v at) ∙ length-fields b (fieldCount b w) (fieldsFrom b w)
+
+  -- n such entries, the first at `at`.
+  unfoldable pub plainRow : ℕ → ℕ → Values
+  plainRow zero at = nil
+  plainRow (suc n) at = entry (fieldsRead at) nil [] (plainRow n (at + l))
+
+  -- They have a record for each field.
+  pub plain-measure : (n at : ℕ) → measure (plainRow n at) ≡ fieldCount b w * n
+  unfolding plainRow measure
+  plain-measure zero at = omega arith
+  plain-measure (suc n) at = omega (arith, plain-measure n (at + l), fields-read at)
+
+  module _ (depth : ℕ) (p : Plain b w) where
+    -- A plain block is its octets.
+    pub block-plain : (at : ℕ) → at + l ≤ length m
+        → readBlock m v (shapeAt b w) (readGroups m v (innerAt b depth w) 0) 0 l at
+        ≡ done (fieldsRead at, nil, [], at + l)
+    unfolding readBlock must skipGroups skipDatas _>>=_
+    block-plain at h =
+        rw (
+          le-leb (at + l) (length m) h,
+          row-none m v b depth 0 0 (groupCount b w) (groupsFrom b w) (at + l) (omega (arith, p .noGroups)),
+          datas-none m v b 0 (dataCount b w) (datasFrom b w) (at + l) (omega (arith, p .noDatas)),
+        ) refl
+
+    -- Plain entries are their octets, where all of these are there.
+    pub entries-plain : (n at : ℕ) → at + l * n ≤ length m
+        → entriesAt b depth w m v l n at ≡ done (plainRow n at, at + l * n)
+    unfolding readEntries plainRow _>>=_
+    entries-plain zero at h = simp unary-clauses refl
+    entries-plain (suc n) at h =
+        let on : at + l + l * n ≡ at + l * suc n = omega arith in
+        rw (block-plain at (omega arith), entries-plain n (at + l) (omega arith), on) refl
+
+    -- Walking them comes to their end, and to a record for each field.
+    pub plain-block-walked : (at : ℕ) → at + l ≤ length m
+        → walked entryEnd (readBlock m v (shapeAt b w) (readGroups m v (innerAt b depth w) 0) 0 l at)
+        ≡ To (at + l) (fieldCount b w)
+    unfolding measure
+    plain-block-walked at h =
+        rw (block-plain at h) (reached entryEnd _ refl (omega (arith, fields-read at)))
+
+    pub plain-walked : (n at : ℕ) → at + l * n ≤ length m
+        → walked (valuesEnd 0) (entriesAt b depth w m v l n at) ≡ To (at + l * n) (fieldCount b w * n)
+    plain-walked n at h =
+        rw (entries-plain n at h) (reached (valuesEnd 0) _ refl (omega (arith, plain-measure n at)))

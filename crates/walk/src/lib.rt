@@ -1,13 +1,14 @@
 // Walks a message by an accepted book, in wire order: how many records it has, or the first refusal.
 use wire::Walked;
 ghost use mathlib.Core.Path.{_≡_};
+ghost use mathlib.Core.Bool.{true};
 ghost use Prim.Native.Nat.{_+_, _*_, _/_, _≤_};
 ghost use lib.ListN.{length};
 ghost use Rattle.layout.specs.Octets.{wordsOf};
 ghost use Rattle.layout.specs.BookRules.{parseDatas};
 ghost use Rattle.layout.specs.Message.{readDatas};
 ghost use Rattle.templates.specs.Positions.{IsBlock, IsRow};
-ghost use Rattle.walk.specs.Walks.{Lent, BlockAt, datasEnd, entryEnd, groupEnd, valuesEnd, Bounded};
+ghost use Rattle.walk.specs.Walks.{Lent, BlockAt, Plain, datasEnd, entryEnd, groupEnd, valuesEnd, Bounded};
 ghost use Rattle.walk.specs.Walks.{blockAt, datasAt, entriesAt, groupAt, rowAt};
 ghost use Rattle.wire.specs.Walks.{walked};
 
@@ -71,6 +72,14 @@ pub fn walk_datas(body: &[u8], w: usize, m: &[u8], v: usize, surplus: usize, sta
     walk_data_row(body, from, n, m, v, surplus, start)
 }
 
+// Whether the block at word w has neither groups nor data.
+fn is_plain(body: &[u8], w: usize) -> bool
+    requires { ⌜ IsBlock (wordsOf (now body)) w ⌝ }
+    ensures { λ r. ⌜ (r ≡ true → Plain (wordsOf (now (body .entry))) w) ⌝ }
+{
+    book::word(body, w + 2) + book::word(body, w + 3) == 0
+}
+
 // The block at word w, `depth` more levels being left: at `at`, its octets, its groups and its data.
 pub fn walk_block(
     body: &[u8],
@@ -108,6 +117,21 @@ pub fn walk_block(
     }
 }
 
+// Whether n entries of the block at word w, with l octets each, are passed at once: it has neither groups nor data, and
+// they fit into `left` octets.
+pub fn at_once(body: &[u8], w: usize, l: usize, n: usize, left: usize) -> bool
+    requires { ⌜ IsBlock (wordsOf (now body)) w × (left ≤ 65535) × (n ≤ 65535) ⌝ }
+    ensures { λ r. ⌜ (r ≡ true → Plain (wordsOf (now (body .entry))) w × (l * n ≤ left)) ⌝ }
+{
+    if left < l {
+        return false;
+    }
+    if left < l * n {
+        return false;
+    }
+    is_plain(body, w)
+}
+
 // n entries of the block at word w, with l octets each.
 pub fn walk_entries(
     body: &[u8],
@@ -124,6 +148,12 @@ pub fn walk_entries(
         n start) ⌝ }
     ensures { λ r. ⌜ Bounded (now (m .entry)) start (96 * n) r ⌝ }
 {
+    if at_once(body, w, l, n, m.len() - start) {
+        return Walked::To {
+            next: start + l * n,
+            records: book::word(body, w + 1) * n,
+        };
+    }
     let mut due = n;
     let mut at = start;
     let mut seen = 0;
@@ -216,4 +246,42 @@ pub fn walk_groups(
         next,
         records: seen,
     }
+}
+
+// Whether no groups and no data follow the octets of the block at word w, surplus ones included.
+fn nothing_follows(body: &[u8], w: usize, wire: OnWire) -> bool
+    requires { ⌜ IsBlock (wordsOf (now body)) w ⌝ }
+    ensures { λ r. ⌜ (r ≡ true → Plain (wordsOf (now (body .entry))) w × (wire .groups ≡ 0) × (wire .datas ≡ 0)) ⌝ }
+{
+    if 0 < wire.groups {
+        return false;
+    }
+    if 0 < wire.datas {
+        return false;
+    }
+    is_plain(body, w)
+}
+
+// The block at word w as `walk_block` walks it, but at once where nothing follows its octets.
+pub fn pass_block(
+    body: &[u8],
+    w: usize,
+    depth: usize,
+    m: &[u8],
+    v: usize,
+    wire: OnWire,
+    at: usize,
+) -> Walked
+    requires { ⌜ BlockAt (wordsOf (now body)) depth w × Lent (now m) at ⌝ }
+    ensures { λ r. ⌜ r ≡ walked entryEnd (blockAt (wordsOf (now (body .entry))) depth w (now (m .entry)) v wire at) ⌝ }
+{
+    if wire.length <= m.len() - at {
+        if nothing_follows(body, w, wire) {
+            return Walked::To {
+                next: at + wire.length,
+                records: book::word(body, w + 1),
+            };
+        }
+    }
+    walk_block(body, w, depth, m, v, wire, at)
 }

@@ -50,6 +50,15 @@ unfolding walked
 inv-to f (done a) x k e = record { value = a; is = refl; next = cc; records = cc }
 inv-to f (refused n p) x k e = absurd (let z : _≡_ {A = ℕ} 0 1 = cc in omega arith)
 
+-- What was refused on the way is refused.
+pub inv-refused : {A : Type 0} (f : A → ℕ × ℕ) (r : Result A) (z : Refusal) → Refused z ≡ walked f r
+    → r ≡ refused (z .number) (z .place)
+unfolding walked
+inv-refused f (done a) z e = absurd (let y : _≡_ {A = ℕ} 0 1 = cc in omega arith)
+inv-refused f (refused n p) z e =
+    let q : z ≡ refusal n p = cc in
+    rw q refl
+
 -- ---- data
 
 -- n is the length that stands at the start.

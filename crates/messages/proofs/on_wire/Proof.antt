@@ -2,7 +2,6 @@
 use mathlib.Core.Path.{_∙_, refl, sym}
 use mathlib.Core.Bool.{false, true}
 use borrow.Author.Needs.{needs}
-use borrow.Author.Tests.{le-leb, lt-leb}
 use Rattle.messages.specs.declared.Surplus.the-variants.{Is, Wrong}
 use Rattle.messages.proofs.Laws.{wireBy, wired}
 use Rattle.messages.proofs.on_wire.Statement.{statement}
@@ -12,16 +11,16 @@ returns : tie.Need-returns
 unfolding wireBy
 returns c =
     let need = c .before in
-    wired _ _ _ _ _ _ (need .before .before .get2 .ensures .value) (need .before .get22 .ensures .value)
-    (need .need .ensures) false _ _ (lt-leb _ _ (c .if1 .taken)) refl refl
+    wired _ _ _ _ _ (need .before .before .get2 .ensures .value) (need .before .get22 .ensures .value)
+    _ true (need .is-short .ensures) (c .if1 .taken) _ _ refl refl
 
 returns-2 : tie.Need-returns-2
 unfolding wireBy
 returns-2 c =
     let groups = c .before .before in
     let need = groups .before .before in
-    wired _ _ _ _ _ _ (need .before .before .get2 .ensures .value) (need .before .get22 .ensures .value)
-    (need .need .ensures) true Wrong _ (le-leb _ _ (groups .before .if1 .left))
+    wired _ _ _ _ _ (need .before .before .get2 .ensures .value) (need .before .get22 .ensures .value)
+    _ false (need .is-short .ensures) (groups .before .if1 .left) Wrong _
     (sym (c .enum-told .given .1) ∙ groups .surplus-groups .ensures) refl
 
 returns-3 : tie.Need-returns-3
@@ -31,8 +30,8 @@ returns-3 c =
     let known = datas .before .before in
     let groups = known .before .before in
     let need = groups .before .before in
-    wired _ _ _ _ _ _ (need .before .before .get2 .ensures .value) (need .before .get22 .ensures .value)
-    (need .need .ensures) true (Is _) Wrong (le-leb _ _ (groups .before .if1 .left))
+    wired _ _ _ _ _ (need .before .before .get2 .ensures .value) (need .before .get22 .ensures .value)
+    _ false (need .is-short .ensures) (groups .before .if1 .left) (Is _) Wrong
     (sym (known .groups .given .1) ∙ groups .surplus-groups .ensures)
     (sym (c .enum-told2 .given .1) ∙ datas .surplus-datas .ensures)
 
@@ -43,8 +42,8 @@ returns-4 c =
     let known = datas .before .before in
     let groups = known .before .before in
     let need = groups .before .before in
-    wired _ _ _ _ _ _ (need .before .before .get2 .ensures .value) (need .before .get22 .ensures .value)
-    (need .need .ensures) true (Is _) (Is _) (le-leb _ _ (groups .before .if1 .left))
+    wired _ _ _ _ _ (need .before .before .get2 .ensures .value) (need .before .get22 .ensures .value)
+    _ false (need .is-short .ensures) (groups .before .if1 .left) (Is _) (Is _)
     (sym (known .groups .given .1) ∙ groups .surplus-groups .ensures)
     (sym (c .before .datas .given .1) ∙ datas .surplus-datas .ensures)
 

@@ -10,7 +10,7 @@ use Rattle.templates.proofs.Found.{contents}
 use Rattle.wire.specs.Walks.{walked}
 use Rattle.messages.specs.Whole.{bodyAt, bodyFound, rootEnd}
 use Rattle.messages.specs.declared.Body.the-variants.{At}
-use Rattle.messages.proofs.Laws.{body-good, body-lent, body-within, message-found, message-refused}
+use Rattle.messages.proofs.Laws.{body-good, body-lent, body-sinces, body-within, message-found, message-refused}
 use Rattle.messages.proofs.walk.Statement.{statement}
 use Rattle.messages.proofs.walk.Tie as tie
 
@@ -28,10 +28,11 @@ within c = body-within _ (start c .pre) _ _ _ (found c)
 walk-root-requires : tie.Need-walk-root-requires
 walk-root-requires c κs =
     let known = c .before .before in
-    let place = known .before .first .given .0 in (
-      rw (words-between (start known .args .book .now) (place .0) (place .1 .0))
-          (body-good _ (start known .pre) _ _ _ (found known) .stands),
-      body-lent _ (start known .pre) _ _ _ (found known),
+    let place = known .before .first .given .0 in
+    let k = start known .pre in
+    rw (words-between (start known .args .book .now) (place .0) (place .1 .0)) (
+      (body-good _ k _ _ _ (found known), body-lent _ k _ _ _ (found known)),
+      body-sinces _ k _ _ _ (found known) _ (c .word .ensures .value),
     )
 
 returns : tie.Need-returns

@@ -8,18 +8,18 @@ use Rattle.messages.proofs.walk_whole.Tie as tie
 returns : tie.Need-returns
 returns c =
     let e = c .enum-told .given .1 in
-    e ∙ sym (whole-refused _ _ _ _ _ (sym e ∙ c .before .before .walk-block .ensures .0))
+    e ∙ sym (whole-refused _ _ _ _ _ (sym e ∙ c .before .before .pass-block .ensures))
 
 returns-2 : tie.Need-returns-2
 returns-2 c =
     let known = c .before .before in
-    let e = sym (known .root .given .1) ∙ known .before .before .walk-block .ensures .0 in
+    let e = sym (known .root .given .1) ∙ known .before .before .pass-block .ensures in
     sym (whole-read _ _ _ _ _ _ e (c .if1 .taken))
 
 returns-3 : tie.Need-returns-3
 returns-3 c =
     let known = c .before .before .before in
-    let e = sym (known .root .given .1) ∙ known .before .before .walk-block .ensures .0 in
+    let e = sym (known .root .given .1) ∙ known .before .before .pass-block .ensures in
     c .refuse .ensures ∙ sym (whole-left _ _ _ _ _ _ e (c .before .if1 .left))
 
 pub walk-whole-spec : {M : Type 1} → statement M

@@ -1,25 +1,26 @@
 -- Each return is the definition's case by the tests that led there.
+use mathlib.Core.Path.{_∙_, sym}
 use borrow.Author.Needs.{needs}
 use Rattle.layout.specs.Result.{if_then_else_}
 use Rattle.layout.specs.Types.{classify}
+use Rattle.number_types.proofs.Laws.{in-range-number}
 use Rattle.number_types.proofs.classify.Statement.{statement}
 use Rattle.number_types.proofs.classify.Tie as tie
 
 returns : tie.Need-returns
-unfolding classify if_then_else_
-returns c = simp (← (c .before .is-null .ensures), c .if1 .taken)
+returns c =
+    let start = c .before .before in
+    sym (in-range-number _ (start .pre) _ _ (sym (c .before .in-range .ensures) ∙ c .if1 .taken))
 
 returns-2 : tie.Need-returns-2
 unfolding classify if_then_else_
-returns-2 c =
-    let null = c .before .before in
-    simp (← (null .before .is-null .ensures), null .if1 .left, ← (c .before .in-range .ensures), c .if2 .taken)
+returns-2 c = simp (← (c .before .is-null .ensures), c .if2 .taken)
 
 returns-3 : tie.Need-returns-3
 unfolding classify if_then_else_
 returns-3 c =
-    let null = c .before .before in
-    simp (← (null .before .is-null .ensures), null .if1 .left, ← (c .before .in-range .ensures), c .if2 .left)
+    let range = c .before .before in
+    simp (← (c .before .is-null .ensures), c .if2 .left, ← (range .before .in-range .ensures), range .if1 .left)
 
 pub classify-spec : {M : Type 1} → statement M
 classify-spec =

@@ -1,25 +1,31 @@
--- The octets' number, its value, and what that is to the field.
-use mathlib.Core.Path.{refl}
-use native.Mathlib.Omega.{arith}
-use borrow.Author.Needs.{needs}
-use Rattle.number_types.proofs.Laws.{is-width}
+-- Each arm reads the type that it names; the last one's is 8.
+use mathlib.Core.Path.{_≡_}
+use Rattle.number_types.proofs.Laws.{last-type}
 use Rattle.number_types.proofs.read.Statement.{statement}
 use Rattle.number_types.proofs.read.Tie as tie
 
-raw-requires : tie.Need-raw-requires
-raw-requires c κs = (rw (c .width-of .ensures) (is-width _ (c .before .before .pre .0)), omega arith)
-
-value-of-requires : tie.Need-value-of-requires
-value-of-requires c κs =
-    (c .before .before .before .pre .0, rw (c .before .width-of .ensures) at (c .raw .ensures .small))
-
-returns : tie.Need-returns
-returns c =
-    let raw = c .before .before in
-    rw (c .classify .ensures, c .before .value-of .ensures, raw .raw .ensures .value, raw .before .width-of .ensures)
-    refl
+last : (c : tie.At-match-rest) → c .before .before .args .t ≡ 8
+last c = last-type _ (c .before .before .pre .0) (c .match .rest)
 
 pub read-spec : {M : Type 1} → statement M
 read-spec =
     tie.close
-    (tie.spec (λ c κs. search needs) raw-requires value-of-requires (λ c κs. search needs) returns)
+    (tie.spec
+    (λ c κs. rw (c .match .keys1) at (c .before .before .pre))
+    (λ c κs. rw (c .match .keys2) at (c .before .before .pre))
+    (λ c κs. rw (c .match .keys3) at (c .before .before .pre))
+    (λ c κs. rw (c .match .keys4) at (c .before .before .pre))
+    (λ c κs. rw (c .match .keys5) at (c .before .before .pre))
+    (λ c κs. rw (c .match .keys6) at (c .before .before .pre))
+    (λ c κs. rw (c .match .keys7) at (c .before .before .pre))
+    (λ c κs. rw (c .match .keys8) at (c .before .before .pre))
+    (λ c κs. rw (last c) at (c .before .before .pre))
+    (λ c. rw (c .before .match .keys1) (c .read-as .ensures))
+    (λ c. rw (c .before .match .keys2) (c .read-as2 .ensures))
+    (λ c. rw (c .before .match .keys3) (c .read-as3 .ensures))
+    (λ c. rw (c .before .match .keys4) (c .read-as4 .ensures))
+    (λ c. rw (c .before .match .keys5) (c .read-as5 .ensures))
+    (λ c. rw (c .before .match .keys6) (c .read-as6 .ensures))
+    (λ c. rw (c .before .match .keys7) (c .read-as7 .ensures))
+    (λ c. rw (c .before .match .keys8) (c .read-as8 .ensures))
+    (λ c. rw (last (c .before)) (c .read-as9 .ensures)))

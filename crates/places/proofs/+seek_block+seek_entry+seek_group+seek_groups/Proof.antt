@@ -3,7 +3,7 @@
 use mathlib.Core.Path.{_∙_, _≡_, refl, sym}
 use mathlib.Core.Logic.{⊎-elim}
 use mathlib.Core.List.{_∷_}
-use Prim.Native.Nat.{ℕ, _+_, _-_, _*_, _<_, _≤_}
+use Prim.Native.Nat.{ℕ, _+_, _-_, _*_, _/_, _<_, _≤_}
 use native.Mathlib.Omega.{arith}
 use borrow.Author.Needs.{needs}
 use borrow.Fn.Kinds.{In, Out}
@@ -14,16 +14,17 @@ use Rattle.layout.specs.Book.{need}
 use Rattle.layout.specs.BookRules.{word}
 use Rattle.layout.specs.Contracts.{stepsOf}
 use Rattle.layout.specs.Message.{readDimension}
-use Rattle.templates.specs.Positions.{shapeAt}
+use Rattle.templates.specs.Positions.{groupsFrom, shapeAt}
 use Rattle.wire.specs.Walks.{dimensionEnd, walked}
 use Rattle.wire.specs.declared.Walked.the-variants.{To}
 use Rattle.blocks.proofs.Laws.{block-fits}
 use Rattle.wire.proofs.Laws.{dimension-reached, lies-on}
 use Rattle.walk.proofs.Laws.{leads}
 use Rattle.walk.specs.Walks.{blockAt, entriesAt}
-use Rattle.places.specs.Asks.{HasRest, Inner, Paired, Reaches, countOf, entryTo, inEntries, inEntry, numberOf}
+use Rattle.places.specs.Asks.{Asked, HasRest, Inner, Paired, Reaches, Readable, blockSought, countOf}
+use Rattle.places.specs.Asks.{entriesSought, entryTo, groupSought, inEntries, inEntry, numberOf}
 use Rattle.places.proofs.Stages.{denied, ends, passed-on, reaches}
-use Rattle.places.proofs.Steps.{later, not-empty, steps-open}
+use Rattle.places.proofs.Steps.{later, later-none, not-empty, steps-open}
 use Rattle.places.proofs.Along.{Cut, block-passed, block-refused, block-short, entries-cut, entries-missing}
 use Rattle.places.proofs.Along.{first-refused, group-absent, group-dimension, group-entries, one-refused}
 use Rattle.places.proofs.Along.{others-passed}
@@ -43,6 +44,9 @@ use Rattle.walk.proofs.walk_groups.Reads as walk-groups-reads
 use Rattle.places.proofs.refuse.Reads as refuse-reads
 use Rattle.places.proofs.with.Reads as with-reads
 use Rattle.places.proofs.group_asked.Reads as group-asked-reads
+use Rattle.places.proofs.is_plain_field.Reads as is-plain-field-reads
+use Rattle.places.proofs.number.Reads as number-reads
+use Rattle.places.proofs.plain_field.Reads as plain-field-reads
 use Rattle.places.proofs.seek_field.Reads as seek-field-reads
 use Rattle.places.proofs.seek_data.Reads as seek-data-reads
 use Rattle.places.proofs.seek_count.Reads as seek-count-reads
@@ -145,8 +149,9 @@ module _ (t : ℕ) where
   block-returns c =
       let a = c .before .before .before .before .before .before .before .before .args in (
         c .seek-field .ensures .0
-            ∙ at-once _ (c .before .before .before .before .if1 .taken) (wordsOf (a .body .now)) (a .depth) (a .w)
-            (a .m .now) (a .v) (a .wire) (a .at) (a .x) _ (c .before .before .x .given .1),
+            ∙ at-once _ (c .before .before .before .before .if1 .taken)
+            (λ p x. blockSought (wordsOf (a .body .now)) (a .depth) (a .w) (a .m .now) (a .v) (a .wire) (a .at) p x)
+            (a .x) _ (c .before .before .x .given .1),
         c .seek-field .ensures .1,
       )
 
@@ -163,8 +168,9 @@ module _ (t : ℕ) where
   block-returns-2 c =
       let a = c .before .before .before .before .before .before .before .before .args in (
         c .seek-data .ensures .0
-            ∙ at-once _ (c .before .before .before .before .if1 .taken) (wordsOf (a .body .now)) (a .depth) (a .w)
-            (a .m .now) (a .v) (a .wire) (a .at) (a .x) _ (c .before .before .x2 .given .1),
+            ∙ at-once _ (c .before .before .before .before .if1 .taken)
+            (λ p x. blockSought (wordsOf (a .body .now)) (a .depth) (a .w) (a .m .now) (a .v) (a .wire) (a .at) p x)
+            (a .x) _ (c .before .before .x2 .given .1),
         c .seek-data .ensures .1,
       )
 
@@ -347,6 +353,12 @@ module _ (t : ℕ) where
     with-reads.Learnt,
     get2-reads.Asked,
     get2-reads.Learnt,
+    is-plain-field-reads.Asked,
+    is-plain-field-reads.Learnt,
+    number-reads.Asked,
+    number-reads.Learnt,
+    plain-field-reads.Asked,
+    plain-field-reads.Learnt,
     entry-below,
     entry-reads.Post,
   )
@@ -454,56 +466,119 @@ module _ (t : ℕ) where
   group-shared-slice-read-e c =
       group-steps (c .before .before .before .before .before .before .before .before .before .before) .1
 
-  group-add-seek-entry : group-Need group-lts.Need-add-seek-entry
-  group-add-seek-entry c =
-      omega (
-        arith,
-        block-fits _ _ (c .before .before .before .before .before .before .before .before .before .before
-            .before .before .before .before .pre .1 .0 .0 .stands .block),
-      )
+  -- What is known of the entries: the steps to them, their block, and that the place is one in them.
+  abbrev group-start : group-Need group-lts.After-shared-slice-known4
+      → group-lts.Start group-claims group-at group-reads.Post
+  group-start c = c .before .before .before .before .before .before .before
+      .before .before .before .before .before .before .before
 
-  group-sub-seek-entry : group-Need group-lts.Need-sub-seek-entry
-  group-sub-seek-entry c =
-      group-steps (c .before .before .before .before .before .before .before .before .before .before) .1
+  group-later : (c : group-Need group-lts.After-shared-slice-known4) → let l = group-start c .args .steps .now in
+      (stepsOf l ≡ record { group = getD l 0 0; entry = getD l 1 0 } ∷ stepsOf (later l)) × (2 ≤ length l)
+      × Paired (later l)
+  group-later c = group-steps (c .before .before .before .before .before .before .before .before .before .before)
 
-  group-seek-entry-requires : group-Need group-lts.Need-seek-entry-requires
+  group-fits : (c : group-Need group-lts.After-shared-slice-known4) → let a = group-start c .args in
+      groupsFrom (wordsOf (a .body .now)) (a .w + 2) ≤ length (a .body .now) / 2
+  group-fits c = block-fits _ _ (group-start c .pre .1 .0 .0 .stands .block)
+
+  group-next : (c : group-Need group-lts.After-shared-slice-known4)
+      → c .before .before .before .before .dimension .given .0 .0 ≤ length (group-start c .args .m .now)
+  group-next c = let inside = group-inside (c .before .before .before) in omega (arith, inside .0, inside .1)
+
+  group-readable : (c : group-Need group-lts.After-shared-slice-known4) → let a = group-start c .args in
+      Readable (wordsOf (a .body .now)) (a .depth) (a .w + 2) (a .m .now) (a .v) (c .before .before .get2 .result)
+      (c .before .before .before .before .dimension .given .0 .0)
+  group-readable c =
+      let pre = group-start c .pre .1 in
+      record {
+        good = pre .0 .0;
+        enough =
+            let enough = dimension-enough _ _ _ _ _ (group-dimension-read (c .before .before .before)) in
+            omega (arith, enough, c .before .before .get2 .ensures .value);
+        lent = record { short = pre .0 .1 .short; inside = group-next c };
+      }
+
+  group-asked : (c : group-Need group-lts.After-shared-slice-known4) → let a = group-start c .args in
+      Asked (wordsOf (a .body .now)) (a .depth) (a .w + 2) (later (a .steps .now)) (a .x)
   unfolding HasRest
-  group-seek-entry-requires c κs =
-      let start = c .before .before .before .before .before .before .before .before .before .before .before .before
-      .before .before .before in
-      let pre = start .pre .1 in
-      let steps = group-steps (c .before .before .before .before .before .before .before .before .before .before
-      .before) in
-      let read = c .before .before .before .before in
-      let enough = dimension-enough _ _ _ _ _ (group-dimension-read read) in
-      let inside = group-inside read in (
-        omega (arith, start .pre .0),
-        (
-          (
-            record {
-              good = pre .0 .0;
-              enough = rw (c .before .before .before .get2 .ensures .value) enough;
-              lent = record { short = pre .0 .1 .short; inside = omega (arith, inside .0, inside .1) };
-            },
-            omega (arith, c .before .before .get22 .ensures .small),
-          ),
-          record { paired = steps .2; has = rw (steps .0) at (pre .1) },
-        ),
+  group-asked c =
+      let steps = group-later c in
+      record { paired = steps .2; has = rw (steps .0) at (group-start c .pre .1 .1) }
+
+  group-in-entries : (c : group-Need group-lts.After-shared-slice-known4) → let a = group-start c .args in
+      let b = wordsOf (a .body .now) in
+      groupSought b (a .depth) (a .w) (a .m .now) (a .v) (a .at) (stepsOf (a .steps .now)) (a .x)
+      ≡ entriesSought b (a .depth) (a .w + 2) (a .m .now) (a .v) (c .before .before .get2 .result)
+      (c .before .get22 .result) (c .before .before .before .before .dimension .given .0 .0) (getD (a .steps .now) 1 0)
+      (stepsOf (later (a .steps .now))) (a .x)
+  group-in-entries c =
+      let a = group-start c .args in
+      group-entries (wordsOf (a .body .now)) (a .depth) (a .w) (a .m .now) (a .v) (a .at) _ (a .x) _ _
+      (group-later c .0) (group-here (c .before .before .before .before .before .before .before .before)) _ _ _ _
+      (group-dimension-read (c .before .before .before)) (c .before .before .get2 .ensures .value)
+      (c .before .get22 .ensures .value)
+
+  group-add-is-plain-field : group-Need group-lts.Need-add-is-plain-field
+  group-add-is-plain-field c = omega (arith, group-fits c)
+
+  group-sub-is-plain-field : group-Need group-lts.Need-sub-is-plain-field
+  group-sub-is-plain-field c = group-next c
+
+  group-is-plain-field-requires : group-Need group-lts.Need-is-plain-field-requires
+  group-is-plain-field-requires c κs =
+      let pre = group-start c .pre .1 .0 in
+      (pre .0 .stands .block, omega (arith, pre .1 .short), omega (arith, c .before .get22 .ensures .small))
+
+  group-add-plain-field : group-Need group-lts.Need-add-plain-field
+  group-add-plain-field c = omega (arith, group-fits (c .before .before))
+
+  group-plain-field-requires : group-Need group-lts.Need-plain-field-requires
+  unfolding numberOf countOf
+  group-plain-field-requires c κs =
+      let known = c .before .before .before in
+      let told = c .before .before .is-plain-field .ensures (c .before .if3 .taken) in
+      let block = group-readable known .good .stands in
+      let steps = group-start known .args .steps in
+      let there = element-there (later (steps .now)) (later-none (steps .now) (told .2)) _ _ _ _ _ block (told .3)
+      (group-asked known) in (
+        (group-readable known, rw (c .number .ensures) there),
+        (told .0, omega (arith, told .1, group-next known)),
       )
 
   group-returns-4 : group-Need group-lts.Need-returns-4
   group-returns-4 c =
-      let a = c .before .before .before .before .before .before .before .before .before .before .before .before
-      .before .before .before .before .args in
-      let read = c .before .before .before .before .before in
-      let here = c .before .before .before .before .before .before .before .before .before .before in (
-        c .seek-entry .ensures .0
-            ∙ sym (group-entries (wordsOf (a .body .now)) (a .depth) (a .w) (a .m .now) (a .v) (a .at) _ (a .x) _ _
-            (group-steps (here .before .before) .0) (group-here here) _ _ _ _
-            (group-dimension-read read) (c .before .before .before .before .get2 .ensures .value)
-            (c .before .before .before .get22 .ensures .value)),
-        c .seek-entry .ensures .1,
+      let known = c .before .before .before .before in
+      let a = group-start known .args in
+      let told = c .before .before .before .is-plain-field .ensures (c .before .before .if3 .taken) in
+      let asked = entriesSought (wordsOf (a .body .now)) (a .depth) (a .w + 2) (a .m .now) (a .v)
+      (known .before .before .get2 .result) (known .before .get22 .result)
+      (known .before .before .before .before .dimension .given .0 .0) (getD (a .steps .now) 1 0) in (
+        rw (c .before .number .ensures) at (c .plain-field .ensures .0)
+            ∙ at-once (later (a .steps .now)) (later-none (a .steps .now) (told .2)) asked (a .x) _ (told .3)
+            ∙ sym (group-in-entries known),
+        c .plain-field .ensures .1,
       )
+
+  group-add-seek-entry : group-Need group-lts.Need-add-seek-entry
+  group-add-seek-entry c = omega (arith, group-fits (c .before .before))
+
+  group-sub-seek-entry : group-Need group-lts.Need-sub-seek-entry
+  group-sub-seek-entry c = group-later (c .before .before) .1
+
+  group-seek-entry-requires : group-Need group-lts.Need-seek-entry-requires
+  group-seek-entry-requires c κs =
+      let known = c .before .before .before in (
+        omega (arith, group-start known .pre .0),
+        (
+          (group-readable known, omega (arith, known .before .get22 .ensures .small)),
+          group-asked known,
+        ),
+      )
+
+  group-returns-5 : group-Need group-lts.Need-returns-5
+  group-returns-5 c =
+      let known = c .before .before .before .before in
+      (c .seek-entry .ensures .0 ∙ sym (group-in-entries known), c .seek-entry .ensures .1)
 
   abbrev row-claims : row-lts.Claims
   row-claims = (
@@ -713,16 +788,19 @@ pub +seek-block+seek-entry+seek-group+seek-groups-spec : {M : Type 1} → statem
     (group-add-get2 t)
     (group-get2-requires-2 t)
     (group-shared-slice-read-e t)
+    (group-add-is-plain-field t)
+    (group-sub-is-plain-field t)
+    (group-is-plain-field-requires t)
+    (group-add-plain-field t)
+    (λ c κs. tt)
+    (group-plain-field-requires t)
+    (group-returns-4 t)
     (group-add-seek-entry t)
     (group-sub-seek-entry t)
-    (λ c. search (
-      needs,
-      group-steps t (c .before .before .before .before .before .before .before .before .before
-          .before) .1,
-    ))
+    (λ c. search (needs, group-later t (c .before .before) .1))
     (λ c. search needs)
     (group-seek-entry-requires t)
-    (group-returns-4 t))
+    (group-returns-5 t))
     (λ t.
     row-lts.spec (row-claims t) (row-at t) row-reads.Post
     (row-groups-from-requires t)

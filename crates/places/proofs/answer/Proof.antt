@@ -33,9 +33,9 @@ seek-whole-requires c κs =
     let a = start .args in
     let on = sym (known .before .wire .given .1) ∙ call .on-wire .ensures in (
       record {
-        good = start .pre .0;
+        good = start .pre .0 .0;
         enough = root-need (wordsOf (a .body .now)) (a .m .now) (a .version) _ on _ (c .get2 .ensures .value);
-        lent = start .pre .1;
+        lent = start .pre .0 .1;
       },
       asked (wordsOf (a .body .now)) (a .m .now) (a .version) (a .steps .now) (a .x) (there (call .before)),
     )

@@ -12,7 +12,7 @@ use Rattle.layout.specs.Octets.{number16, wordsOf}
 use Rattle.layout.specs.Values.{recordOf}
 use Rattle.layout.specs.declared.Answer.the-variants.{Absent}
 use Rattle.layout.proofs.Results.{and-right}
-use Rattle.templates.specs.Positions.{groupCount, groupsFrom}
+use Rattle.templates.specs.Positions.{dataCount, groupCount, groupsFrom}
 use Rattle.octets.proofs.get2.Reads as get2-reads
 use Rattle.book.proofs.word.Reads as word-reads
 use Rattle.records.proofs.put.Reads as put-reads
@@ -28,12 +28,13 @@ use Rattle.store.proofs.Going.{Going, going-call, going-end, going-firs
 use Rattle.store.proofs.Going.{going-room, room-put, stored-none}
 use Rattle.fields.proofs.Laws.{fields-fit}
 use Rattle.walk.proofs.Laws.{row-good}
-use Rattle.store.proofs.Laws.{BlockOpen, GroupOpen, block-open, entries-end, entries-step}
+use Rattle.store.proofs.Laws.{BlockOpen, GroupOpen, block-open, entries-end, entries-level, entries-step}
 use Rattle.store.proofs.Laws.{group-absent, group-open}
 use Rattle.store.proofs.Laws.{past-inside, row-past, row-step}
 use Rattle.store.proofs.past.Reads as past-reads
 use Rattle.store.proofs.store_fields.Reads as store-fields-reads
 use Rattle.store.proofs.store_datas.Reads as store-datas-reads
+use Rattle.store.proofs.store_plain.Reads as store-plain-reads
 use Rattle.store.proofs.store_block.Reads as block-reads
 use Rattle.store.proofs.store_block.Kinds as block-kinds
 use Rattle.store.proofs.+store_block+store_entries+store_group+store_groups.Lts-store_block as block-lts
@@ -229,21 +230,59 @@ module _ (t : ℕ) where
       )
 
   abbrev entries-claims : entries-lts.Claims
-  entries-claims = (block-below, block-reads.Post)
+  entries-claims = (
+    word-reads.Asked,
+    word-reads.Learnt,
+    store-plain-reads.Asked,
+    store-plain-reads.Learnt,
+    block-below,
+    block-reads.Post,
+  )
 
   abbrev entries-Need : (entries-lts.Claims → In 3 entries-lts.ps → Out 3 entries-lts.ps entries-lts.r
       → entries-lts.InvT-loop → entries-lts.MeasureT-loop → Type 0) → Type 0
   entries-Need n = n entries-claims entries-at entries-reads.Post entries-Inv entries-μ-loop
 
+  -- The block has neither groups nor data, so that it is all one how many levels are left.
+  entries-plain : (c : entries-Need entries-lts.Then1)
+      → let a = c .before .before .before .before .before .before .args in
+      let b = wordsOf (a .body .now) in
+      (groupCount b (a .w) ≡ 0) × (dataCount b (a .w) ≡ 0)
+      × (entriesPrint b (a .depth) (a .w) (a .m .now) (a .v) (a .l) (a .n) (a .c .at)
+      ≡ entriesPrint b 0 (a .w) (a .m .now) (a .v) (a .l) (a .n) (a .c .at))
+  entries-plain c =
+      let groups = c .before .before .word .ensures .value in (
+        omega (arith, c .if1 .taken, groups),
+        omega (arith, c .if1 .taken, c .before .word2 .ensures .value),
+        entries-level _ _ _ _ _ _ _ _ (omega (arith, c .if1 .taken, groups)),
+      )
+
+  entries-store-plain-requires : entries-Need entries-lts.Need-store-plain-requires
+  entries-store-plain-requires c κs =
+      let none = entries-plain (c .before) in
+      let pre = c .before .before .before .before .before .before .before .pre .1 in
+      let good = pre .0 .0 in (
+        (good .stands .block, none .0, none .1),
+        ((good .shape, pre .0 .1), (rw (none .2) at (pre .1 .0), pre .1 .1)),
+      )
+
+  entries-same-length : entries-Need entries-lts.Need-same-length
+  entries-same-length c = c .before .before .store-plain .kept .1 .1 .1 .1 .1 .1 .0
+
+  entries-returns : entries-Need entries-lts.Need-returns
+  entries-returns c =
+      let call = c .before .before in
+      (rw (entries-plain (call .before .before) .2) (call .store-plain .ensures .0), call .store-plain .ensures .1)
+
   entries-loop-holds : entries-Need entries-lts.Need-loop-holds
   entries-loop-holds c =
-      let start = c .before .before .before in
+      let start = c .before .before .before .before .before .before in
       (start .pre .1 .1 .1, going-none _ _ (start .args .room .now))
 
   entries-store-block-requires : entries-Need entries-lts.Need-store-block-requires
   entries-store-block-requires c κs =
       let inv = c .before .before .loop .inv in
-      let start = c .before .before .before .before .before .before in (
+      let start = c .before .before .before .before .before .before .before .before .before in (
         omega arith,
         (
           start .pre .1 .0,
@@ -259,19 +298,19 @@ module _ (t : ℕ) where
   entries-loop-again c =
       let call = c .before .before in
       let inside = call .before .before in
-      let start = inside .before .before .before .before .before in (
+      let start = inside .before .before .before .before .before .before .before .before in (
         call .store-block .ensures .1,
         going-call (inside .before .loop .inv .1) (start .pre .1 .1 .0) _ _ _ _ _
             (entries-step _ _ _ _ _ _ _ _ (inside .loop-test .taken)) (call .store-block .ensures .0),
       )
 
-  entries-same-length : entries-Need entries-lts.Need-same-length
-  entries-same-length c = going-long (c .before .loop .inv .1)
+  entries-same-length-2 : entries-Need entries-lts.Need-same-length-2
+  entries-same-length-2 c = going-long (c .before .loop .inv .1)
 
-  entries-returns : entries-Need entries-lts.Need-returns
-  entries-returns c =
+  entries-returns-2 : entries-Need entries-lts.Need-returns-2
+  entries-returns-2 c =
       let inv = c .before .loop .inv in (
-        going-end (inv .1) (c .before .before .before .before .before .pre .1 .1 .0) _ _ _
+        going-end (inv .1) (c .before .before .before .before .before .before .before .before .pre .1 .1 .0) _ _ _
             (stored-none _ _ _ _ (entries-end _ _ _ _ _ _ _ _ (c .loop-test .left))),
         inv .0,
       )
@@ -551,13 +590,21 @@ pub +store-block+store-entries+store-group+store-groups-spec : {M : Type 1} → 
     (block-returns t))
     (λ t.
     entries-lts.spec (entries-claims t) (entries-at t) entries-reads.Post entries-Inv entries-μ-loop
+    (λ c. omega (arith, block-fits _ _ (c .before .before .before .pre .1 .0 .0 .stands .block)))
+    (λ c κs. omega (arith, block-fits _ _ (c .before .before .before .pre .1 .0 .0 .stands .block)))
+    (λ c. omega (arith, block-fits _ _ (c .before .before .before .before .pre .1 .0 .0 .stands .block)))
+    (λ c κs. omega (arith, block-fits _ _ (c .before .before .before .before .pre .1 .0 .0 .stands .block)))
+    (λ c. omega arith)
+    (entries-store-plain-requires t)
+    (entries-same-length t)
+    (entries-returns t)
     (entries-loop-holds t)
     (entries-store-block-requires t)
     (λ c. omega arith)
     (λ c. omega arith)
     (entries-loop-again t)
-    (entries-same-length t)
-    (entries-returns t))
+    (entries-same-length-2 t)
+    (entries-returns-2 t))
     (λ t.
     group-lts.spec (group-claims t) (group-at t) group-reads.Post
     (group-add-word t)

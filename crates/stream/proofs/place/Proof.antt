@@ -10,7 +10,7 @@ use Rattle.book.proofs.Words.{words-between}
 use Rattle.templates.proofs.Found.{contents}
 use Rattle.messages.specs.Whole.{bodyAt, bodyFound}
 use Rattle.messages.specs.declared.Body.the-variants.{At}
-use Rattle.messages.proofs.Laws.{body-good, body-lent, body-within}
+use Rattle.messages.proofs.Laws.{body-good, body-lent, body-sinces, body-within}
 use Rattle.stream.proofs.Laws.{place-at, no-place}
 use Rattle.stream.proofs.place.Statement.{statement}
 use Rattle.stream.proofs.place.Tie as tie
@@ -29,10 +29,11 @@ within c = body-within _ (start c .pre) _ _ _ (body c)
 answer-requires : tie.Need-answer-requires
 answer-requires c κs =
     let known = c .before .before in
-    let place = known .before .first .given .0 in (
-      rw (words-between (start known .args .book .now) (place .0) (place .1 .0))
-          (body-good _ (start known .pre) _ _ _ (body known)),
-      body-lent _ (start known .pre) _ _ _ (body known),
+    let place = known .before .first .given .0 in
+    let k = start known .pre in
+    rw (words-between (start known .args .book .now) (place .0) (place .1 .0)) (
+      (body-good _ k _ _ _ (body known), body-lent _ k _ _ _ (body known)),
+      body-sinces _ k _ _ _ (body known) _ (c .word .ensures .value),
     )
 
 returns : tie.Need-returns

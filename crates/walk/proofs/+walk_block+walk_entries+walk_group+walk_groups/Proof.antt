@@ -2,6 +2,7 @@
 -- whole row does; the measure of a call is the depth left, and within a depth the order of the calls.
 use mathlib.Core.Path.{_≡_, sym, _∙_, refl}
 use Prim.Native.Nat.{ℕ, _+_, _*_, _/_, _<_, _≤_}
+use native.Mathlib.Nat.{mul-le-mul-right}
 use native.Mathlib.Omega.{arith}
 use borrow.Author.Needs.{needs}
 use borrow.Fn.Kinds.{In, Out}
@@ -26,8 +27,10 @@ use Rattle.wire.proofs.Laws.{dimension-reached, lies-on}
 use Rattle.walk.proofs.Laws.{block-datas, block-groups, block-short, block-whole, denies, entries-end}
 use Rattle.walk.proofs.Laws.{entries-next}
 use Rattle.walk.proofs.Laws.{entries-refused, group-absent, group-dimension, group-entries, group-whole, leads}
-use Rattle.walk.proofs.Laws.{length-fields, row-end, row-end-refused, row-next, row-refused}
+use Rattle.walk.proofs.Laws.{length-fields, plain-walked}
+use Rattle.walk.proofs.Laws.{row-end, row-end-refused, row-next, row-refused}
 use Rattle.walk.proofs.walk_datas.Reads as walk-datas-reads
+use Rattle.walk.proofs.at_once.Reads as at-once-reads
 use Rattle.walk.proofs.walk_block.Reads as block-reads
 use Rattle.walk.proofs.walk_block.Kinds as block-kinds
 use Rattle.walk.proofs.+walk_block+walk_entries+walk_group+walk_groups.Lts-walk_block as block-lts
@@ -276,22 +279,76 @@ module _ (t : ℕ) where
       )
 
   abbrev entries-claims : entries-lts.Claims
-  entries-claims = (block-below, block-reads.Post)
+  entries-claims = (
+    at-once-reads.Asked,
+    at-once-reads.Learnt,
+    word-reads.Asked,
+    word-reads.Learnt,
+    block-below,
+    block-reads.Post,
+  )
 
   abbrev entries-Need : (entries-lts.Claims → In 2 entries-lts.ps → Out 2 entries-lts.ps entries-lts.r
       → entries-lts.InvT-loop → entries-lts.MeasureT-loop → Type 0) → Type 0
   entries-Need n = n entries-claims entries-at entries-reads.Post entries-Inv entries-μ-loop
 
+  entries-sub-at-once : entries-Need entries-lts.Need-sub-at-once
+  entries-sub-at-once c = c .before .before .pre .1 .1 .inside
+
+  entries-at-once-requires : entries-Need entries-lts.Need-at-once-requires
+  entries-at-once-requires c κs =
+      let start = c .before .before in
+      (start .pre .1 .0 .block, omega (arith, start .pre .1 .1 .short), start .pre .1 .2)
+
+  -- The entries lie in what is left.
+  entries-fit : (c : entries-Need entries-lts.Then1)
+      → let a = c .before .before .before .before .args in a .start + a .l * a .n ≤ length (a .m .now)
+  entries-fit c =
+      let told = c .before .at-once .ensures (c .if1 .taken) in
+      omega (arith, told .1, c .before .before .before .before .pre .1 .1 .inside)
+
+  entries-mul-t19 : entries-Need entries-lts.Need-mul-t19
+  entries-mul-t19 c = omega (arith, entries-fit c, c .before .before .before .before .pre .1 .1 .short)
+
+  entries-add-t20 : entries-Need entries-lts.Need-add-t20
+  entries-add-t20 c = omega (arith, entries-fit c, c .before .before .before .before .pre .1 .1 .short)
+
+  entries-add-word : entries-Need entries-lts.Need-add-word
+  entries-add-word c = omega (arith, block-fits _ _ (c .before .before .before .before .pre .1 .0 .block))
+
+  entries-word-requires : entries-Need entries-lts.Need-word-requires
+  entries-word-requires c κs = omega (arith, block-fits _ _ (c .before .before .before .before .pre .1 .0 .block))
+
+  entries-mul-t23 : entries-Need entries-lts.Need-mul-t23
+  entries-mul-t23 c =
+      let start = c .before .before .before .before .before in
+      let few = mul-le-mul-right (start .args .n) (start .pre .1 .0 .block .fewFields) in
+      rw (c .word .ensures .value) (omega (arith, few, start .pre .1 .2))
+
+  entries-returns : entries-Need entries-lts.Need-returns
+  unfolding Bounded
+  entries-returns c =
+      let start = c .before .before .before .before .before in
+      let told = c .before .before .at-once .ensures (c .before .if1 .taken) in
+      let few = mul-le-mul-right (start .args .n) (start .pre .1 .0 .block .fewFields) in
+      let fits = entries-fit (c .before) in
+      rw (c .word .ensures .value) (
+        sym (plain-walked _ _ _ _ _ _ (told .0) _ _ fits),
+        (omega arith, fits, omega (arith, few)),
+      )
+
   entries-loop-holds : entries-Need entries-lts.Need-loop-holds
-  entries-loop-holds c = (refl, omega arith, c .before .before .pre .1 .1 .inside, omega arith, omega arith)
+  entries-loop-holds c =
+      let start = c .before .before .before .before in
+      (refl, omega arith, start .pre .1 .1 .inside, omega arith, omega arith)
 
   entries-walk-block-requires : entries-Need entries-lts.Need-walk-block-requires
   entries-walk-block-requires c κs =
-      let start = c .before .before .before .before in
+      let start = c .before .before .before .before .before .before in
       (omega arith, (start .pre .1 .0, record { short = start .pre .1 .1 .short; inside = c .before .loop .inv .2 }))
 
-  entries-returns : entries-Need entries-lts.Need-returns
-  entries-returns c =
+  entries-returns-2 : entries-Need entries-lts.Need-returns-2
+  entries-returns-2 c =
       let call = c .before .before in
       let inside = call .before in
       denies _ _ _ _ (c .enum-told .given .1)
@@ -301,7 +358,7 @@ module _ (t : ℕ) where
   entries-add-seen : entries-Need entries-lts.Need-add-seen
   entries-add-seen c =
       let call = c .before .before .before in
-      let start = call .before .before .before .before .before in
+      let start = call .before .before .before .before .before .before .before in
       let on = leads _ _ _ _ _ _ (call .walk-block .ensures .1) (c .before .entry .given .1) in
       omega (arith, on, call .before .before .loop .inv, start .pre .1 .1 .short, start .pre .1 .2)
 
@@ -319,9 +376,9 @@ module _ (t : ℕ) where
         omega (arith, on, inv, inside .loop-test .taken),
       )
 
-  entries-returns-2 : entries-Need entries-lts.Need-returns-2
+  entries-returns-3 : entries-Need entries-lts.Need-returns-3
   unfolding Bounded
-  entries-returns-2 c =
+  entries-returns-3 c =
       let inv = c .before .loop .inv in
       (sym (inv .0 ∙ entries-end _ _ _ _ (c .loop-test .left)), (inv .1, inv .2, omega (arith, inv)))
 
@@ -619,16 +676,24 @@ pub +walk-block+walk-entries+walk-group+walk-groups-spec : {M : Type 1} → stat
     (block-returns-4 t))
     (λ t.
     entries-lts.spec (entries-claims t) (entries-at t) entries-reads.Post entries-Inv entries-μ-loop
+    (entries-sub-at-once t)
+    (entries-at-once-requires t)
+    (entries-mul-t19 t)
+    (entries-add-t20 t)
+    (entries-add-word t)
+    (entries-word-requires t)
+    (entries-mul-t23 t)
+    (entries-returns t)
     (entries-loop-holds t)
     (entries-walk-block-requires t)
     (λ c. search needs)
     (λ c. search needs)
-    (entries-returns t)
+    (entries-returns-2 t)
     (entries-add-seen t)
     (λ c. omega arith)
     (λ c. omega arith)
     (entries-loop-again t)
-    (entries-returns-2 t))
+    (entries-returns-3 t))
     (λ t.
     group-lts.spec (group-claims t) (group-at t) group-reads.Post
     (group-add-word t)

@@ -1,0 +1,25 @@
+-- The octets' number, its value, and what that is to the field.
+use mathlib.Core.Path.{refl}
+use native.Mathlib.Omega.{arith}
+use borrow.Author.Needs.{needs}
+use Rattle.number_types.proofs.Laws.{is-width}
+use Rattle.number_types.proofs.read_as.Statement.{statement}
+use Rattle.number_types.proofs.read_as.Tie as tie
+
+raw-requires : tie.Need-raw-requires
+raw-requires c κs = (rw (c .width-of .ensures) (is-width _ (c .before .before .pre .0)), omega arith)
+
+value-of-requires : tie.Need-value-of-requires
+value-of-requires c κs =
+    (c .before .before .before .pre .0, rw (c .before .width-of .ensures) at (c .raw .ensures .small))
+
+returns : tie.Need-returns
+returns c =
+    let raw = c .before .before in
+    rw (c .classify .ensures, c .before .value-of .ensures, raw .raw .ensures .value, raw .before .width-of .ensures)
+    refl
+
+pub read-as-spec : {M : Type 1} → statement M
+read-as-spec =
+    tie.close
+    (tie.spec (λ c κs. search needs) raw-requires value-of-requires (λ c κs. search needs) returns)
