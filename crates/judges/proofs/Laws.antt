@@ -11,7 +11,7 @@ use Rattle.layout.specs.Result.{Result, done, refused, must, if_then_else_, _an
 use Rattle.layout.specs.Octets.{null16}
 use Rattle.layout.specs.Types.{inRange, typeAt}
 use Rattle.layout.specs.Book.{Field, Groups, Shape, Template, isOptional, more, none}
-use Rattle.layout.specs.BookRules.{fieldAt, fieldsGood, parseDatas, parseFields}
+use Rattle.layout.specs.BookRules.{fieldAt, fieldsGood, parseDatas, parseFields, word}
 use Rattle.layout.specs.Contracts.{refusal}
 use Rattle.layout.specs.Values.{Values, entry, group, nil}
 use Rattle.layout.specs.Message.{Entry}
@@ -26,11 +26,12 @@ use Rattle.layout.proofs.Results.{and-left, bind-done}
 use Rattle.layout.proofs.Fields.{FieldGood, field-good}
 use Rattle.layout.proofs.Said.{octets-said}
 use Rattle.layout.proofs.TypeLaws.{inside-not-null}
-use Rattle.templates.specs.Positions.{Opened, groupCount, groupsAt, groupsEnd, groupsFrom, shapeAt}
+use Rattle.templates.specs.Positions.{Opened, dataCount, groupCount, groupsAt, groupsEnd, groupsFrom, shapeAt}
+use Rattle.templates.specs.Positions.{datasFrom as datasStart}
 use Rattle.templates.proofs.Open.{no-groups-at}
-use Rattle.walk.specs.Walks.{innerAt}
-use Rattle.judges.specs.Judges.{capped, dataEnd, datasEnd, entryEnd, fieldEnd, fieldsEnd, groupAt, groupEnd}
-use Rattle.judges.specs.Judges.{judgeGroup, judged, listingEnd, numberAt, octetsEnd, rowEnd}
+use Rattle.walk.specs.Walks.{Plain, innerAt}
+use Rattle.judges.specs.Judges.{blockAt, capped, dataEnd, datasEnd, entriesAt, entryEnd, fieldEnd, fieldsEnd}
+use Rattle.judges.specs.Judges.{groupAt, groupEnd, judgeGroup, judged, listingEnd, numberAt, octetsEnd, rowEnd}
 use Rattle.judges.specs.declared.Judged.{Judged}
 use Rattle.judges.specs.declared.Judged.the-variants.{To, Refused}
 
@@ -443,6 +444,33 @@ module _ (l : List ℕ) (n : ℕ) (s : Shape) (b : List ℕ) (depth seen k w i :
         let q = inv-to _ _ x y e in
         rw (o .tree, groups-step, goes-on q, q .next)
         (ends-as _ _ _ _ λ r. ap (λ (m : ℕ). (r .1, m)) (omega (arith, q .octets)))
+
+-- ---- plain blocks
+
+-- Where there are no groups it is all one how many levels are left.
+pub plain-level : (b : List ℕ) (depth w : ℕ) → Plain b w → innerAt b depth w ≡ innerAt b 0 w
+plain-level b depth w p =
+    no-groups-at b depth (groupCount b w) (groupsFrom b w) (omega (arith, p .noGroups))
+    ∙ sym (no-groups-at b 0 (groupCount b w) (groupsFrom b w) (omega (arith, p .noGroups)))
+
+module _ (l : List ℕ) (n : ℕ) (b : List ℕ) (depth w : ℕ) where
+  abbrev entriesFrom : ℕ → ℕ → ℕ → Judged
+  entriesFrom seen k i = judged (rowEnd (shapeAt b w) (innerAt b depth w) seen) (entriesAt b depth w l n k i)
+
+  module _ (p : Plain b w) (few : word b w < 65536) (i x u : ℕ)
+      (e : To x u ≡ judged fieldsEnd (judgeFields l n (shapeAt b w .fields) i)) where
+    -- A plain block is its fields, and the octets that it declares.
+    plain-whole : To x (word b w) ≡ judged (entryEnd (shapeAt b w) (innerAt b depth w)) (blockAt b depth w l n i)
+    plain-whole =
+        let groups = row-end l n (shapeAt b w) b depth 0 (groupCount b w) (groupsFrom b w) x (omega arith)
+        (omega (arith, p .noGroups)) in
+        let datas = datas-end l n b 0 (dataCount b w) (datasStart b w) x (omega arith) (omega (arith, p .noDatas)) in
+        sym (block-whole l n (shapeAt b w) (innerAt b depth w) _ i x u e x 0 (sym groups) x 0 (word b w) (word b w)
+        (sym datas) (omega arith) (omega arith))
+
+    -- Plain entries are the first one's fields, its declared octets being counted, and the other entries.
+    pub plain-next : (seen k : ℕ) → 0 < k → entriesFrom seen k i ≡ entriesFrom (capped (seen + word b w)) (k - 1) x
+    plain-next seen k h = entries-next l n (shapeAt b w) (innerAt b depth w) _ seen k i h x (word b w) plain-whole
 
 -- ---- a whole listing
 

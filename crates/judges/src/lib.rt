@@ -14,7 +14,7 @@ ghost use Rattle.layout.specs.Contracts.{refusal};
 ghost use Rattle.layout.specs.Writing.{isGroup, isNumber, judgeData, judgeDatas, judgeField, judgeFields};
 ghost use Rattle.layout.specs.Writing.{judgeListing, judgeOctets};
 ghost use Rattle.templates.specs.Positions.{IsBlock, shapeAt};
-ghost use Rattle.walk.specs.Walks.{GoodBlock, innerAt};
+ghost use Rattle.walk.specs.Walks.{GoodBlock, Plain, innerAt};
 ghost use Rattle.judges.specs.Judges.{blockAt, capped, dataEnd, datasEnd, entriesAt, entryEnd, fieldEnd};
 ghost use Rattle.judges.specs.Judges.{fieldsEnd, groupAt, groupEnd, judged, limit, listingEnd, numberAt};
 ghost use Rattle.judges.specs.Judges.{octetsEnd, rootAt, rowAt, rowEnd};
@@ -228,6 +228,32 @@ fn judge_block(body: &[u8], w: usize, depth: usize, listing: &[u64], n: usize, i
     }
 }
 
+// k entries of the block at word w, which has neither groups nor data.
+fn judge_plain(body: &[u8], w: usize, listing: &[u64], n: usize, k: u64, start: usize) -> Judged
+    requires { ⌜ IsBlock (wordsOf (now body)) w × (shapeGood (shapeAt (wordsOf (now body)) w) ≡ true) ⌝ }
+    requires { ⌜ Plain (wordsOf (now body)) w ⌝ }
+    ensures { λ r. ⌜ r ≡ judged (rowEnd (shapeAt (wordsOf (now (body .entry))) w) (innerAt (wordsOf
+        (now (body .entry))) 0 w) 0) (entriesAt (wordsOf (now (body .entry))) 0 w (now (listing .entry)) n k
+        start) ⌝ }
+{
+    let mut left = k;
+    let mut i = start;
+    let mut seen = 0;
+    while 0 < left {
+        let entry = judge_fields(body, w, listing, n, i);
+        let Judged::To { next, .. } = entry else {
+            return entry;
+        };
+        i = next;
+        seen = plus(seen, book::word(body, w));
+        left = left - 1;
+    }
+    Judged::To {
+        next: i,
+        length: seen,
+    }
+}
+
 // k entries of the block at word w.
 fn judge_entries(
     body: &[u8],
@@ -243,6 +269,9 @@ fn judge_entries(
         (now (body .entry))) depth w) 0) (entriesAt (wordsOf (now (body .entry))) depth w (now (listing .entry)) n k
         start) ⌝ }
 {
+    if book::word(body, w + 2) + book::word(body, w + 3) == 0 {
+        return judge_plain(body, w, listing, n, k, start);
+    }
     let mut due = k;
     let mut i = start;
     let mut seen = 0;

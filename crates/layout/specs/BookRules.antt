@@ -8,7 +8,7 @@ use lib.ListN.{length, getD, take, drop}
 use Rattle.layout.specs.Result.{Result, done, refused, _>>=_, must, asRefusal, _and_, _or_}
 use Rattle.layout.specs.Octets.{wordsOf, null16}
 use Rattle.layout.specs.Book.{Field, Data, Shape, Groups, none, more, Template, Book}
-use Rattle.layout.specs.Book.{end, fieldSinces, dataSinces, groupSinces}
+use Rattle.layout.specs.Book.{end, fieldSinces, dataSinces}
 
 -- ---- 4: the tree of a body, b being its words and w one of them
 

@@ -1,16 +1,12 @@
 -- A room that is filled part by part: one law for each way that a pass goes on.
 use mathlib.Core.Path.{_≡_, refl, sym, ap, _∙_}
 use mathlib.Core.List.{List, [], _∷_, _++_, append-assoc}
-use Prim.Native.Nat.{ℕ, suc, _+_, _≤_}
+use Prim.Native.Nat.{ℕ, _+_, _≤_}
 use native.Mathlib.Omega.{arith}
-use native.Mathlib.Nat.{add-zero, add-suc, suc-add}
-use lib.ListN.{length, set, length-append}
+use lib.ListN.{length, length-append}
 use lib.Seq.{sets, length-sets}
+use Rattle.octets.proofs.Joined.{sets-append}
 use Rattle.store.specs.Prints.{Printed, got, not, prepend, andThen, endOf, numbersOf, Room, Stored}
-
-pub sets-append : (d : List ℕ) (at : ℕ) (a b : List ℕ) → sets d at (a ++ b) ≡ sets (sets d at a) (at + length a) b
-sets-append d at [] b = rw add-zero refl
-sets-append d at (x ∷ a) b = rw (sets-append (set d at x) (suc at) a b, suc-add, add-suc) refl
 
 pub prepend-nil : (x : Printed) → x ≡ prepend [] x
 unfolding prepend

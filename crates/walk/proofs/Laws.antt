@@ -13,7 +13,7 @@ use Rattle.layout.specs.Octets.{number16}
 use Rattle.layout.specs.Book.{Shape, need}
 use Rattle.layout.specs.BookRules.{groupsGood, parseDatas, parseFields, word}
 use Rattle.layout.specs.Contracts.{refusal}
-use Rattle.layout.specs.Values.{Values, entriesFrom, entry, group, measure, nil}
+use Rattle.layout.specs.Values.{Values, entry, group, measure, nil}
 use Rattle.layout.specs.Message.{Entry, readBlock, readData, readDatas, readDimension, readEntries, readField}
 use Rattle.layout.specs.Message.{readGroup, readGroups, skipDatas, skipGroups}
 use Rattle.layout.specs.declared.Answer.{Answer}

@@ -25,13 +25,15 @@ use Rattle.layout.proofs.Fields.{FieldGood}
 use Rattle.layout.proofs.Said.{array-said, data-said, number-said}
 use Rattle.layout.proofs.Lengths.{field-long, span-long}
 use Rattle.layout.proofs.Stands.{length-numbers, length-octets}
-use Rattle.templates.specs.Positions.{Opened, groupCount, groupsAt, groupsEnd, groupsFrom, shapeAt}
+use Rattle.templates.specs.Positions.{Opened, dataCount, datasFrom, groupCount, groupsAt, groupsEnd, groupsFrom}
+use Rattle.templates.specs.Positions.{shapeAt}
 use Rattle.templates.proofs.Open.{no-groups-at}
-use Rattle.walk.specs.Walks.{innerAt}
+use Rattle.walk.specs.Walks.{Plain, innerAt}
 use Rattle.judges.specs.Judges.{judgeGroup}
 use Rattle.judges.proofs.Laws as judging
 use Rattle.store.specs.Prints.{Printed, Room, Stored, andThen, endOf, got, not, numbersOf, prepend, printed}
-use Rattle.store.proofs.Going.{Going, prepend-nil, prepend-prepend, room-put, room-rest, sets-append}
+use Rattle.octets.proofs.Joined.{sets-append}
+use Rattle.store.proofs.Going.{Going, prepend-nil, prepend-prepend, room-put, room-rest}
 use Rattle.store.proofs.Laws.{Done, after, mapped, prints, room-done}
 use Rattle.writer.specs.Parts.{blockPart, dataPart, datasPart, entriesPart, fieldPart, fieldsPart, groupPart}
 use Rattle.writer.specs.Parts.{groupsPart, headOf, messagePart, valuePart}
@@ -359,6 +361,42 @@ module _ (l pool : List ℕ) (s : Shape) (b : List ℕ) (depth k g i : ℕ) wher
       (after (λ x. x .2) _ (λ r. r .1) _ _ _ _ [] (λ x r. refl)
       (λ x r. sym (append-assoc (numbers16 (word b (g + 2) ∷ entriesIn (x .0) ∷ [])) _ _)) _ _
       ∙ sym (prepend-nil _))
+
+-- ---- plain blocks
+
+-- Where nothing follows it is all.
+then-none : (x : Printed) (f : ℕ → Printed) → ((j : ℕ) → f j ≡ got j []) → andThen x f ≡ x
+unfolding andThen prepend
+then-none (got a xs) f h = rw (h a, append-nil xs) refl
+then-none not f h = refl
+
+module _ (l pool b : List ℕ) (depth w : ℕ) (p : Plain b w) where
+  -- No groups and no data write nothing.
+  plain-rest : (j : ℕ)
+      → andThen (groupsPart l pool (shapeAt b w) (innerAt b depth w) j) (datasPart l pool (shapeAt b w .datas))
+      ≡ got j []
+  unfolding andThen prepend
+  plain-rest j =
+      rw (
+        row-end l pool (shapeAt b w) b depth (groupCount b w) (groupsFrom b w) j (omega (arith, p .noGroups)),
+        datas-end l pool b (dataCount b w) (datasFrom b w) j (omega (arith, p .noDatas)),
+      ) refl
+
+  -- The first entry is its fields and no more.
+  pub plain-step : (k i : ℕ) → 0 < k
+      → entriesPart l pool b depth w k i
+      ≡ andThen (fieldsPart l pool (word b w) 0 (shapeAt b w .fields) i) (entriesPart l pool b depth w (k - 1))
+  plain-step k i h =
+      rw (entries-step l pool b depth w k i h, block-open l pool b depth w i, then-none _ _ plain-rest) refl
+
+  -- It is all one how many levels are left.
+  pub plain-level : (k i : ℕ) → entriesPart l pool b depth w k i ≡ entriesPart l pool b 0 w k i
+  unfolding entriesPart
+  plain-level k i =
+      rw (
+        no-groups-at b depth (groupCount b w) (groupsFrom b w) (omega (arith, p .noGroups)),
+        no-groups-at b 0 (groupCount b w) (groupsFrom b w) (omega (arith, p .noGroups)),
+      ) refl
 
 -- ---- a whole message
 

@@ -8,8 +8,8 @@ use native.Mathlib.Omega.{arith}
 use lib.ListN.{drop, getD, length, length-drop, replicate, set, take}
 use lib.Seq.{drop-cons, drop-drop, drop-length, length-sets, sets, sets-eq, take-length}
 use borrow.Rule.Slice.PartMut.{putMid}
-use Rattle.store.specs.Prints.{Printed, Room, Stored, endOf, got, numbersOf, prepend}
-use Rattle.store.proofs.Going.{Going}
+use Rattle.store.specs.Prints.{Printed, Room, Stored, andThen, endOf, got, numbersOf, prepend}
+use Rattle.store.proofs.Going.{Going, going-call, going-first, going-long}
 
 -- Room from n on is room from the start.
 pub room-start : {x : Printed} {n k : ℕ} → Room x n k → Room x 0 k
@@ -62,6 +62,19 @@ module _ (n : ℕ) (d : List ℕ) where
   pub part-within : (x : Printed) (at k : ℕ) (ys : List ℕ) → Room x n (length d) → Stored x 0 partOf at k ys
       → n + k ≤ length d
   part-within x at k ys r t = omega (arith, r .fits, t .taken)
+
+-- ---- what comes next, from the start of the part after what is taken
+
+module _ {x y : Printed} {n₀ : ℕ} {d₀ : List ℕ} {n : ℕ} {d : List ℕ} (g : Going x y n₀ d₀ n d)
+    (r : Room x n₀ (length d₀)) (z : Printed) (f : ℕ → Printed) (same : y ≡ andThen z f) (a k : ℕ) (ys : List ℕ)
+    (t : Stored z 0 (partOf n d) a k ys) where
+  -- The room has it.
+  pub lent-within : n + k ≤ length d₀
+  lent-within = omega (arith, part-within n d z a k ys (going-first g r z f same) t, going-long g)
+
+  -- It stands in the room, and the rest is to come.
+  pub lent-going : Going x (f a) n₀ d₀ (n + k) (putMid n (length d - n) d ys)
+  lent-going = going-call g r z f a (n + k) _ same (part-stored n d z a k ys (going-first g r z f same) t)
 
 -- ---- what is known to be printed
 

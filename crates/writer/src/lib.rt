@@ -10,7 +10,7 @@ ghost use Rattle.layout.specs.Octets.{wordsOf};
 ghost use Rattle.layout.specs.BookRules.{fieldAt, shapeGood, word};
 ghost use Rattle.layout.specs.Writing.{numbers16};
 ghost use Rattle.templates.specs.Positions.{IsBlock, shapeAt};
-ghost use Rattle.walk.specs.Walks.{GoodBlock};
+ghost use Rattle.walk.specs.Walks.{GoodBlock, Plain};
 ghost use Rattle.store.specs.Prints.{Room, Stored, numbersOf};
 ghost use Rattle.writer.specs.Parts.{blockPart, dataPart, datasPart, entriesPart, fieldPart, fieldsPart};
 ghost use Rattle.writer.specs.Parts.{groupPart, headOf, messagePart, rowPart, valuePart};
@@ -210,6 +210,34 @@ fn write_block(
     }
 }
 
+// k entries of the block at word w, which has neither groups nor data: no level is left in it.
+fn write_plain(
+    body: &[u8],
+    w: usize,
+    k: u64,
+    listing: &[u64],
+    start: usize,
+    pool: &[u8],
+    room: &mut [u8],
+) -> Cursor
+    requires { ⌜ IsBlock (wordsOf (now body)) w × (shapeGood (shapeAt (wordsOf (now body)) w) ≡ true) ⌝ }
+    requires { ⌜ Plain (wordsOf (now body)) w ⌝ }
+    requires { ⌜ Room (entriesPart (now listing) (now pool) (wordsOf (now body)) 0 w k start) 0 (length (now room)) ⌝ }
+    ensures { λ r. ⌜ Stored (entriesPart (now (listing .entry)) (now (pool .entry)) (wordsOf (now (body .entry)))
+        0 w k start) 0 (now (room .entry)) (r .record) (r .at) (now (room .exit)) ⌝ }
+{
+    let mut due = k;
+    let mut i = start;
+    let mut at = 0;
+    while 0 < due {
+        let entry = write_fields(body, w, listing, i, pool, &mut room[at..]);
+        i = entry.record;
+        at = at + entry.at;
+        due = due - 1;
+    }
+    Cursor { record: i, at }
+}
+
 // k entries of the block at word w.
 fn write_entries(
     body: &[u8],
@@ -227,6 +255,9 @@ fn write_entries(
     ensures { λ r. ⌜ Stored (entriesPart (now (listing .entry)) (now (pool .entry)) (wordsOf (now (body .entry)))
         depth w k start) 0 (now (room .entry)) (r .record) (r .at) (now (room .exit)) ⌝ }
 {
+    if book::word(body, w + 2) + book::word(body, w + 3) == 0 {
+        return write_plain(body, w, k, listing, start, pool, room);
+    }
     let mut due = k;
     let mut i = start;
     let mut at = 0;

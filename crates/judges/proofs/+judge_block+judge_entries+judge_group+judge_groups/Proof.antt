@@ -12,7 +12,7 @@ use lib.ListN.{length}
 use Rattle.layout.specs.Octets.{wordsOf}
 use Rattle.layout.specs.Writing.{judgeGroups}
 use Rattle.templates.specs.Positions.{groupsAt, groupsFrom, shapeAt}
-use Rattle.walk.specs.Walks.{GoodBlock, GoodRow, innerAt}
+use Rattle.walk.specs.Walks.{GoodBlock, GoodRow, Plain, innerAt}
 use Rattle.walk.proofs.Laws.{row-good}
 use Rattle.judges.specs.Judges.{entriesAt, judged, limit, rowAt, rowEnd}
 use Rattle.book.proofs.word.Reads as word-reads
@@ -22,12 +22,13 @@ use Rattle.blocks.proofs.skip_row.Reads as skip-row-reads
 use Rattle.blocks.proofs.Laws.{block-fits, inner-end, row-inner}
 use Rattle.judges.proofs.Laws.{block-datas, block-fields, block-groups, block-whole, entries-end, entries-next}
 use Rattle.judges.proofs.Laws.{entries-refused, group-entries, group-many, group-other, group-there}
-use Rattle.judges.proofs.Laws.{group-whole, row-end, row-next, row-refused}
+use Rattle.judges.proofs.Laws.{group-whole, plain-level, row-end, row-next, row-refused}
 use Rattle.judges.proofs.refuse.Reads as refuse-reads
 use Rattle.judges.proofs.plus.Reads as plus-reads
 use Rattle.judges.proofs.is_group.Reads as is-group-reads
 use Rattle.judges.proofs.judge_fields.Reads as judge-fields-reads
 use Rattle.judges.proofs.judge_datas.Reads as judge-datas-reads
+use Rattle.judges.proofs.judge_plain.Reads as judge-plain-reads
 use Rattle.judges.proofs.judge_block.Reads as block-reads
 use Rattle.judges.proofs.judge_block.Kinds as block-kinds
 use Rattle.judges.proofs.+judge_block+judge_entries+judge_group+judge_groups.Lts-judge_block as block-lts
@@ -163,14 +164,43 @@ module _ (t : ℕ) where
       (rw (c .before .before .word .ensures .value) at (c .before .plus .ensures)) (c .plus2 .ensures))
 
   abbrev entries-claims : entries-lts.Claims
-  entries-claims = (block-below, block-reads.Post, plus-reads.Asked, plus-reads.Learnt)
+  entries-claims = (
+    word-reads.Asked,
+    word-reads.Learnt,
+    judge-plain-reads.Asked,
+    judge-plain-reads.Learnt,
+    block-below,
+    block-reads.Post,
+    plus-reads.Asked,
+    plus-reads.Learnt,
+  )
 
   abbrev entries-Need : (entries-lts.Claims → In 2 entries-lts.ps → Out 2 entries-lts.ps entries-lts.r
       → entries-lts.InvT-loop → entries-lts.MeasureT-loop → Type 0) → Type 0
   entries-Need n = n entries-claims entries-at entries-reads.Post entries-Inv entries-μ-loop
 
+  -- The block has neither groups nor data.
+  entries-plain : (c : entries-Need entries-lts.Then1)
+      → let a = c .before .before .before .before .before .args in Plain (wordsOf (a .body .now)) (a .w)
+  entries-plain c =
+      record {
+        noGroups = omega (arith, c .if1 .taken, c .before .before .word .ensures .value);
+        noDatas = omega (arith, c .if1 .taken, c .before .word2 .ensures .value);
+      }
+
+  entries-judge-plain-requires : entries-Need entries-lts.Need-judge-plain-requires
+  entries-judge-plain-requires c κs =
+      let good = c .before .before .before .before .before .pre .1 in
+      ((good .stands .block, good .shape), entries-plain c)
+
   entries-returns : entries-Need entries-lts.Need-returns
   entries-returns c =
+      let test = c .before in
+      let depth = test .before .before .before .before .before .args .depth in
+      rw (plain-level _ depth _ (entries-plain test)) (c .judge-plain .ensures)
+
+  entries-returns-2 : entries-Need entries-lts.Need-returns-2
+  entries-returns-2 c =
       let call = c .before .before in
       let inside = call .before in
       let e = c .enum-told .given .1 in
@@ -188,8 +218,8 @@ module _ (t : ℕ) where
         inside .before .loop .inv .1 ∙ entries-next _ _ _ _ _ _ _ _ (inside .loop-test .taken) _ _ e,
       )
 
-  entries-returns-2 : entries-Need entries-lts.Need-returns-2
-  entries-returns-2 c =
+  entries-returns-3 : entries-Need entries-lts.Need-returns-3
+  entries-returns-3 c =
       let inv = c .before .loop .inv in
       sym (inv .1 ∙ entries-end _ _ _ _ _ _ _ _ (inv .0) (c .loop-test .left))
 
@@ -334,10 +364,15 @@ pub +judge-block+judge-entries+judge-group+judge-groups-spec : {M : Type 1} → 
     (block-returns-4 t))
     (λ t.
     entries-lts.spec (entries-claims t) (entries-at t) entries-reads.Post entries-Inv entries-μ-loop
-    (λ c. (omega arith, refl)) (λ c κs. (omega arith, c .before .before .before .before .pre .1))
-    (λ c. search needs) (λ c. search needs) (entries-returns t) (λ c κs. search needs) (λ c. omega arith)
+    (λ c. omega (arith, block-fits _ _ (c .before .before .pre .1 .stands .block)))
+    (λ c κs. omega (arith, block-fits _ _ (c .before .before .pre .1 .stands .block)))
+    (λ c. omega (arith, block-fits _ _ (c .before .before .before .pre .1 .stands .block)))
+    (λ c κs. omega (arith, block-fits _ _ (c .before .before .before .pre .1 .stands .block)))
+    (λ c. omega arith) (entries-judge-plain-requires t) (entries-returns t) (λ c. (omega arith, refl))
+    (λ c κs. (omega arith, c .before .before .before .before .before .before .before .pre .1))
+    (λ c. search needs) (λ c. search needs) (entries-returns-2 t) (λ c κs. search needs) (λ c. omega arith)
     (λ c. omega arith)
-    (entries-loop-again t) (entries-returns-2 t))
+    (entries-loop-again t) (entries-returns-3 t))
     (λ t.
     group-lts.spec (group-claims t) (group-at t) group-reads.Post
     (λ c κs. search needs) (λ c κs. search needs) (group-returns t)

@@ -1,6 +1,5 @@
 -- The block's data are a row of the body.
 use native.Mathlib.Omega.{arith}
-use borrow.Author.Needs.{needs}
 use Rattle.blocks.proofs.Laws.{block-fits}
 use Rattle.walk.proofs.walk_datas.Statement.{statement}
 use Rattle.walk.proofs.walk_datas.Tie as tie

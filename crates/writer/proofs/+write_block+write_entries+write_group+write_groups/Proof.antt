@@ -6,6 +6,7 @@ use mathlib.Core.List.{List}
 use Prim.Native.Nat.{ℕ, _+_, _-_, _*_, _/_, _<_, _≤_}
 use native.Mathlib.Omega.{arith}
 use borrow.Author.Needs.{needs}
+use borrow.Author.Tests.{eq-eqb}
 use borrow.Fn.Kinds.{In, Out}
 use borrow.Fn.PlainCycle.{Measures, is, falls, and}
 use borrow.Rule.Slice.PartMut.{putMid}
@@ -13,8 +14,8 @@ use lib.ListN.{length}
 use Rattle.layout.specs.Octets.{wordsOf}
 use Rattle.layout.specs.Writing.{second}
 use Rattle.templates.specs.Positions.{groupsAt, groupsFrom, shapeAt}
-use Rattle.walk.specs.Walks.{GoodRow, innerAt}
-use Rattle.walk.proofs.Laws.{row-good}
+use Rattle.walk.specs.Walks.{GoodRow, Plain, innerAt}
+use Rattle.walk.proofs.Laws.{plain-counts, row-good}
 use Rattle.book.proofs.word.Reads as word-reads
 use Rattle.blocks.proofs.open_row.Reads as open-row-reads
 use Rattle.blocks.proofs.groups_from.Reads as groups-from-reads
@@ -25,11 +26,12 @@ use Rattle.store.proofs.Going.{Going, going-call, going-end, going-first, going
 use Rattle.store.proofs.Going.{stored-none}
 use Rattle.writer.specs.Parts.{blockPart, datasPart, entriesPart, groupPart, groupsPart, rowPart}
 use Rattle.writer.proofs.Laws.{GroupOpen, block-open, entries-end, entries-step, group-going, group-open}
-use Rattle.writer.proofs.Laws.{row-end, row-step}
-use Rattle.writer.proofs.Lent.{part-room, part-stored, part-within, stored-long}
+use Rattle.writer.proofs.Laws.{plain-level, row-end, row-step}
+use Rattle.writer.proofs.Lent.{lent-going, lent-within, part-room, part-stored, part-within, stored-long}
 use Rattle.writer.proofs.put_two.Reads as put-two-reads
 use Rattle.writer.proofs.write_fields.Reads as write-fields-reads
 use Rattle.writer.proofs.write_datas.Reads as write-datas-reads
+use Rattle.writer.proofs.write_plain.Reads as write-plain-reads
 use Rattle.writer.proofs.write_block.Reads as block-reads
 use Rattle.writer.proofs.write_block.Kinds as block-kinds
 use Rattle.writer.proofs.+write_block+write_entries+write_group+write_groups.Lts-write_block as block-lts
@@ -152,8 +154,8 @@ module _ (t : ℕ) where
       0 (a .room .now) (f .write-fields .result .at + c .write-groups .result .at) (block-room c)
   block-groups c =
       let f = c .before .before .before .before in
-      going-call (block-fields f) (f .before .before .before .before .before .before .pre .1 .1) _ _ _ _ _ refl
-      (part-stored _ (f .write-fields .last .1 .1 .1 .1 .1 .0) _ _ _ _ (block-rest f) (c .write-groups .ensures))
+      lent-going (block-fields f) (f .before .before .before .before .before .before .pre .1 .1) _ _ refl _ _ _
+      (c .write-groups .ensures)
 
   block-end : (c : block-Need block-lts.After-write-groups)
       → let f = c .before .before .before .before in
@@ -187,11 +189,11 @@ module _ (t : ℕ) where
   block-add-to c =
       let call = c .before .before .before in
       let f = call .before .before .before .before in
+      let start = f .before .before .before .before .before .before in
       omega (
         arith,
-        part-within _ (f .write-fields .last .1 .1 .1 .1 .1 .0) _ _ _ _ (block-rest f) (call .write-groups .ensures),
-        going-long (block-fields f),
-        f .before .before .before .before .before .before .good,
+        lent-within (block-fields f) (start .pre .1 .1) _ _ refl _ _ _ (call .write-groups .ensures),
+        start .good,
       )
 
   block-add-t16 : block-Need block-lts.Need-add-t16
@@ -214,44 +216,75 @@ module _ (t : ℕ) where
       (part-stored _ _ _ _ _ _ (block-end g) (call .write-datas .ensures))
 
   abbrev entries-claims : entries-lts.Claims
-  entries-claims = (block-below, block-reads.Post)
+  entries-claims = (
+    word-reads.Asked,
+    word-reads.Learnt,
+    write-plain-reads.Asked,
+    write-plain-reads.Learnt,
+    block-below,
+    block-reads.Post,
+  )
 
   abbrev entries-Need : (entries-lts.Claims → In 4 entries-lts.ps → Out 4 entries-lts.ps entries-lts.r
       → entries-lts.InvT-loop → entries-lts.MeasureT-loop → Type 0) → Type 0
   entries-Need n = n entries-claims entries-at entries-reads.Post entries-Inv entries-μ-loop
 
+  -- The block has neither groups nor data.
+  entries-plain : (c : entries-Need entries-lts.Then1)
+      → let a = c .before .before .before .before .before .before .before .args in
+      Plain (wordsOf (a .body .now)) (a .w)
+  entries-plain c =
+      plain-counts _ _ _ _ (c .before .before .word .ensures .value) (c .before .word2 .ensures .value)
+      (eq-eqb _ _ (c .if1 .taken))
+
+  entries-write-plain-requires : entries-Need entries-lts.Need-write-plain-requires
+  entries-write-plain-requires c κs =
+      let plain = entries-plain (c .before) in
+      let pre = c .before .before .before .before .before .before .before .before .pre .1 in (
+        (pre .0 .stands .block, pre .0 .shape),
+        (plain, rw (plain-level _ _ _ _ _ plain _ _) at (pre .1)),
+      )
+
+  entries-returns : entries-Need entries-lts.Need-returns
+  entries-returns c =
+      let call = c .before .before in
+      rw (plain-level _ _ _ _ _ (entries-plain (call .before .before)) _ _) (call .write-plain .ensures)
+
   -- There is room for the next entry.
   entries-left : (c : entries-Need entries-lts.In-loop)
-      → let a = c .before .before .before .before .before .before .args in
+      → let a = c .before .before .before .before .before .before .before .before .before .args in
       let l = c .before .loop in
       Room (blockPart (a .listing .now) (a .pool .now) (wordsOf (a .body .now)) (a .depth) (a .w) (l .i)) (l .at)
       (length (l .room))
   entries-left c =
-      going-first (c .before .loop .inv) (c .before .before .before .before .before .before .pre .1 .1) _ _
+      going-first (c .before .loop .inv)
+      (c .before .before .before .before .before .before .before .before .before .pre .1 .1) _ _
       (entries-step _ _ _ _ _ _ _ (c .loop-test .taken))
 
   entries-add-at : entries-Need entries-lts.Need-add-at
   entries-add-at c =
       let call = c .before .before .before in
       let i = call .before .before in
+      let start = i .before .before .before .before .before .before .before .before .before in
       omega (
         arith,
-        part-within _ (i .before .loop .room) _ _ _ _ (entries-left i) (call .write-block .ensures),
-        going-long (i .before .loop .inv),
-        i .before .before .before .before .before .before .good,
+        lent-within (i .before .loop .inv) (start .pre .1 .1) _ _ (entries-step _ _ _ _ _ _ _ (i .loop-test .taken))
+            _ _ _ (call .write-block .ensures),
+        start .good,
       )
 
   entries-loop-again : entries-Need entries-lts.Need-loop-again
   entries-loop-again c =
       let call = c .before .before .before in
       let i = call .before .before in
-      going-call (i .before .loop .inv) (i .before .before .before .before .before .before .pre .1 .1) _ _ _ _ _
-      (entries-step _ _ _ _ _ _ _ (i .loop-test .taken))
-      (part-stored _ (i .before .loop .room) _ _ _ _ (entries-left i) (call .write-block .ensures))
+      lent-going (i .before .loop .inv)
+      (i .before .before .before .before .before .before .before .before .before .pre .1 .1) _ _
+      (entries-step _ _ _ _ _ _ _ (i .loop-test .taken)) _ _ _ (call .write-block .ensures)
 
-  entries-returns : entries-Need entries-lts.Need-returns
-  entries-returns c =
-      going-end (c .before .loop .inv) (c .before .before .before .before .before .before .pre .1 .1) _ _ _
+  entries-returns-2 : entries-Need entries-lts.Need-returns-2
+  entries-returns-2 c =
+      going-end (c .before .loop .inv)
+      (c .before .before .before .before .before .before .before .before .before .pre .1 .1) _ _ _
       (stored-none _ _ _ _ (entries-end _ _ _ _ _ _ _ (c .loop-test .left)))
 
   abbrev group-claims : group-lts.Claims
@@ -363,12 +396,12 @@ module _ (t : ℕ) where
   row-add-at c =
       let call = c .before .before .before in
       let o = call .before .before in
-      let l = o .before .before .loop in
+      let start = o .before .before .before .before .before .before .before .before .before in
       omega (
         arith,
-        part-within _ (l .room) _ _ _ _ (row-left o) (call .write-group .ensures),
-        going-long (l .inv .1),
-        o .before .before .before .before .before .before .before .before .before .good,
+        lent-within (o .before .before .loop .inv .1) (start .pre .1 .1) _ _
+            (row-step _ _ _ _ _ _ _ _ (o .open-row .ensures)) _ _ _ (call .write-group .ensures),
+        start .good,
       )
 
   row-loop-again : row-Need row-lts.Need-loop-again
@@ -380,9 +413,8 @@ module _ (t : ℕ) where
       rw (inner-end _ _ _ _ _ _ opened (c .before .before .groups-from2 .ensures) (c .before .word2 .ensures .value) _
       (c .skip-row .ensures)) (
         row-good _ _ _ _ opened (l .inv .0 .groups) .1,
-        going-call (l .inv .1) (o .before .before .before .before .before .before .before .before .before .pre .1 .1)
-            _ _ _ _ _ (row-step _ _ _ _ _ _ _ _ opened)
-            (part-stored _ (l .room) _ _ _ _ (row-left o) (call .write-group .ensures)),
+        lent-going (l .inv .1) (o .before .before .before .before .before .before .before .before .before .pre .1 .1)
+            _ _ (row-step _ _ _ _ _ _ _ _ opened) _ _ _ (call .write-group .ensures),
       )
 
   row-returns : row-Need row-lts.Need-returns
@@ -414,18 +446,23 @@ pub +write-block+write-entries+write-group+write-groups-spec : {M : Type 1} → 
     (block-add-t16 t) (λ c. stored-long (block-returns t c)) (block-returns t))
     (λ t.
     entries-lts.spec (entries-claims t) (entries-at t) entries-reads.Post entries-Inv entries-μ-loop
+    (λ c. omega (arith, block-fits _ _ (c .before .before .before .before .pre .1 .0 .stands .block)))
+    (λ c κs. omega (arith, block-fits _ _ (c .before .before .before .before .pre .1 .0 .stands .block)))
+    (λ c. omega (arith, block-fits _ _ (c .before .before .before .before .before .pre .1 .0 .stands .block)))
+    (λ c κs. omega (arith, block-fits _ _ (c .before .before .before .before .before .pre .1 .0 .stands .block)))
+    (λ c. omega arith) (entries-write-plain-requires t) (λ c. stored-long (entries-returns t c)) (entries-returns t)
     (λ c. going-none _ _ _)
     (λ c. omega (arith, entries-left t c .fits)) (λ c. omega (arith, entries-left t c .fits)) (λ c. search needs)
     (λ c κs. (
       omega arith,
       (
-        c .before .before .before .before .before .before .before .pre .1 .0,
+        c .before .before .before .before .before .before .before .before .before .before .pre .1 .0,
         part-room _
             (c .before .before .loop .room) _ (entries-left t (c .before)),
       ),
     ))
     (entries-add-at t) (λ c. omega arith) (λ c. omega arith) (entries-loop-again t)
-    (λ c. going-long (c .before .loop .inv)) (entries-returns t))
+    (λ c. going-long (c .before .loop .inv)) (entries-returns-2 t))
     (λ t.
     group-lts.spec (group-claims t) (group-at t) group-reads.Post
     (λ c. omega (arith, group-opened t (c .before .before .before .before) .there)) (λ c. omega

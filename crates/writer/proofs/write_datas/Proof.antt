@@ -9,10 +9,10 @@ use Rattle.layout.specs.BookRules.{parseDatas}
 use Rattle.templates.specs.Positions.{datasFrom, shapeAt}
 use Rattle.blocks.proofs.Laws.{block-fits}
 use Rattle.store.specs.Prints.{Room}
-use Rattle.store.proofs.Going.{Going, going-call, going-end, going-first, going-long, going-none, stored-none}
+use Rattle.store.proofs.Going.{Going, going-end, going-first, going-long, going-none, stored-none}
 use Rattle.writer.specs.Parts.{dataPart, datasPart}
 use Rattle.writer.proofs.Laws.{data-there, datas-end, datas-step}
-use Rattle.writer.proofs.Lent.{part-room, part-stored, part-within}
+use Rattle.writer.proofs.Lent.{lent-going, lent-within, part-room}
 use Rattle.writer.proofs.write_datas.Statement.{statement}
 use Rattle.writer.proofs.write_datas.Tie as tie
 
@@ -45,11 +45,12 @@ add-at : tie.Need-add-at Inv-loop μ-loop
 add-at c =
     let call = c .before .before in
     let i = call .before .before in
+    let start = i .before .before .before .before .before .before .before in
     omega (
       arith,
-      part-within _ (i .before .loop .room) _ _ _ _ (next i) (call .write-data .ensures),
-      going-long (i .before .loop .inv .1),
-      i .before .before .before .before .before .before .before .good,
+      lent-within (i .before .loop .inv .1) (start .pre .1) _ _ (datas-step _ _ _ _ _ _ (i .loop-test .taken)) _ _ _
+          (call .write-data .ensures),
+      start .good,
     )
 
 add-i : tie.Need-add-i Inv-loop μ-loop
@@ -63,9 +64,8 @@ loop-again c =
     let i = call .before .before in
     let inv = i .before .loop .inv in (
       _,
-      going-call (inv .1) (i .before .before .before .before .before .before .before .pre .1) _ _ _ _ _
-          (datas-step _ _ _ _ _ _ (i .loop-test .taken))
-          (part-stored _ (i .before .loop .room) _ _ _ _ (next i) (call .write-data .ensures)),
+      lent-going (inv .1) (i .before .before .before .before .before .before .before .pre .1) _ _
+          (datas-step _ _ _ _ _ _ (i .loop-test .taken)) _ _ _ (call .write-data .ensures),
     )
 
 returns : tie.Need-returns Inv-loop μ-loop

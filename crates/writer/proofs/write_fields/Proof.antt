@@ -14,12 +14,11 @@ use Rattle.templates.specs.Positions.{shapeAt}
 use Rattle.blocks.proofs.Laws.{block-fits}
 use Rattle.judges.proofs.Laws.{good-step}
 use Rattle.store.specs.Prints.{Room, Stored}
-use Rattle.store.proofs.Going.{Going, going-call, going-end, going-first, going-long, going-none, going-room}
+use Rattle.store.proofs.Going.{Going, going-end, going-first, going-none, going-room}
 use Rattle.writer.specs.Parts.{fieldPart, fieldsPart}
 use Rattle.writer.proofs.Laws.{field-ends, field-there, fields-end, fields-step}
-use Rattle.writer.proofs.Lent.{got-room, got-stored, part-long, part-put, part-room, part-stored, part-within}
-use Rattle.writer.proofs.Lent.{partOf}
-use Rattle.writer.proofs.Lent.{stored-long}
+use Rattle.writer.proofs.Lent.{got-room, got-stored, lent-going, lent-within, part-long, part-put, part-room}
+use Rattle.writer.proofs.Lent.{partOf, stored-long}
 use Rattle.writer.proofs.write_fields.Statement.{statement}
 use Rattle.writer.proofs.write_fields.Tie as tie
 
@@ -78,11 +77,12 @@ add-at : tie.Need-add-at Inv-loop μ-loop
 add-at c =
     let call = c .before .before in
     let i = call .before .before .before in
+    let start = i .before .before .before .before .before .before .before in
     omega (
       arith,
-      part-within _ (i .before .loop .room) _ _ _ _ (next i) (wrote call),
-      going-long (i .before .loop .inv .3),
-      i .before .before .before .before .before .before .before .good,
+      lent-within (i .before .loop .inv .3) (start .pre .1) _ _ (fields-step _ _ _ _ _ _ _ _ (i .loop-test .taken))
+          _ _ _ (wrote call),
+      start .good,
     )
 
 add-i : tie.Need-add-i Inv-loop μ-loop
@@ -97,10 +97,9 @@ loop-again c =
     let g = good i in
     let part = part-room _ (i .before .loop .room) _ (next i) in
     let e = field-ends _ _ _ _ _ _ _ _ g part _ _ _ _ (wrote call) in
-    let going = going-call (i .before .loop .inv .3)
-    (i .before .before .before .before .before .before .before .pre .1) _ _ _ _ _
-    (fields-step _ _ _ _ _ _ _ _ (i .loop-test .taken))
-    (part-stored _ (i .before .loop .room) _ _ _ _ (next i) (wrote call)) in
+    let going = lent-going (i .before .loop .inv .3)
+    (i .before .before .before .before .before .before .before .pre .1) _ _
+    (fields-step _ _ _ _ _ _ _ _ (i .loop-test .taken)) _ _ _ (wrote call) in
     rw e (omega (arith, i .before .loop .inv .0), g .ended, g .rest, rw e at going)
 
 -- What is left is padding.
