@@ -1,22 +1,31 @@
 -- What is left of a row answers as the whole does, one element at a time, as the loops find them.
 use mathlib.Core.Path.{_≡_, refl, subst, sym}
+use mathlib.Core.Bool.{true}
 use mathlib.Core.List.{List, _∷_}
 use Prim.Native.Nat.{ℕ, zero, suc, _+_, _-_, _*_, _/_, _<_, _≤_}
 use native.Mathlib.Omega.{arith}
-use lib.Dec.{leb}
+use lib.Dec.{eqb, leb}
 use lib.ListN.{length}
-use borrow.Author.Tests.{le-leb, lt-leb}
+use borrow.Author.Tests.{eqb-true, le-leb, lt-leb}
 use Rattle.layout.specs.Result.{if_then_else_}
 use Rattle.layout.specs.Octets.{wordsOf}
 use Rattle.layout.specs.Book.{needAfter, present, dataSinces, groupSinces, end}
 use Rattle.layout.specs.BookRules.{word, fieldAt, parseFields, parseDatas, parseGroups}
-use Rattle.templates.specs.Positions.{IsBlock, IsRow, Opened, groupsAt, groupsEnd, groupsFrom, groupCount, endOf}
+use Rattle.templates.specs.Positions.{IsBlock, IsRow, Opened, Plain, dataCount, endOf, groupCount}
+use Rattle.templates.specs.Positions.{groupsAt, groupsEnd, groupsFrom}
 use Rattle.book.proofs.Words.{length-words}
 use Rattle.templates.proofs.Open.{no-groups-at}
 
 -- A block lies in the body that has it.
 pub block-fits : (s : List ℕ) (w : ℕ) → IsBlock (wordsOf s) w → groupsFrom (wordsOf s) w ≤ length s / 2
 block-fits s w block = rw (← (length-words s)) (block .fits)
+
+-- A block whose counts of groups and data add up to nothing.
+pub plain-counts : (b : List ℕ) (w g d : ℕ) → g ≡ groupCount b w → d ≡ dataCount b w → eqb (g + d) 0 ≡ true
+    → Plain b w
+plain-counts b w g d p q e =
+    let none = eqb-true (g + d) 0 e in
+    record { noGroups = omega (arith, none, p); noDatas = omega (arith, none, q) }
 
 -- ---- fields
 

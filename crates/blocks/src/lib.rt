@@ -1,12 +1,13 @@
 // What an accepted book's body says of a block at its word positions: the need at a version, the elements that are
 // present, and the word after a row of groups.
 ghost use mathlib.Core.Path.{_≡_};
+ghost use mathlib.Core.Bool.{true};
 ghost use Prim.Native.Nat.{_+_, _*_, _/_, _<_, _≤_};
 ghost use lib.ListN.{length};
 ghost use Rattle.layout.specs.Octets.{wordsOf};
 ghost use Rattle.layout.specs.Book.{need as needOf, present, dataSinces, groupSinces};
 ghost use Rattle.layout.specs.BookRules.{parseDatas};
-ghost use Rattle.templates.specs.Positions.{IsBlock, IsRow, Opened, shapeAt, groupsAt, groupsEnd, groupsFrom};
+ghost use Rattle.templates.specs.Positions.{IsBlock, IsRow, Opened, Plain, shapeAt, groupsAt, groupsEnd, groupsFrom};
 
 // The need of the block at word w, at version v: the end of its last field that is present, looked for from the back.
 pub fn need(body: &[u8], w: usize, v: usize) -> usize
@@ -42,6 +43,14 @@ pub fn present_datas(body: &[u8], from: usize, n: usize, v: usize) -> usize
         left = left - 1;
     }
     seen
+}
+
+// Whether the block at word w has neither groups nor data.
+pub fn is_plain(body: &[u8], w: usize) -> bool
+    requires { ⌜ IsBlock (wordsOf (now body)) w ⌝ }
+    ensures { λ r. ⌜ (r ≡ true → Plain (wordsOf (now (body .entry))) w) ⌝ }
+{
+    book::word(body, w + 2) + book::word(body, w + 3) == 0
 }
 
 // The word where the groups of the block at word w start.

@@ -26,10 +26,10 @@ use Rattle.layout.proofs.Results.{and-left, bind-done}
 use Rattle.layout.proofs.Fields.{FieldGood, field-good}
 use Rattle.layout.proofs.Said.{octets-said}
 use Rattle.layout.proofs.TypeLaws.{inside-not-null}
-use Rattle.templates.specs.Positions.{Opened, dataCount, groupCount, groupsAt, groupsEnd, groupsFrom, shapeAt}
+use Rattle.templates.specs.Positions.{Plain, Opened, dataCount, groupCount, groupsAt, groupsEnd, groupsFrom, shapeAt}
 use Rattle.templates.specs.Positions.{datasFrom as datasStart}
 use Rattle.templates.proofs.Open.{no-groups-at}
-use Rattle.walk.specs.Walks.{Plain, innerAt}
+use Rattle.walk.specs.Walks.{innerAt}
 use Rattle.judges.specs.Judges.{blockAt, capped, dataEnd, datasEnd, entriesAt, entryEnd, fieldEnd, fieldsEnd}
 use Rattle.judges.specs.Judges.{groupAt, groupEnd, judgeGroup, judged, listingEnd, numberAt, octetsEnd, rowEnd}
 use Rattle.judges.specs.declared.Judged.{Judged}

@@ -6,15 +6,15 @@ ghost use mathlib.Core.Bool.{true};
 ghost use Prim.Native.Nat.{_+_, _/_, _<_, _≤_};
 ghost use lib.Dec.{eqb};
 ghost use lib.ListN.{length};
-ghost use Rattle.layout.specs.Result.{_and_, _or_, if_then_else_};
+ghost use Rattle.layout.specs.Result.{if_then_else_};
 ghost use Rattle.layout.specs.Octets.{wordsOf};
 ghost use Rattle.layout.specs.Types.{inRange, typeAt};
 ghost use Rattle.layout.specs.BookRules.{fieldAt, shapeGood};
 ghost use Rattle.layout.specs.Contracts.{refusal};
 ghost use Rattle.layout.specs.Writing.{isGroup, isNumber, judgeData, judgeDatas, judgeField, judgeFields};
 ghost use Rattle.layout.specs.Writing.{judgeListing, judgeOctets};
-ghost use Rattle.templates.specs.Positions.{IsBlock, shapeAt};
-ghost use Rattle.walk.specs.Walks.{GoodBlock, Plain, innerAt};
+ghost use Rattle.templates.specs.Positions.{IsBlock, Plain, shapeAt};
+ghost use Rattle.walk.specs.Walks.{GoodBlock, innerAt};
 ghost use Rattle.judges.specs.Judges.{blockAt, capped, dataEnd, datasEnd, entriesAt, entryEnd, fieldEnd};
 ghost use Rattle.judges.specs.Judges.{fieldsEnd, groupAt, groupEnd, judged, limit, listingEnd, numberAt};
 ghost use Rattle.judges.specs.Judges.{octetsEnd, rootAt, rowAt, rowEnd};
@@ -269,7 +269,7 @@ fn judge_entries(
         (now (body .entry))) depth w) 0) (entriesAt (wordsOf (now (body .entry))) depth w (now (listing .entry)) n k
         start) ⌝ }
 {
-    if book::word(body, w + 2) + book::word(body, w + 3) == 0 {
+    if blocks::is_plain(body, w) {
         return judge_plain(body, w, listing, n, k, start);
     }
     let mut due = k;

@@ -11,9 +11,9 @@ use Rattle.layout.specs.Values.{nil}
 use Rattle.layout.specs.declared.Element.{Element}
 use Rattle.layout.specs.declared.Element.the-variants.{Field}
 use Rattle.layout.specs.declared.Found.the-variants.{Is}
-use Rattle.templates.specs.Positions.{fieldCount, fieldsFrom}
+use Rattle.templates.specs.Positions.{Plain, fieldCount, fieldsFrom}
 use Rattle.fields.specs.Readable.{Fits}
-use Rattle.walk.specs.Walks.{Plain, blockAt}
+use Rattle.walk.specs.Walks.{blockAt}
 use Rattle.walk.proofs.Laws.{block-plain, fieldsRead, plain-walked}
 use Rattle.places.specs.Asks.{Readable, entriesSought, entryTo, inEntry, numberOf, sought}
 use Rattle.places.specs.Asks.{withFound}

@@ -19,7 +19,7 @@ use Rattle.layout.specs.declared.Answer.{Answer}
 use Rattle.layout.specs.declared.Answer.the-variants.{Absent, Group, Octets}
 use Rattle.layout.proofs.Results.{inv-bind, inv-must}
 use Rattle.layout.proofs.Records.{record-three}
-use Rattle.templates.specs.Positions.{Opened, dataCount, groupCount, groupsAt, groupsEnd, groupsFrom, shapeAt}
+use Rattle.templates.specs.Positions.{Opened, Plain, dataCount, groupCount, groupsAt, groupsEnd, groupsFrom, shapeAt}
 use Rattle.templates.specs.Positions.{datasFrom as datasStart}
 use Rattle.templates.proofs.Open.{no-groups-at}
 use Rattle.wire.specs.Walks.{Inside, skipEnd, walked}
@@ -311,7 +311,7 @@ datas-empty : (b m : List ℕ) (v n d at : ℕ) → n ≤ 0 → datasFrom b m v 
 unfolding printed recordsOf skipDatas _>>=_
 datas-empty b m v n d at h = rw (walking.datas-none m v b 0 n d at h) refl
 
-module _ (b : List ℕ) (w : ℕ) (m : List ℕ) (v l n at i k : ℕ) (groups : groupCount b w ≡ 0) (datas : dataCount b w ≡ 0)
+module _ (b : List ℕ) (w : ℕ) (m : List ℕ) (v l n at i k : ℕ) (p : Plain b w)
     (h : 0 < n) (r : Room (entriesPrint b 0 w m v l n at) i k) where
   pub plain-open : PlainOpen b w m v l n at
   unfolding andThen prepend
@@ -323,8 +323,8 @@ module _ (b : List ℕ) (w : ℕ) (m : List ℕ) (v l n at i k : ℕ) (groups : 
         same =
             step ∙ rw (
               block .same,
-              row-empty b m 0 v (groupCount b w) (groupsFrom b w) (at + l) (omega arith),
-              datas-empty b m v (dataCount b w) (datasStart b w) (at + l) (omega arith),
+              row-empty b m 0 v (groupCount b w) (groupsFrom b w) (at + l) (omega (arith, p .noGroups)),
+              datas-empty b m v (dataCount b w) (datasStart b w) (at + l) (omega (arith, p .noDatas)),
               append-nil (recordsOf (map (readField m v at) (shapeAt b w .fields))),
             ) refl;
       }

@@ -10,7 +10,7 @@ ghost use Rattle.layout.specs.Result.{Each};
 ghost use Rattle.layout.specs.Octets.{wordsOf};
 ghost use Rattle.layout.specs.Book.{need};
 ghost use Rattle.layout.specs.BookRules.{shapeGood};
-ghost use Rattle.templates.specs.Positions.{IsBlock, dataCount, groupCount, shapeAt};
+ghost use Rattle.templates.specs.Positions.{IsBlock, Plain, shapeAt};
 ghost use Rattle.fields.specs.Readable.{Fits};
 ghost use Rattle.store.specs.Prints.{Room, Stored};
 ghost use Rattle.walk.specs.Walks.{GoodBlock, GoodRow};
@@ -151,8 +151,7 @@ fn store_plain(
     room: &mut [u64],
     c: Cursor,
 ) -> Cursor
-    requires { ⌜ IsBlock (wordsOf (now body)) w × (groupCount (wordsOf (now body)) w ≡ 0) × (dataCount (wordsOf (now
-        body)) w ≡ 0) ⌝ }
+    requires { ⌜ IsBlock (wordsOf (now body)) w × Plain (wordsOf (now body)) w ⌝ }
     requires { ⌜ (shapeGood (shapeAt (wordsOf (now body)) w) ≡ true) × (need v (shapeAt (wordsOf (now body)) w) ≤ l) ⌝ }
     requires { ⌜ Room (entriesPrint (wordsOf (now body)) 0 w (now m) v l n (c .at)) (c .n) (length (now room)) ⌝ }
     requires { ⌜ c .at ≤ length (now m) ⌝ }
@@ -190,7 +189,7 @@ fn store_entries(
         .n) (now (room .entry)) (r .at) (r .n) (now (room .exit)) ⌝ }
     ensures { λ r. ⌜ r .at ≤ length (now (m .entry)) ⌝ }
 {
-    if book::word(body, w + 2) + book::word(body, w + 3) == 0 {
+    if blocks::is_plain(body, w) {
         return store_plain(body, w, m, v, l, n, room, c);
     }
     let mut due = n;

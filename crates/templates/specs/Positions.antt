@@ -42,6 +42,11 @@ module _ (b : List ℕ) (w : ℕ) where
     pub fewDatas : dataCount ≤ 16
     pub fits : groupsFrom ≤ length b
 
+  -- It has neither groups nor data.
+  pub record Plain : Type 0 where
+    pub noGroups : groupCount ≡ 0
+    pub noDatas : dataCount ≡ 0
+
 unfoldable pub treeOf : Result (Groups × ℕ) → Groups
 treeOf (done r) = r .0
 treeOf (refused n p) = none

@@ -5,9 +5,9 @@ use mathlib.Core.Bool.{true}
 use Prim.Native.Nat.{ℕ, zero, suc, _+_, _-_, _*_, _≤_, _<_}
 use native.Mathlib.Numerals.{unary-clauses}
 use native.Mathlib.Omega.{arith}
-use lib.Dec.{eqb, leb}
+use lib.Dec.{leb}
 use lib.ListN.{length, length-map}
-use borrow.Author.Tests.{eqb-true, le-leb, lt-leb}
+use borrow.Author.Tests.{le-leb, lt-leb}
 use Rattle.layout.specs.Result.{Result, done, refused, must, if_then_else_, _>>=_}
 use Rattle.layout.specs.Octets.{number16}
 use Rattle.layout.specs.Book.{Shape, need}
@@ -20,7 +20,7 @@ use Rattle.layout.specs.declared.Answer.{Answer}
 use Rattle.layout.specs.declared.Answer.the-variants.{Absent, Group}
 use Rattle.layout.specs.declared.Refusal.{Refusal}
 use Rattle.layout.proofs.Results.{and-left, and-right}
-use Rattle.templates.specs.Positions.{Opened, dataCount, datasFrom, fieldCount, fieldsFrom, groupCount, groupsAt}
+use Rattle.templates.specs.Positions.{Plain, Opened, dataCount, datasFrom, fieldCount, fieldsFrom, groupCount, groupsAt}
 use Rattle.templates.specs.Positions.{groupsEnd, groupsFrom, shapeAt}
 use Rattle.templates.proofs.Open.{no-groups-at}
 use Rattle.wire.specs.Walks.{walked, dataEnd, dimensionEnd, skipEnd}
@@ -28,7 +28,7 @@ use Rattle.wire.specs.declared.Walked.{Walked}
 use Rattle.wire.specs.declared.Walked.the-variants.{To, Refused}
 use Rattle.wire.proofs.Laws.{dimension-reached, refused-on}
 use Rattle.walk.specs.Walks.{Bounded, GoodBlock, GoodRow, datasEnd, entryEnd, groupAt, groupEnd, rate}
-use Rattle.walk.specs.Walks.{Plain, entriesAt, innerAt, valuesEnd}
+use Rattle.walk.specs.Walks.{entriesAt, innerAt, valuesEnd}
 
 -- ---- whatever is walked
 
@@ -282,13 +282,6 @@ module _ (m : List ℕ) (v : ℕ) (b : List ℕ) (depth s seen n w at : ℕ) whe
         rw p (told _ _ _ _ λ r. ap (λ (i : ℕ). (r .1, i)) (omega (arith, q))))
 
 -- ---- plain blocks
-
--- A block whose counts of groups and data add up to nothing.
-pub plain-counts : (b : List ℕ) (w g d : ℕ) → g ≡ groupCount b w → d ≡ dataCount b w → eqb (g + d) 0 ≡ true
-    → Plain b w
-plain-counts b w g d p q e =
-    let none = eqb-true (g + d) 0 e in
-    record { noGroups = omega (arith, none, p); noDatas = omega (arith, none, q) }
 
 -- Blocks with l octets each that are the fields of the block at word w, and nothing else.
 module _ (m : List ℕ) (v : ℕ) (b : List ℕ) (w l : ℕ) where

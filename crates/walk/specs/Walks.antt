@@ -13,7 +13,7 @@ use Rattle.layout.specs.Values.{Values, nil, measure}
 use Rattle.layout.specs.Message.{Entry, readBlock, readDatas, readEntries, readGroup, readGroups}
 use Rattle.layout.specs.declared.Answer.{Answer}
 use Rattle.layout.specs.declared.Answer.the-variants.{Absent}
-use Rattle.templates.specs.Positions.{IsBlock, IsRow, shapeAt, groupsAt, groupsFrom, groupCount, dataCount}
+use Rattle.templates.specs.Positions.{IsBlock, IsRow, shapeAt, groupsAt, groupsFrom, groupCount}
 use Rattle.wire.specs.declared.Walked.{Walked}
 use Rattle.wire.specs.declared.Walked.the-variants.{To, Refused}
 use Rattle.walk.specs.declared.OnWire.{OnWire}
@@ -37,11 +37,6 @@ module _ (b : List ℕ) (depth w : ℕ) where
 
   abbrev pub entriesAt : List ℕ → ℕ → ℕ → ℕ → ℕ → Result (Values × ℕ)
   entriesAt m v l n at = readEntries n (readBlock m v (shapeAt b w) (readGroups m v innerAt 0) 0 l) at
-
--- The block at word w has neither groups nor data.
-pub record Plain (b : List ℕ) (w : ℕ) : Type 0 where
-  pub noGroups : groupCount b w ≡ 0
-  pub noDatas : dataCount b w ≡ 0
 
 -- The data of the block at word w.
 abbrev pub datasAt : List ℕ → ℕ → List ℕ → ℕ → ℕ → ℕ → Result (List Answer × ℕ)

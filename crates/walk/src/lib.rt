@@ -7,8 +7,8 @@ ghost use lib.ListN.{length};
 ghost use Rattle.layout.specs.Octets.{wordsOf};
 ghost use Rattle.layout.specs.BookRules.{parseDatas};
 ghost use Rattle.layout.specs.Message.{readDatas};
-ghost use Rattle.templates.specs.Positions.{IsBlock, IsRow};
-ghost use Rattle.walk.specs.Walks.{Lent, BlockAt, Plain, datasEnd, entryEnd, groupEnd, valuesEnd, Bounded};
+ghost use Rattle.templates.specs.Positions.{IsBlock, IsRow, Plain};
+ghost use Rattle.walk.specs.Walks.{Lent, BlockAt, datasEnd, entryEnd, groupEnd, valuesEnd, Bounded};
 ghost use Rattle.walk.specs.Walks.{blockAt, datasAt, entriesAt, groupAt, rowAt};
 ghost use Rattle.wire.specs.Walks.{walked};
 
@@ -72,14 +72,6 @@ pub fn walk_datas(body: &[u8], w: usize, m: &[u8], v: usize, surplus: usize, sta
     walk_data_row(body, from, n, m, v, surplus, start)
 }
 
-// Whether the block at word w has neither groups nor data.
-fn is_plain(body: &[u8], w: usize) -> bool
-    requires { ⌜ IsBlock (wordsOf (now body)) w ⌝ }
-    ensures { λ r. ⌜ (r ≡ true → Plain (wordsOf (now (body .entry))) w) ⌝ }
-{
-    book::word(body, w + 2) + book::word(body, w + 3) == 0
-}
-
 // The block at word w, `depth` more levels being left: at `at`, its octets, its groups and its data.
 pub fn walk_block(
     body: &[u8],
@@ -129,7 +121,7 @@ pub fn at_once(body: &[u8], w: usize, l: usize, n: usize, left: usize) -> bool
     if left < l * n {
         return false;
     }
-    is_plain(body, w)
+    blocks::is_plain(body, w)
 }
 
 // n entries of the block at word w, with l octets each.
@@ -259,7 +251,7 @@ fn nothing_follows(body: &[u8], w: usize, wire: OnWire) -> bool
     if 0 < wire.datas {
         return false;
     }
-    is_plain(body, w)
+    blocks::is_plain(body, w)
 }
 
 // The block at word w as `walk_block` walks it, but at once where nothing follows its octets.

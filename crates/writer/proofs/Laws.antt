@@ -25,10 +25,10 @@ use Rattle.layout.proofs.Fields.{FieldGood}
 use Rattle.layout.proofs.Said.{array-said, data-said, number-said}
 use Rattle.layout.proofs.Lengths.{field-long, span-long}
 use Rattle.layout.proofs.Stands.{length-numbers, length-octets}
-use Rattle.templates.specs.Positions.{Opened, dataCount, datasFrom, groupCount, groupsAt, groupsEnd, groupsFrom}
+use Rattle.templates.specs.Positions.{Plain, Opened, dataCount, datasFrom, groupCount, groupsAt, groupsEnd, groupsFrom}
 use Rattle.templates.specs.Positions.{shapeAt}
 use Rattle.templates.proofs.Open.{no-groups-at}
-use Rattle.walk.specs.Walks.{Plain, innerAt}
+use Rattle.walk.specs.Walks.{innerAt}
 use Rattle.judges.specs.Judges.{judgeGroup}
 use Rattle.judges.proofs.Laws as judging
 use Rattle.store.specs.Prints.{Printed, Room, Stored, andThen, endOf, got, not, numbersOf, prepend, printed}

@@ -9,8 +9,8 @@ ghost use lib.Seq.{sets};
 ghost use Rattle.layout.specs.Octets.{wordsOf};
 ghost use Rattle.layout.specs.BookRules.{fieldAt, shapeGood, word};
 ghost use Rattle.layout.specs.Writing.{numbers16};
-ghost use Rattle.templates.specs.Positions.{IsBlock, shapeAt};
-ghost use Rattle.walk.specs.Walks.{GoodBlock, Plain};
+ghost use Rattle.templates.specs.Positions.{IsBlock, Plain, shapeAt};
+ghost use Rattle.walk.specs.Walks.{GoodBlock};
 ghost use Rattle.store.specs.Prints.{Room, Stored, numbersOf};
 ghost use Rattle.writer.specs.Parts.{blockPart, dataPart, datasPart, entriesPart, fieldPart, fieldsPart};
 ghost use Rattle.writer.specs.Parts.{groupPart, headOf, messagePart, rowPart, valuePart};
@@ -255,7 +255,7 @@ fn write_entries(
     ensures { λ r. ⌜ Stored (entriesPart (now (listing .entry)) (now (pool .entry)) (wordsOf (now (body .entry)))
         depth w k start) 0 (now (room .entry)) (r .record) (r .at) (now (room .exit)) ⌝ }
 {
-    if book::word(body, w + 2) + book::word(body, w + 3) == 0 {
+    if blocks::is_plain(body, w) {
         return write_plain(body, w, k, listing, start, pool, room);
     }
     let mut due = k;

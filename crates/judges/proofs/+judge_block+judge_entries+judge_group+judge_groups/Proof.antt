@@ -11,13 +11,14 @@ use borrow.Fn.PlainCycle.{Measures, is, falls, and}
 use lib.ListN.{length}
 use Rattle.layout.specs.Octets.{wordsOf}
 use Rattle.layout.specs.Writing.{judgeGroups}
-use Rattle.templates.specs.Positions.{groupsAt, groupsFrom, shapeAt}
-use Rattle.walk.specs.Walks.{GoodBlock, GoodRow, Plain, innerAt}
+use Rattle.templates.specs.Positions.{Plain, groupsAt, groupsFrom, shapeAt}
+use Rattle.walk.specs.Walks.{GoodBlock, GoodRow, innerAt}
 use Rattle.walk.proofs.Laws.{row-good}
 use Rattle.judges.specs.Judges.{entriesAt, judged, limit, rowAt, rowEnd}
 use Rattle.book.proofs.word.Reads as word-reads
 use Rattle.blocks.proofs.open_row.Reads as open-row-reads
 use Rattle.blocks.proofs.groups_from.Reads as groups-from-reads
+use Rattle.blocks.proofs.is_plain.Reads as is-plain-reads
 use Rattle.blocks.proofs.skip_row.Reads as skip-row-reads
 use Rattle.blocks.proofs.Laws.{block-fits, inner-end, row-inner}
 use Rattle.judges.proofs.Laws.{block-datas, block-fields, block-groups, block-whole, entries-end, entries-next}
@@ -165,8 +166,8 @@ module _ (t : ℕ) where
 
   abbrev entries-claims : entries-lts.Claims
   entries-claims = (
-    word-reads.Asked,
-    word-reads.Learnt,
+    is-plain-reads.Asked,
+    is-plain-reads.Learnt,
     judge-plain-reads.Asked,
     judge-plain-reads.Learnt,
     block-below,
@@ -181,22 +182,19 @@ module _ (t : ℕ) where
 
   -- The block has neither groups nor data.
   entries-plain : (c : entries-Need entries-lts.Then1)
-      → let a = c .before .before .before .before .before .args in Plain (wordsOf (a .body .now)) (a .w)
+      → let a = c .before .before .before .before .args in Plain (wordsOf (a .body .now)) (a .w)
   entries-plain c =
-      record {
-        noGroups = omega (arith, c .if1 .taken, c .before .before .word .ensures .value);
-        noDatas = omega (arith, c .if1 .taken, c .before .word2 .ensures .value);
-      }
+      c .before .is-plain .ensures (c .if1 .taken)
 
   entries-judge-plain-requires : entries-Need entries-lts.Need-judge-plain-requires
   entries-judge-plain-requires c κs =
-      let good = c .before .before .before .before .before .pre .1 in
+      let good = c .before .before .before .before .pre .1 in
       ((good .stands .block, good .shape), entries-plain c)
 
   entries-returns : entries-Need entries-lts.Need-returns
   entries-returns c =
       let test = c .before in
-      let depth = test .before .before .before .before .before .args .depth in
+      let depth = test .before .before .before .before .args .depth in
       rw (plain-level _ depth _ (entries-plain test)) (c .judge-plain .ensures)
 
   entries-returns-2 : entries-Need entries-lts.Need-returns-2
@@ -364,12 +362,9 @@ pub +judge-block+judge-entries+judge-group+judge-groups-spec : {M : Type 1} → 
     (block-returns-4 t))
     (λ t.
     entries-lts.spec (entries-claims t) (entries-at t) entries-reads.Post entries-Inv entries-μ-loop
-    (λ c. omega (arith, block-fits _ _ (c .before .before .pre .1 .stands .block)))
-    (λ c κs. omega (arith, block-fits _ _ (c .before .before .pre .1 .stands .block)))
-    (λ c. omega (arith, block-fits _ _ (c .before .before .before .pre .1 .stands .block)))
-    (λ c κs. omega (arith, block-fits _ _ (c .before .before .before .pre .1 .stands .block)))
-    (λ c. omega arith) (entries-judge-plain-requires t) (entries-returns t) (λ c. (omega arith, refl))
-    (λ c κs. (omega arith, c .before .before .before .before .before .before .before .pre .1))
+    (λ c κs. c .before .before .pre .1 .stands .block)
+    (entries-judge-plain-requires t) (entries-returns t) (λ c. (omega arith, refl))
+    (λ c κs. (omega arith, c .before .before .before .before .before .before .pre .1))
     (λ c. search needs) (λ c. search needs) (entries-returns-2 t) (λ c κs. search needs) (λ c. omega arith)
     (λ c. omega arith)
     (entries-loop-again t) (entries-returns-3 t))

@@ -1,6 +1,5 @@
 -- An array is octets of its length; a number fits its type.
 use mathlib.Core.Path.{_∙_, refl, sym}
-use native.Mathlib.Omega.{arith}
 use borrow.Author.Needs.{needs}
 use borrow.Author.Tests.{eq-eqb, ne-eqb}
 use Rattle.judges.specs.Judges.{fieldEnd}

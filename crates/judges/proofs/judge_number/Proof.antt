@@ -1,6 +1,5 @@
 -- 51 and then 52.
-use mathlib.Core.Path.{_≡_, _∙_, sym}
-use mathlib.Core.Bool.{true}
+use mathlib.Core.Path.{_∙_, sym}
 use Prim.Native.Nat.{_/_, _<_}
 use native.Mathlib.Omega.{arith}
 use borrow.Author.Needs.{needs}

@@ -12,13 +12,14 @@ use Rattle.layout.specs.Octets.{number16, wordsOf}
 use Rattle.layout.specs.Values.{recordOf}
 use Rattle.layout.specs.declared.Answer.the-variants.{Absent}
 use Rattle.layout.proofs.Results.{and-right}
-use Rattle.templates.specs.Positions.{dataCount, groupCount, groupsFrom}
+use Rattle.templates.specs.Positions.{Plain, groupCount, groupsFrom}
 use Rattle.octets.proofs.get2.Reads as get2-reads
 use Rattle.book.proofs.word.Reads as word-reads
 use Rattle.records.proofs.put.Reads as put-reads
 use Rattle.wire.proofs.skip_groups.Reads as skip-groups-reads
 use Rattle.blocks.proofs.open_row.Reads as open-row-reads
 use Rattle.blocks.proofs.groups_from.Reads as groups-from-reads
+use Rattle.blocks.proofs.is_plain.Reads as is-plain-reads
 use Rattle.blocks.proofs.skip_row.Reads as skip-row-reads
 use Rattle.blocks.proofs.Laws.{block-fits, inner-end, row-inner}
 use Rattle.walk.specs.Walks.{GoodRow}
@@ -231,8 +232,8 @@ module _ (t : ℕ) where
 
   abbrev entries-claims : entries-lts.Claims
   entries-claims = (
-    word-reads.Asked,
-    word-reads.Learnt,
+    is-plain-reads.Asked,
+    is-plain-reads.Learnt,
     store-plain-reads.Asked,
     store-plain-reads.Learnt,
     block-below,
@@ -245,25 +246,22 @@ module _ (t : ℕ) where
 
   -- The block has neither groups nor data, so that it is all one how many levels are left.
   entries-plain : (c : entries-Need entries-lts.Then1)
-      → let a = c .before .before .before .before .before .before .args in
+      → let a = c .before .before .before .before .before .args in
       let b = wordsOf (a .body .now) in
-      (groupCount b (a .w) ≡ 0) × (dataCount b (a .w) ≡ 0)
+      Plain b (a .w)
       × (entriesPrint b (a .depth) (a .w) (a .m .now) (a .v) (a .l) (a .n) (a .c .at)
       ≡ entriesPrint b 0 (a .w) (a .m .now) (a .v) (a .l) (a .n) (a .c .at))
   entries-plain c =
-      let groups = c .before .before .word .ensures .value in (
-        omega (arith, c .if1 .taken, groups),
-        omega (arith, c .if1 .taken, c .before .word2 .ensures .value),
-        entries-level _ _ _ _ _ _ _ _ (omega (arith, c .if1 .taken, groups)),
-      )
+      let plain = c .before .is-plain .ensures (c .if1 .taken) in
+      (plain, entries-level _ _ _ _ _ _ _ _ (plain .noGroups))
 
   entries-store-plain-requires : entries-Need entries-lts.Need-store-plain-requires
   entries-store-plain-requires c κs =
       let none = entries-plain (c .before) in
-      let pre = c .before .before .before .before .before .before .before .pre .1 in
+      let pre = c .before .before .before .before .before .before .pre .1 in
       let good = pre .0 .0 in (
-        (good .stands .block, none .0, none .1),
-        ((good .shape, pre .0 .1), (rw (none .2) at (pre .1 .0), pre .1 .1)),
+        (good .stands .block, none .0),
+        ((good .shape, pre .0 .1), (rw (none .1) at (pre .1 .0), pre .1 .1)),
       )
 
   entries-same-length : entries-Need entries-lts.Need-same-length
@@ -272,17 +270,17 @@ module _ (t : ℕ) where
   entries-returns : entries-Need entries-lts.Need-returns
   entries-returns c =
       let call = c .before .before in
-      (rw (entries-plain (call .before .before) .2) (call .store-plain .ensures .0), call .store-plain .ensures .1)
+      (rw (entries-plain (call .before .before) .1) (call .store-plain .ensures .0), call .store-plain .ensures .1)
 
   entries-loop-holds : entries-Need entries-lts.Need-loop-holds
   entries-loop-holds c =
-      let start = c .before .before .before .before .before .before in
+      let start = c .before .before .before .before .before in
       (start .pre .1 .1 .1, going-none _ _ (start .args .room .now))
 
   entries-store-block-requires : entries-Need entries-lts.Need-store-block-requires
   entries-store-block-requires c κs =
       let inv = c .before .before .loop .inv in
-      let start = c .before .before .before .before .before .before .before .before .before in (
+      let start = c .before .before .before .before .before .before .before .before in (
         omega arith,
         (
           start .pre .1 .0,
@@ -298,7 +296,7 @@ module _ (t : ℕ) where
   entries-loop-again c =
       let call = c .before .before in
       let inside = call .before .before in
-      let start = inside .before .before .before .before .before .before .before .before in (
+      let start = inside .before .before .before .before .before .before .before in (
         call .store-block .ensures .1,
         going-call (inside .before .loop .inv .1) (start .pre .1 .1 .0) _ _ _ _ _
             (entries-step _ _ _ _ _ _ _ _ (inside .loop-test .taken)) (call .store-block .ensures .0),
@@ -310,7 +308,7 @@ module _ (t : ℕ) where
   entries-returns-2 : entries-Need entries-lts.Need-returns-2
   entries-returns-2 c =
       let inv = c .before .loop .inv in (
-        going-end (inv .1) (c .before .before .before .before .before .before .before .before .pre .1 .1 .0) _ _ _
+        going-end (inv .1) (c .before .before .before .before .before .before .before .pre .1 .1 .0) _ _ _
             (stored-none _ _ _ _ (entries-end _ _ _ _ _ _ _ _ (c .loop-test .left))),
         inv .0,
       )
@@ -590,11 +588,7 @@ pub +store-block+store-entries+store-group+store-groups-spec : {M : Type 1} → 
     (block-returns t))
     (λ t.
     entries-lts.spec (entries-claims t) (entries-at t) entries-reads.Post entries-Inv entries-μ-loop
-    (λ c. omega (arith, block-fits _ _ (c .before .before .before .pre .1 .0 .0 .stands .block)))
-    (λ c κs. omega (arith, block-fits _ _ (c .before .before .before .pre .1 .0 .0 .stands .block)))
-    (λ c. omega (arith, block-fits _ _ (c .before .before .before .before .pre .1 .0 .0 .stands .block)))
-    (λ c κs. omega (arith, block-fits _ _ (c .before .before .before .before .pre .1 .0 .0 .stands .block)))
-    (λ c. omega arith)
+    (λ c κs. c .before .before .before .pre .1 .0 .0 .stands .block)
     (entries-store-plain-requires t)
     (entries-same-length t)
     (entries-returns t)

@@ -30,7 +30,7 @@ opened : (c : tie.In-loop Inv-loop μ-loop)
     PlainOpen (wordsOf (a .body .now)) (a .w) (a .m .now) (a .v) (a .l) (l .left) (l .at)
 opened c =
     let pre = c .before .before .before .before .before .pre in
-    plain-open _ _ _ _ _ _ _ _ _ (pre .0 .1) (pre .0 .2) (c .loop-test .taken)
+    plain-open _ _ _ _ _ _ _ _ _ (pre .0 .1) (c .loop-test .taken)
     (going-room (c .before .loop .inv .1) (pre .1 .1 .0))
 
 store-fields-requires : tie.Need-store-fields-requires Inv-loop μ-loop

@@ -6,19 +6,19 @@ use mathlib.Core.List.{List}
 use Prim.Native.Nat.{ℕ, _+_, _-_, _*_, _/_, _<_, _≤_}
 use native.Mathlib.Omega.{arith}
 use borrow.Author.Needs.{needs}
-use borrow.Author.Tests.{eq-eqb}
 use borrow.Fn.Kinds.{In, Out}
 use borrow.Fn.PlainCycle.{Measures, is, falls, and}
 use borrow.Rule.Slice.PartMut.{putMid}
 use lib.ListN.{length}
 use Rattle.layout.specs.Octets.{wordsOf}
 use Rattle.layout.specs.Writing.{second}
-use Rattle.templates.specs.Positions.{groupsAt, groupsFrom, shapeAt}
-use Rattle.walk.specs.Walks.{GoodRow, Plain, innerAt}
-use Rattle.walk.proofs.Laws.{plain-counts, row-good}
+use Rattle.templates.specs.Positions.{Plain, groupsAt, groupsFrom, shapeAt}
+use Rattle.walk.specs.Walks.{GoodRow}
+use Rattle.walk.proofs.Laws.{row-good}
 use Rattle.book.proofs.word.Reads as word-reads
 use Rattle.blocks.proofs.open_row.Reads as open-row-reads
 use Rattle.blocks.proofs.groups_from.Reads as groups-from-reads
+use Rattle.blocks.proofs.is_plain.Reads as is-plain-reads
 use Rattle.blocks.proofs.skip_row.Reads as skip-row-reads
 use Rattle.blocks.proofs.Laws.{block-fits, inner-end, row-inner}
 use Rattle.store.specs.Prints.{Room, andThen}
@@ -217,8 +217,8 @@ module _ (t : ℕ) where
 
   abbrev entries-claims : entries-lts.Claims
   entries-claims = (
-    word-reads.Asked,
-    word-reads.Learnt,
+    is-plain-reads.Asked,
+    is-plain-reads.Learnt,
     write-plain-reads.Asked,
     write-plain-reads.Learnt,
     block-below,
@@ -231,16 +231,15 @@ module _ (t : ℕ) where
 
   -- The block has neither groups nor data.
   entries-plain : (c : entries-Need entries-lts.Then1)
-      → let a = c .before .before .before .before .before .before .before .args in
+      → let a = c .before .before .before .before .before .before .args in
       Plain (wordsOf (a .body .now)) (a .w)
   entries-plain c =
-      plain-counts _ _ _ _ (c .before .before .word .ensures .value) (c .before .word2 .ensures .value)
-      (eq-eqb _ _ (c .if1 .taken))
+      c .before .is-plain .ensures (c .if1 .taken)
 
   entries-write-plain-requires : entries-Need entries-lts.Need-write-plain-requires
   entries-write-plain-requires c κs =
       let plain = entries-plain (c .before) in
-      let pre = c .before .before .before .before .before .before .before .before .pre .1 in (
+      let pre = c .before .before .before .before .before .before .before .pre .1 in (
         (pre .0 .stands .block, pre .0 .shape),
         (plain, rw (plain-level _ _ _ _ _ plain _ _) at (pre .1)),
       )
@@ -252,20 +251,20 @@ module _ (t : ℕ) where
 
   -- There is room for the next entry.
   entries-left : (c : entries-Need entries-lts.In-loop)
-      → let a = c .before .before .before .before .before .before .before .before .before .args in
+      → let a = c .before .before .before .before .before .before .before .before .args in
       let l = c .before .loop in
       Room (blockPart (a .listing .now) (a .pool .now) (wordsOf (a .body .now)) (a .depth) (a .w) (l .i)) (l .at)
       (length (l .room))
   entries-left c =
       going-first (c .before .loop .inv)
-      (c .before .before .before .before .before .before .before .before .before .pre .1 .1) _ _
+      (c .before .before .before .before .before .before .before .before .pre .1 .1) _ _
       (entries-step _ _ _ _ _ _ _ (c .loop-test .taken))
 
   entries-add-at : entries-Need entries-lts.Need-add-at
   entries-add-at c =
       let call = c .before .before .before in
       let i = call .before .before in
-      let start = i .before .before .before .before .before .before .before .before .before in
+      let start = i .before .before .before .before .before .before .before .before in
       omega (
         arith,
         lent-within (i .before .loop .inv) (start .pre .1 .1) _ _ (entries-step _ _ _ _ _ _ _ (i .loop-test .taken))
@@ -278,13 +277,13 @@ module _ (t : ℕ) where
       let call = c .before .before .before in
       let i = call .before .before in
       lent-going (i .before .loop .inv)
-      (i .before .before .before .before .before .before .before .before .before .pre .1 .1) _ _
+      (i .before .before .before .before .before .before .before .before .pre .1 .1) _ _
       (entries-step _ _ _ _ _ _ _ (i .loop-test .taken)) _ _ _ (call .write-block .ensures)
 
   entries-returns-2 : entries-Need entries-lts.Need-returns-2
   entries-returns-2 c =
       going-end (c .before .loop .inv)
-      (c .before .before .before .before .before .before .before .before .before .pre .1 .1) _ _ _
+      (c .before .before .before .before .before .before .before .before .pre .1 .1) _ _ _
       (stored-none _ _ _ _ (entries-end _ _ _ _ _ _ _ (c .loop-test .left)))
 
   abbrev group-claims : group-lts.Claims
@@ -446,17 +445,14 @@ pub +write-block+write-entries+write-group+write-groups-spec : {M : Type 1} → 
     (block-add-t16 t) (λ c. stored-long (block-returns t c)) (block-returns t))
     (λ t.
     entries-lts.spec (entries-claims t) (entries-at t) entries-reads.Post entries-Inv entries-μ-loop
-    (λ c. omega (arith, block-fits _ _ (c .before .before .before .before .pre .1 .0 .stands .block)))
-    (λ c κs. omega (arith, block-fits _ _ (c .before .before .before .before .pre .1 .0 .stands .block)))
-    (λ c. omega (arith, block-fits _ _ (c .before .before .before .before .before .pre .1 .0 .stands .block)))
-    (λ c κs. omega (arith, block-fits _ _ (c .before .before .before .before .before .pre .1 .0 .stands .block)))
-    (λ c. omega arith) (entries-write-plain-requires t) (λ c. stored-long (entries-returns t c)) (entries-returns t)
+    (λ c κs. c .before .before .before .before .pre .1 .0 .stands .block)
+    (entries-write-plain-requires t) (λ c. stored-long (entries-returns t c)) (entries-returns t)
     (λ c. going-none _ _ _)
     (λ c. omega (arith, entries-left t c .fits)) (λ c. omega (arith, entries-left t c .fits)) (λ c. search needs)
     (λ c κs. (
       omega arith,
       (
-        c .before .before .before .before .before .before .before .before .before .before .pre .1 .0,
+        c .before .before .before .before .before .before .before .before .before .pre .1 .0,
         part-room _
             (c .before .before .loop .room) _ (entries-left t (c .before)),
       ),

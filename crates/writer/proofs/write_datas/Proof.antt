@@ -1,5 +1,4 @@
 -- Some of the data are written, and those that are left are to come.
-use mathlib.Core.Path.{_≡_, refl}
 use Prim.Native.Nat.{ℕ}
 use native.Mathlib.Omega.{arith}
 use borrow.Author.Needs.{needs}

@@ -1,5 +1,4 @@
 -- The padding, and then the field in the part that follows it.
-use Prim.Native.Nat.{_+_, _≤_}
 use native.Mathlib.Omega.{arith}
 use borrow.Author.Needs.{needs}
 use lib.ListN.{length}

@@ -1,10 +1,10 @@
 -- An array is octets of the pool; null and a number are octets of the type's width.
-use mathlib.Core.Path.{_≡_, refl, sym, _∙_}
+use mathlib.Core.Path.{_≡_}
 use mathlib.Core.Bool.{true}
 use Prim.Native.Nat.{_/_, _<_}
 use native.Mathlib.Omega.{arith}
 use borrow.Author.Needs.{needs}
-use lib.ListN.{drop, length, take}
+use lib.ListN.{length}
 use Rattle.layout.specs.Octets.{octetsOf, wordsOf}
 use Rattle.layout.specs.Types.{isWidth, typeAt}
 use Rattle.layout.specs.BookRules.{fieldAt}

@@ -1,10 +1,9 @@
 -- Counts that add up to nothing are nothing.
 use native.Mathlib.Omega.{arith}
 use borrow.Author.Needs.{needs}
-use Rattle.blocks.proofs.Laws.{block-fits}
-use Rattle.walk.proofs.Laws.{plain-counts}
-use Rattle.walk.proofs.is_plain.Statement.{statement}
-use Rattle.walk.proofs.is_plain.Tie as tie
+use Rattle.blocks.proofs.Laws.{block-fits, plain-counts}
+use Rattle.blocks.proofs.is_plain.Statement.{statement}
+use Rattle.blocks.proofs.is_plain.Tie as tie
 
 returns : tie.Need-returns
 returns c e = plain-counts _ _ _ _ (c .before .word .ensures .value) (c .word2 .ensures .value) e
