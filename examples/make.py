@@ -1,50 +1,12 @@
 #!/usr/bin/env python3
 """make.py: makes the books and messages of this folder from a description in words. `make.py FOLDER` makes them there.
 
-For a book of your own, copy it and write your templates where the fill stands."""
+For a book of your own, copy it and schema_book.py, and write your templates where the fill stands."""
 import os
 import struct
 import sys
 
-# ---- What a book is made of: words of 16 bits, least significant octet first ----
-
-TYPES = ["char", "int8", "uint8", "int16", "uint16", "int32", "uint32", "int64", "uint64"]
-PRESENCES = ["required", "optional"]
-
-
-def field(id, type, offset, length=1, presence="required", since=0):
-    """Six words. A char or uint8 of a length over 1 is an array: plain octets. The id is a label, here a FIX tag."""
-    return [id, TYPES.index(type), length, offset, PRESENCES.index(presence), since]
-
-
-def data(id, since=0):
-    """Two words."""
-    return [id, since]
-
-
-def block(length, fields=(), groups=(), datas=()):
-    """The declared length in octets and the numbers of fields, groups and data; then the fields, the data, the groups.
-    Offsets rise, and each field ends before the next begins and within the length. What is between is padding."""
-    rows = [*fields, *datas, *groups]
-    return [length, len(fields), len(groups), len(datas)] + [word for row in rows for word in row]
-
-
-def group(id, block, since=0):
-    """Its id and since, then its block, which has at least one field; the first field has the group's since."""
-    return [id, since] + block
-
-
-def book(schema, version, templates):
-    """The head: schema id, version, number of templates, number of words. The contents, a row for each template, ids
-    rising: its id, the first word of its body, the words in its body. Then the bodies, back to back, each one block."""
-    first = 4 + 3 * len(templates)
-    contents, bodies = [], []
-    for id, body in sorted(templates.items()):
-        contents += [id, first + len(bodies), len(body)]
-        bodies += body
-    words = [schema, version, len(templates), first + len(bodies)] + contents + bodies
-    return struct.pack("<%dH" % len(words), *words)
-
+from schema_book import block, book, data, field, group
 
 # ---- The books: a fill, and the fill with a quantity where there was padding ----
 

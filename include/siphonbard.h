@@ -7,44 +7,10 @@
  *
  * A buffer is a pointer and the number of its elements. Length 0 is an empty buffer; its pointer is not followed and
  * may be null. A pointer with a length above 0 has that many readable elements (`room`: writable, and apart from the
- * other buffers).
+ * other buffers). Numbers are aligned to 8 octets, as any uint64_t is in C; octets may stand anywhere.
  *
- * A refusal is a number and a place. A refused call alters nothing that it was lent.
- *
- *   Number   When                                                                      Place
- *   1        book octets odd, under 8 or over 8,192                                    0
- *   2        word count, schema id, version or number of templates; contents don't fit 0
- *   3        contents rules, or a template id 65535                                    0
- *   4        a block runs past its body, words left over, a count or depth too high,
- *            a group without fields                                                    the template's number
- *   5        block length, type, length, presence or offset rule                       the template's number
- *   6        since rule                                                                the template's number
- *   10       message under 12 or over 65,535 octets                                    0
- *   11       a header number is 65535                                                  its offset
- *   12, 13   schema id differs; template unknown                                       4; 2
- *   14       root block length under the need                                          0
- *   15       number of groups wrong; number of data wrong                              8; 10
- *   16       an element runs past the end                                              its start
- *   17       a dimension holds 65535                                                   its start
- *   18       a known group's block length under the need                               its dimension
- *   19       a data length is 65535                                                    its start
- *   20       octets left over                                                          the first of them
- *   30       over four steps, or a number that the book lacks                          0
- *   31       entry not below the count (an absent group counts 0)                      0
- *   40       room below three numbers per record                                       0
- *   50       writing: template unknown                                                 0
- *   51       a record missing, left over or partial, of the wrong kind for its
- *            element, or with an unused number that is not 0                           the record's number
- *   52       a number that is null or out of range; null for a required field          the record's number
- *   53       start plus length past the pool's end, length not the field's, or data
- *            over 65,534 octets                                                        the record's number
- *   54       entries over 65,534                                                       the record's number
- *   55       message longer than the room or than 65,535 octets                        0
- *
- * Places of 10 to 20 are offsets in the message, those of 51 to 54 count records from 0. The book is judged first,
- * then the message in the order of the wire, then the call's own arguments; one refusal is given. Of writing's own,
- * 50 comes first, then 51 to 54 at the first record at fault (51 first within it), then 51 for what is left over, and
- * 55 last.
+ * Every reply begins with a `number` and a `place`. After success both are 0. Else they are the refusal, and the call
+ * has altered nothing that it was lent.
  */
 #ifndef SIPHONBARD_H
 #define SIPHONBARD_H
@@ -56,41 +22,124 @@
 extern "C" {
 #endif
 
+/*
+ * ---- Refusals: the `number` of a reply, when it is given, and what its `place` is ----
+ *
+ * Places of 10 to 20 are offsets in the message; templates and records count from 0. The book is judged first, then
+ * the message in the order of the wire, then the call's own arguments; one refusal is given. Of writing's own, 50
+ * comes first, then 51 to 54 at the first record at fault (51 first within it), then 51 for what is left over, and 55
+ * last.
+ */
+
+/* When the book's octets are odd, under 8 or over 8,192. Place: 0. */
+#define SIPHONBARD_REFUSED_BOOK_SIZE 1
+/*
+ * When the book's word count is wrong, its schema id or version is 65535, it has no template or over 64, or its
+ * contents don't fit. Place: 0.
+ */
+#define SIPHONBARD_REFUSED_BOOK_HEAD 2
+/* When the book's contents break a rule, or a template id is 65535. Place: 0. */
+#define SIPHONBARD_REFUSED_BOOK_CONTENTS 3
+/*
+ * When a block runs past its body, body words are left over, a count or the depth is too high, or a group has no
+ * field. Place: the template's number.
+ */
+#define SIPHONBARD_REFUSED_BOOK_BLOCK 4
+/* When a block length, type, length, presence or offset breaks its rule. Place: the template's number. */
+#define SIPHONBARD_REFUSED_BOOK_LAYOUT 5
+/* When a since breaks its rule. Place: the template's number. */
+#define SIPHONBARD_REFUSED_BOOK_SINCE 6
+
+/* When the message is under 12 or over 65,535 octets. Place: 0. */
+#define SIPHONBARD_REFUSED_MESSAGE_SIZE 10
+/* When a header number is 65535. Place: the first such number's offset. */
+#define SIPHONBARD_REFUSED_HEADER_NULL 11
+/* When the message's schema id is not the book's. Place: 4. */
+#define SIPHONBARD_REFUSED_SCHEMA_DIFFERS 12
+/* When the book has no such template. Place: 2. */
+#define SIPHONBARD_REFUSED_TEMPLATE_UNKNOWN 13
+/* When the root block length is under the need. Place: 0. */
+#define SIPHONBARD_REFUSED_ROOT_BLOCK_SHORT 14
+/* When the number of groups is wrong, or else the number of data. Place: 8 for groups, 10 for data. */
+#define SIPHONBARD_REFUSED_COUNTS_WRONG 15
+/* When an element runs past the message's end. Place: the element's start. */
+#define SIPHONBARD_REFUSED_PAST_THE_END 16
+/* When a dimension holds 65535. Place: the dimension's start. */
+#define SIPHONBARD_REFUSED_DIMENSION_NULL 17
+/* When a known group's block length is under the need. Place: the dimension's start. */
+#define SIPHONBARD_REFUSED_GROUP_BLOCK_SHORT 18
+/* When a data length is 65535. Place: the data's start. */
+#define SIPHONBARD_REFUSED_DATA_LENGTH_NULL 19
+/* When octets are left over. Place: the first of them. */
+#define SIPHONBARD_REFUSED_OCTETS_LEFT_OVER 20
+
+/* When the place has over four steps, or a number that the book lacks. Place: 0. */
+#define SIPHONBARD_REFUSED_PLACE_UNKNOWN 30
+/* When an entry is not below its group's count. Place: 0. */
+#define SIPHONBARD_REFUSED_ENTRY_MISSING 31
+
+/* When the room is below three numbers per record. Place: 0. */
+#define SIPHONBARD_REFUSED_ROOM_TOO_SMALL 40
+
+/* When the book has no such template to write. Place: 0. */
+#define SIPHONBARD_REFUSED_WRITE_TEMPLATE_UNKNOWN 50
+/*
+ * When a record is missing, left over, partial or of the wrong kind, or an unused number is not 0. Place: the
+ * record's number.
+ */
+#define SIPHONBARD_REFUSED_RECORD_WRONG 51
+/* When a number is null or out of range, or null stands for a required field. Place: the record's number. */
+#define SIPHONBARD_REFUSED_VALUE_WRONG 52
+/*
+ * When octets run past the pool's end, are not as many as the field's, or are data over 65,534. Place: the record's
+ * number.
+ */
+#define SIPHONBARD_REFUSED_OCTETS_WRONG 53
+/* When a group has over 65,534 entries. Place: the record's number. */
+#define SIPHONBARD_REFUSED_ENTRIES_TOO_MANY 54
+/* When the message is longer than the room or than 65,535 octets. Place: 0. */
+#define SIPHONBARD_REFUSED_MESSAGE_TOO_LONG 55
+
+/*
+ * ---- Records: three numbers each, of which the first is the kind ----
+ *
+ * A negative value x stands as 2^64 + x. Absent is what is younger than the message, even where its block has octets
+ * there. Out of range is a number outside its type's range, or null where the field is required.
+ *
+ *                                      Second number                      Third number
+ */
+#define SIPHONBARD_IS_NUMBER 0       /* its value                          0 */
+#define SIPHONBARD_IS_NULL 1         /* 0                                  0 */
+#define SIPHONBARD_IS_OCTETS 2       /* where they start in the message    how many they are */
+#define SIPHONBARD_IS_ABSENT 3       /* 0                                  0 */
+#define SIPHONBARD_IS_GROUP 4        /* its number of entries              0 */
+#define SIPHONBARD_IS_OUT_OF_RANGE 5 /* its value                          0 */
+
+/* What a place asks for: not to be compared with the kind of a record. */
+#define SIPHONBARD_ASK_FIELD 0
+#define SIPHONBARD_ASK_GROUP 1
+#define SIPHONBARD_ASK_DATA 2
+
 /* The verdict of a check. `number` is 0: accepted, and `place` is 0. Else the refusal's number and its place. */
 typedef struct {
     uint64_t number, place;
 } siphonbard_checked;
 
 /*
- * A number of records, or of a written message's octets. `number` is 0: `count` holds. Else the refusal's number and
- * its place, and `count` is 0.
+ * A number of records, or of a written message's octets. `number` is 0: `place` is 0, and `count` holds. Else the
+ * refusal's number and its place, and `count` is 0.
  */
 typedef struct {
     uint64_t number, place, count;
 } siphonbard_counted;
 
 /*
- * What stands at one place. `number` is 0: `first`, `second` and `third` are a record of a listing, by the table
- * below. Else the refusal's number and its place, and these three are 0.
- *
- *   first               second                              third
- *   0   number          value, negatives as 2^64 + value    0
- *   1   null            0                                   0
- *   2   octets          start, from the message's first     length
- *   3   absent          0                                   0
- *   4   group           entries                             0
- *   5   out of range    as for 0                            0
- *
- * Absent is what is younger than the message, even where its block has octets there.
+ * What stands at one place. `number` is 0: `place` is 0, and `first`, `second` and `third` are a record. Else the
+ * refusal's number and its place, and these three are 0 and no record.
  */
 typedef struct {
     uint64_t number, place, first, second, third;
 } siphonbard_found;
-
-/* What `kind` names in a place. */
-#define SIPHONBARD_FIELD 0
-#define SIPHONBARD_GROUP 1
-#define SIPHONBARD_DATA 2
 
 /* ---- Calls that take any octets whatever ---- */
 
@@ -106,29 +155,32 @@ siphonbard_counted siphonbard_measure(const uint8_t *book, size_t book_len, cons
                                       size_t message_len);
 
 /*
- * Lists the message into the room, three numbers a record (the table above), and gives how many records there are,
- * or 1 to 40. Per block: a record per field; per group a record and then the block of each entry; a record per data.
- * Numbers of the room past the last record are left as they were; after a refusal all of them are. `room_len` counts
- * numbers, not records.
+ * Lists the message into the room, three numbers a record, and gives how many records there are, or 1 to 40. Per
+ * block: a record per field; per group a record and then the block of each entry; a record per data. Numbers of the
+ * room past the last record are left as they were; after a refusal all of them are. `room_len` counts numbers, not
+ * records.
  */
 siphonbard_counted siphonbard_list(const uint8_t *book, size_t book_len, const uint8_t *message,
                                    size_t message_len, uint64_t *room, size_t room_len);
 
 /*
  * What stands at one place of the message, or 1 to 31. `steps` leads down to a block: a group's number and an
- * entry's by turns, at most four pairs, so `steps_len` is twice the number of steps (an odd length is answered 30).
- * Then `kind` names a field, a group or a data of that block (any other is answered 30) and `element` which one. All
- * count from 0.
+ * entry's by turns, at most four pairs; an absent group has no entries. `ask` is SIPHONBARD_ASK_FIELD, _GROUP or _DATA
+ * (any other is answered 30), and `element` says which one of that block. All count from 0.
+ *
+ * `steps_len` counts numbers, not steps: two steps are four numbers and have a `steps_len` of 4. With a `steps_len` of
+ * 2 only the first of them is seen, and the call answers for a place of the shallower block to which it leads. An odd
+ * `steps_len` is answered 30.
  */
 siphonbard_found siphonbard_place(const uint8_t *book, size_t book_len, const uint8_t *message,
-                                  size_t message_len, const uint64_t *steps, size_t steps_len, uint64_t kind,
+                                  size_t message_len, const uint64_t *steps, size_t steps_len, uint64_t ask,
                                   uint64_t element);
 
 /*
  * Writes a message of the template from the listing, at the room's start, and gives how many octets it has, or 1 to 6
- * or 50 to 55. The listing has a record per element, in the order of siphonbard_list and by the table above; its
- * starts count from the pool's first octet, and kinds 3 and 5 are answered 51. The listing of a message is written
- * back with that message as the pool.
+ * or 50 to 55. The listing has a record per element, in the order of siphonbard_list; its starts count from the
+ * pool's first octet, and SIPHONBARD_IS_ABSENT and SIPHONBARD_IS_OUT_OF_RANGE are answered 51. The listing of a message
+ * is written back with that message as the pool.
  *
  * The message has the book's version, its declared block lengths and its counts, and zeros where a block has no
  * field. Octets of the room past it are left as they were; after a refusal all of them are. `listing_len` counts
@@ -162,7 +214,7 @@ siphonbard_counted siphonbard_stream_list(const uint8_t *book, size_t book_len, 
 
 /* What stands at one place of the message, as siphonbard_place says it, or 10 to 31. */
 siphonbard_found siphonbard_stream_place(const uint8_t *book, size_t book_len, const uint8_t *message,
-                                         size_t message_len, const uint64_t *steps, size_t steps_len, uint64_t kind,
+                                         size_t message_len, const uint64_t *steps, size_t steps_len, uint64_t ask,
                                          uint64_t element);
 
 /* Writes a message of the template, as siphonbard_write does, or 50 to 55. What is left in the room is alike. */

@@ -1,21 +1,24 @@
 #!/usr/bin/env python3
 """borders.py: the borders of the book's rules, each with a name and, where there are two, both sides.
 
-Writes what the program check_books is run on (its file stdin) and what it must write (stdout).
-`borders.py --names` prints the name beside each answer."""
-import os
+Writes what the program check_books is run on (its file stdin) and what it must write (stdout). With --check it writes
+nothing and compares the two files with what it would write; the last line is 'borders: N passed, 0 failed'. With
+--names it prints the name beside each answer."""
 import struct
 import sys
+from pathlib import Path
 
-FOLDER = os.path.join(os.path.dirname(os.path.abspath(__file__)), "..", "crates", "check_books")
+ROOT = Path(__file__).resolve().parent.parent
+sys.path.insert(0, str(ROOT / "examples"))
+
+import schema_book
+from schema_book import block, octets
+
+FOLDER = ROOT / "crates" / "check_books"
 
 
-def octets(words):
-    return struct.pack("<%dH" % len(words), *words)
-
-
-def field(type=2, length=1, offset=0, presence=0, since=0):
-    return [1, type, length, offset, presence, since]
+def field(type="uint8", length=1, offset=0, presence="required", since=0):
+    return schema_book.field(1, type, offset, length, presence, since)
 
 
 def fields(n):
@@ -23,25 +26,19 @@ def fields(n):
 
 
 def data(since=0):
-    return [2, since]
-
-
-def block(length, fields=(), groups=(), datas=()):
-    """Counts of fields, groups and data; then the fields, the data, the groups."""
-    return [length, len(fields), len(groups), len(datas)] + [w for part in (*fields, *datas, *groups) for w in part]
+    return schema_book.data(2, since)
 
 
 def group(fields=(field(),), groups=(), datas=(), since=0, length=8):
-    return [3, since] + block(length, fields, groups, datas)
+    return schema_book.group(3, block(length, fields, groups, datas), since)
 
 
 def book(*bodies, schema=7, version=0, ids=None, shift=0, more=0):
     """A book of these bodies. `shift` is added to the last row's first word, `more` to the number of words."""
-    at, rows, tail = 4 + 3 * len(bodies), [], []
-    for number, body in enumerate(bodies):
-        rows += [ids[number] if ids else number + 1, at + (shift if body is bodies[-1] else 0), len(body)]
-        at, tail = at + len(body), tail + body
-    return octets([schema, version, len(bodies), at + more] + rows + tail)
+    words = schema_book.words(schema, version, list(zip(ids or range(1, len(bodies) + 1), bodies)))
+    words[2 + 3 * len(bodies)] += shift
+    words[3] += more
+    return octets(words)
 
 
 def deep(depth):
@@ -109,39 +106,68 @@ BORDERS = [
     ("type 8", book(block(8, [field(type=8)])), "accepted"),
     ("type 9", book(block(8, [field(type=9)])), "refused 5 0"),
     ("length 0", book(block(8, [field(length=0)])), "refused 5 0"),
-    ("an array of 1,024 chars", book(block(1024, [field(type=0, length=1024)])), "accepted"),
-    ("an array of 1,025 chars", book(block(1025, [field(type=0, length=1025)])), "refused 5 0"),
-    ("an array of two uint8", book(block(8, [field(type=2, length=2)])), "accepted"),
-    ("an array of two int8", book(block(8, [field(type=1, length=2)])), "refused 5 0"),
+    ("an array of 1,024 chars", book(block(1024, [field(type="char", length=1024)])), "accepted"),
+    ("an array of 1,025 chars", book(block(1025, [field(type="char", length=1025)])), "refused 5 0"),
+    ("an array of two uint8", book(block(8, [field(type="uint8", length=2)])), "accepted"),
+    ("an array of two int8", book(block(8, [field(type="int8", length=2)])), "refused 5 0"),
     ("presence 1", book(block(8, [field(presence=1)])), "accepted"),
     ("presence 2", book(block(8, [field(presence=2)])), "refused 5 0"),
-    ("an end at the block length", book(block(8, [field(type=8, offset=0)])), "accepted"),
-    ("an end past the block length", book(block(8, [field(type=8, offset=1)])), "refused 5 0"),
-    ("int64 at 25, next at 32", book(block(40, [field(type=7, offset=25), field(offset=32)])), "refused 5 0"),
-    ("int64 at 25, next at 33", book(block(40, [field(type=7, offset=25), field(offset=33)])), "accepted"),
-    ("an offset above the previous one and under its end", book(block(40, [field(type=7), field(offset=1)])), "refused 5 0"),
-    ("an offset whose end passes 65,535", book(block(65534, [field(type=8, offset=65534)])), "refused 5 0"),
+    ("an end at the block length", book(block(8, [field(type="uint64", offset=0)])), "accepted"),
+    ("an end past the block length", book(block(8, [field(type="uint64", offset=1)])), "refused 5 0"),
+    ("int64 at 25, next at 32", book(block(40, [field(type="int64", offset=25), field(offset=32)])), "refused 5 0"),
+    ("int64 at 25, next at 33", book(block(40, [field(type="int64", offset=25), field(offset=33)])), "accepted"),
+    ("an offset above the previous one and under its end",
+     book(block(40, [field(type="int64"), field(offset=1)])), "refused 5 0"),
+    ("an offset whose end passes 65,535", book(block(65534, [field(type="uint64", offset=65534)])), "refused 5 0"),
     ("since at the version", book(block(8, [field(since=1)]), version=1), "accepted"),
     ("since above the version", book(block(8, [field(since=2)]), version=1), "refused 6 0"),
     ("since of fields that falls", book(block(8, [field(since=1), field(offset=1)]), version=1), "refused 6 0"),
     ("since of data that falls", book(block(8, (), (), [data(1), data(0)]), version=1), "refused 6 0"),
-    ("since of groups that falls", book(block(8, (), [group([field(since=1)], since=1), group()]), version=1), "refused 6 0"),
-    ("fields, groups and data each rise by themselves", book(block(8, [field(since=1)], [group()], [data()]), version=1), "accepted"),
+    ("since of groups that falls",
+     book(block(8, (), [group([field(since=1)], since=1), group()]), version=1), "refused 6 0"),
+    ("fields, groups and data each rise by themselves",
+     book(block(8, [field(since=1)], [group()], [data()]), version=1), "accepted"),
     ("a group's first field younger than it", book(block(8, (), [group([field(since=1)])]), version=1), "refused 6 0"),
-    ("a group's second field younger than it", book(block(8, (), [group([field(), field(offset=1, since=1)])]), version=1), "accepted"),
+    ("a group's second field younger than it",
+     book(block(8, (), [group([field(), field(offset=1, since=1)])]), version=1), "accepted"),
     ("data in a group younger than it", book(block(8, (), [group(datas=[data(1)])]), version=1), "refused 6 0"),
-    ("a group in a group older than it", book(block(8, (), [group([field(since=1)], [group()], since=1)]), version=1), "refused 6 0"),
+    ("a group in a group older than it",
+     book(block(8, (), [group([field(since=1)], [group()], since=1)]), version=1), "refused 6 0"),
     ("4 in the last template hides 5 in the first", book(FIVE, ONE, [0]), "refused 4 2"),
     ("5 in the last template hides 6 in the first", book(SIX, ONE, FIVE), "refused 5 2"),
     ("5 at the first template that has it", book(ONE, FIVE, FIVE), "refused 5 1"),
     ("6 at the first template that has it", book(ONE, SIX, SIX), "refused 6 1"),
 ]
 
-for name, octets_, answer in BORDERS:
+
+def made():
+    """The files by their names."""
+    books = b"".join(struct.pack("<H", len(book)) + book for _, book, _ in BORDERS)
+    return {"stdin": books, "stdout": "".join(answer + "\n" for _, _, answer in BORDERS).encode()}
+
+
+def check():
+    """Whether the two files are there and are what they would be."""
+    wrong = []
+    for name, octets in made().items():
+        path = FOLDER / name
+        if not path.is_file() or path.read_bytes() != octets:
+            wrong.append(name)
+            print("FAILED: crates/check_books/%s is not what borders.py makes" % name)
+    print("borders: %d passed, %d failed" % (len(made()) - len(wrong), len(wrong)))
+    return not wrong
+
+
+def main():
+    if "--check" in sys.argv:
+        sys.exit(0 if check() else 1)
     if "--names" in sys.argv:
-        print("%-52s %s" % (name, answer))
-if "--names" not in sys.argv:
-    with open(os.path.join(FOLDER, "stdin"), "wb") as f:
-        f.write(b"".join(struct.pack("<H", len(b)) + b for _, b, _ in BORDERS))
-    with open(os.path.join(FOLDER, "stdout"), "w") as f:
-        f.write("".join(answer + "\n" for _, _, answer in BORDERS))
+        for name, _, answer in BORDERS:
+            print("%-52s %s" % (name, answer))
+        return
+    for name, octets in made().items():
+        (FOLDER / name).write_bytes(octets)
+
+
+if __name__ == "__main__":
+    main()

@@ -1,8 +1,8 @@
 //! Before anything is timed: the rivals give the same answers, refusals too, and store the same.
 
-use crate::plain::{Record, Refusal};
 use crate::rivals::Rival;
 use crate::workloads::{Sample, Workload};
+use plain::{Record, Refusal};
 
 /// Panics where the two differ on the workload, or where a message is not written back.
 pub fn agree<A: Rival, B: Rival>(a: &A, b: &B, workload: &Workload) {

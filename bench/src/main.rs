@@ -3,13 +3,7 @@
 
 mod agree;
 mod lean;
-#[path = "../../tests/rust/src/plain/mod.rs"]
-#[allow(dead_code)]
-mod plain;
 mod rivals;
-#[path = "../../tests/rust/src/random/rng.rs"]
-#[allow(dead_code)]
-mod rng;
 mod tables;
 mod timing;
 mod workloads;

@@ -2,7 +2,7 @@
 //! called as its users would call it.
 
 use crate::lean;
-use crate::plain::{self, writer, Draft, Message, Place, Record, Refusal};
+use plain::{writer, Draft, Message, Place, Record, Refusal};
 use siphonbard::{Answer, Element, Step};
 
 /// A place, as each of the rivals takes it.

@@ -26,55 +26,62 @@ typedef struct {
     uint8_t octets[LONGEST];
 } file;
 
-/* What each refusal means; 15 at place 8 is the number of groups. */
+/* What each refusal means: the header's words. */
 static const char *const MEANING[] = {
-    [1] = "the book's octets are odd, under 8 or over 8,192",
-    [2] = "the book's word count, schema id, version or number of templates is wrong, or its contents don't fit",
-    [3] = "the book's contents break their rules, or a template id is 65535",
-    [4] = "a block runs past its body, words are left over, a count or depth is too high, or a group lacks fields",
-    [5] = "a block length, type, length, presence or offset breaks its rule",
-    [6] = "a since breaks its rule",
-    [10] = "the message is under 12 or over 65,535 octets",
-    [11] = "a header number is 65535",
-    [12] = "the message's schema id is not the book's",
-    [13] = "the book has no such template",
-    [14] = "the root block length is under the need",
-    [15] = "the number of data is wrong",
-    [16] = "an element runs past the message's end",
-    [17] = "a dimension holds 65535",
-    [18] = "a group's block length is under the need",
-    [19] = "a data length is 65535",
-    [20] = "octets are left over",
-    [30] = "the place has over four steps, or a number that the book lacks",
-    [31] = "an entry is not below its group's count",
-    [40] = "the room is below three numbers per record",
-    [50] = "the book has no such template to write",
-    [51] = "a record is missing, left over, partial or of the wrong kind, or an unused number is not 0",
-    [52] = "a number is null or out of range, or null stands for a required field",
-    [53] = "octets run past the pool's end, are not as many as the field's, or are data over 65,534",
-    [54] = "a group has over 65,534 entries",
-    [55] = "the message is longer than the room or than 65,535 octets",
+    [SIPHONBARD_REFUSED_BOOK_SIZE] = "the book's octets are odd, under 8 or over 8,192",
+    [SIPHONBARD_REFUSED_BOOK_HEAD] =
+        "the book's word count is wrong, its schema id or version is 65535, it has no template or over 64, or its "
+        "contents don't fit",
+    [SIPHONBARD_REFUSED_BOOK_CONTENTS] = "the book's contents break a rule, or a template id is 65535",
+    [SIPHONBARD_REFUSED_BOOK_BLOCK] =
+        "a block runs past its body, body words are left over, a count or the depth is too high, or a group has no "
+        "field",
+    [SIPHONBARD_REFUSED_BOOK_LAYOUT] = "a block length, type, length, presence or offset breaks its rule",
+    [SIPHONBARD_REFUSED_BOOK_SINCE] = "a since breaks its rule",
+    [SIPHONBARD_REFUSED_MESSAGE_SIZE] = "the message is under 12 or over 65,535 octets",
+    [SIPHONBARD_REFUSED_HEADER_NULL] = "a header number is 65535",
+    [SIPHONBARD_REFUSED_SCHEMA_DIFFERS] = "the message's schema id is not the book's",
+    [SIPHONBARD_REFUSED_TEMPLATE_UNKNOWN] = "the book has no such template",
+    [SIPHONBARD_REFUSED_ROOT_BLOCK_SHORT] = "the root block length is under the need",
+    [SIPHONBARD_REFUSED_COUNTS_WRONG] = "the number of groups is wrong, or else the number of data",
+    [SIPHONBARD_REFUSED_PAST_THE_END] = "an element runs past the message's end",
+    [SIPHONBARD_REFUSED_DIMENSION_NULL] = "a dimension holds 65535",
+    [SIPHONBARD_REFUSED_GROUP_BLOCK_SHORT] = "a known group's block length is under the need",
+    [SIPHONBARD_REFUSED_DATA_LENGTH_NULL] = "a data length is 65535",
+    [SIPHONBARD_REFUSED_OCTETS_LEFT_OVER] = "octets are left over",
+    [SIPHONBARD_REFUSED_PLACE_UNKNOWN] = "the place has over four steps, or a number that the book lacks",
+    [SIPHONBARD_REFUSED_ENTRY_MISSING] = "an entry is not below its group's count",
+    [SIPHONBARD_REFUSED_ROOM_TOO_SMALL] = "the room is below three numbers per record",
+    [SIPHONBARD_REFUSED_WRITE_TEMPLATE_UNKNOWN] = "the book has no such template to write",
+    [SIPHONBARD_REFUSED_RECORD_WRONG] =
+        "a record is missing, left over, partial or of the wrong kind, or an unused number is not 0",
+    [SIPHONBARD_REFUSED_VALUE_WRONG] = "a number is null or out of range, or null stands for a required field",
+    [SIPHONBARD_REFUSED_OCTETS_WRONG] =
+        "octets run past the pool's end, are not as many as the field's, or are data over 65,534",
+    [SIPHONBARD_REFUSED_ENTRIES_TOO_MANY] = "a group has over 65,534 entries",
+    [SIPHONBARD_REFUSED_MESSAGE_TOO_LONG] = "the message is longer than the room or than 65,535 octets",
 };
 
 /* What the place of a refusal counts; nothing where it is always 0. */
 static const char *counted_in(uint64_t number)
 {
-    if (number >= 4 && number <= 6)
+    if (number >= SIPHONBARD_REFUSED_BOOK_BLOCK && number <= SIPHONBARD_REFUSED_BOOK_SINCE)
         return "in template";
-    if (number >= 10 && number <= 20)
+    if (number >= SIPHONBARD_REFUSED_MESSAGE_SIZE && number <= SIPHONBARD_REFUSED_OCTETS_LEFT_OVER)
         return "at octet";
-    return number >= 51 && number <= 54 ? "at record" : NULL;
+    if (number >= SIPHONBARD_REFUSED_RECORD_WRONG && number <= SIPHONBARD_REFUSED_ENTRIES_TOO_MANY)
+        return "at record";
+    return NULL;
 }
 
 /* The refusal: its number and place, in words. */
 static void show_refusal(uint64_t number, uint64_t place)
 {
     const char *at = counted_in(number);
-    const char *meaning = number == 15 && place == 8 ? "the number of groups is wrong" : MEANING[number];
     printf("refused %" PRIu64, number);
     if (at)
         printf(" %s %" PRIu64, at, place);
-    printf(": %s\n", meaning);
+    printf(": %s\n", MEANING[number]);
 }
 
 /* The octets as characters; those that cannot be shown are dots. */
@@ -89,12 +96,12 @@ static void show_text(const uint8_t *octets, uint64_t len)
 static void show_answer(uint64_t first, uint64_t second, uint64_t third, const file *message)
 {
     switch (first) {
-    case 0: printf("%" PRId64 "\n", (int64_t)second); break;
-    case 1: printf("null\n"); break;
-    case 2: show_text(message->octets + second, third); break;
-    case 3: printf("absent: it is younger than the message\n"); break;
-    case 4: printf("group of %" PRIu64 "\n", second); break;
-    default: printf("out of range: %" PRId64 "\n", (int64_t)second);
+    case SIPHONBARD_IS_NUMBER: printf("%" PRId64 "\n", (int64_t)second); break;
+    case SIPHONBARD_IS_NULL: printf("null\n"); break;
+    case SIPHONBARD_IS_OCTETS: show_text(message->octets + second, third); break;
+    case SIPHONBARD_IS_ABSENT: printf("absent: it is younger than the message\n"); break;
+    case SIPHONBARD_IS_GROUP: printf("group of %" PRIu64 "\n", second); break;
+    case SIPHONBARD_IS_OUT_OF_RANGE: printf("out of range: %" PRId64 "\n", (int64_t)second); break;
     }
 }
 
@@ -138,10 +145,10 @@ static void write_back(const file *book, const uint64_t *listing, size_t count, 
 static void show_fill(const file *book, const uint64_t *listing, size_t count, const file *message)
 {
     siphonbard_found quantity = siphonbard_place(book->octets, book->len, message->octets, message->len, NULL, 0,
-                                                 SIPHONBARD_FIELD, QUANTITY);
+                                                 SIPHONBARD_ASK_FIELD, QUANTITY);
+    int known = quantity.number != SIPHONBARD_REFUSED_PLACE_UNKNOWN;
 
-    /* The message is accepted by now: the place is refused if the book has no such field. */
-    show(quantity.number ? QUANTITY : QUANTITY + 1, listing, count, message);
+    show(known ? QUANTITY + 1 : QUANTITY, listing, count, message);
     printf("filled quantity, asked alone: ");
     if (quantity.number)
         show_refusal(quantity.number, quantity.place);

@@ -4,7 +4,7 @@
 Prints what the fill says, or the refusal. Exit status: 0 read, 1 refused, 2 without two files."""
 import sys
 
-from siphonbard import ABSENT, ENTRIES, FIELD, NULL, NUMBER, OCTETS, Book, Refused
+from siphonbard import Book, Element, Kind, Refusal, Refused
 
 # The template of a fill, and its elements in the order of a listing: fields, the group of mills, a note.
 FILL = 1
@@ -29,9 +29,11 @@ def read_fill(octets, message):
     book = Book(octets)
     records = book.list(message)
     try:
-        alone, fields = words(book.place(message, [], FIELD, QUANTITY), message), FIELDS
+        alone, fields = words(book.place(message, [], Element.FIELD, QUANTITY), message), FIELDS
     except Refused as refusal:
-        # The message is accepted by now: the place is refused if the book has no such field.
+        if refusal.number != Refusal.PLACE_UNKNOWN:
+            raise
+        # The book has no such field.
         alone, fields = refusal, FIELDS[:QUANTITY]
     show(fields, records, message)
     print("filled quantity, asked alone: %s" % alone)
@@ -48,15 +50,15 @@ def show(fields, records, message):
 def words(record, message):
     """What a record says."""
     first, second, third = record
-    if first == NUMBER:
+    if first == Kind.NUMBER:
         return str(signed(second))
-    if first == NULL:
+    if first == Kind.NULL:
         return "null"
-    if first == OCTETS:
+    if first == Kind.OCTETS:
         return text(message[second:second + third])
-    if first == ABSENT:
+    if first == Kind.ABSENT:
         return "absent: it is younger than the message"
-    if first == ENTRIES:
+    if first == Kind.GROUP:
         return "group of %d" % second
     return "out of range: %d" % signed(second)
 

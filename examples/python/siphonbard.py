@@ -7,17 +7,33 @@ The shared object is linked from the static library:
 SIPHONBARD_SO says where it is; else it is where examples/run puts it.
 """
 import ctypes
+import enum
 import os
 
-# The first number of a record, and the kind of an element in a place.
-NUMBER, NULL, OCTETS, ABSENT, ENTRIES, OUT_OF_RANGE = range(6)
-FIELD, GROUP, DATA = range(3)
+
+class Kind(enum.IntEnum):
+    """The first number of a record. The header's table says what the second and the third are."""
+
+    NUMBER = 0
+    NULL = 1
+    OCTETS = 2
+    ABSENT = 3
+    GROUP = 4
+    OUT_OF_RANGE = 5
+
+
+class Element(enum.IntEnum):
+    """What a place asks for. These are no kinds of records."""
+
+    FIELD = 0
+    GROUP = 1
+    DATA = 2
 
 
 class Book:
     """A book that is checked once, for many messages. Book, message and pool are bytes, which nobody can alter: so the
-    calls for streams, which do not check the book again, get what was checked. A record is a tuple of three numbers, by
-    the table of the header."""
+    calls for streams, which do not check the book again, get what was checked. A record is a tuple of three numbers, of
+    which the first is a Kind."""
 
     def __init__(self, octets):
         self._book = bytes(octets), len(octets)
@@ -30,10 +46,11 @@ class Book:
         list_into(*self._book, message, len(message), room, len(room))
         return [tuple(room[at:at + 3]) for at in range(0, len(room), 3)]
 
-    def place(self, message, steps, kind, element):
-        """The record of one place. A step is a group's number and an entry's."""
+    def place(self, message, steps, element, number):
+        """The record of one place: that of an Element of the block to which the steps lead, by its number there. A step
+        is a group's number and an entry's."""
         steps = numbers(steps)
-        found = answer_at(*self._book, message, len(message), steps, len(steps), kind, element)
+        found = answer_at(*self._book, message, len(message), steps, len(steps), element, number)
         return found.first, found.second, found.third
 
     def write(self, template_id, records, pool):
@@ -44,49 +61,79 @@ class Book:
 
 
 class Refused(Exception):
-    """A call said no: the number of the rule that is broken, and where. As text, in words."""
+    """A call said no: the number of the rule that is broken, a Refusal, and where. As text, in words."""
 
     def __init__(self, number, place):
-        self.number, self.place = number, place
+        self.number, self.place = Refusal(number), place
 
     def __str__(self):
         at = ""
-        for least, greatest, words in (4, 6, "in template"), (10, 20, "at octet"), (51, 54, "at record"):
-            if least <= self.number <= greatest:
+        for first, last, words in COUNTED:
+            if first <= self.number <= last:
                 at = " %s %d" % (words, self.place)
-        groups = (self.number, self.place) == (15, 8)
-        meaning = "the number of groups is wrong" if groups else MEANING[self.number]
-        return "refused %d%s: %s" % (self.number, at, meaning)
+        return "refused %d%s: %s" % (self.number, at, self.number.meaning)
 
 
-MEANING = {
-    1: "the book's octets are odd, under 8 or over 8,192",
-    2: "the book's word count, schema id, version or number of templates is wrong, or its contents don't fit",
-    3: "the book's contents break their rules, or a template id is 65535",
-    4: "a block runs past its body, words are left over, a count or depth is too high, or a group lacks fields",
-    5: "a block length, type, length, presence or offset breaks its rule",
-    6: "a since breaks its rule",
-    10: "the message is under 12 or over 65,535 octets",
-    11: "a header number is 65535",
-    12: "the message's schema id is not the book's",
-    13: "the book has no such template",
-    14: "the root block length is under the need",
-    15: "the number of data is wrong",
-    16: "an element runs past the message's end",
-    17: "a dimension holds 65535",
-    18: "a group's block length is under the need",
-    19: "a data length is 65535",
-    20: "octets are left over",
-    30: "the place has over four steps, or a number that the book lacks",
-    31: "an entry is not below its group's count",
-    40: "the room is below three numbers per record",
-    50: "the book has no such template to write",
-    51: "a record is missing, left over, partial or of the wrong kind, or an unused number is not 0",
-    52: "a number is null or out of range, or null stands for a required field",
-    53: "octets run past the pool's end, are not as many as the field's, or are data over 65,534",
-    54: "a group has over 65,534 entries",
-    55: "the message is longer than the room or than 65,535 octets",
-}
+class Refusal(enum.IntEnum):
+    """The number of a refusal: when a call is refused with it, and what its place is."""
+
+    def __new__(cls, number, meaning, place_meaning):
+        refusal = int.__new__(cls, number)
+        refusal._value_, refusal.meaning, refusal.place_meaning = number, meaning, place_meaning
+        return refusal
+
+    BOOK_SIZE = 1, "the book's octets are odd, under 8 or over 8,192", "0"
+    BOOK_HEAD = (
+        2,
+        "the book's word count is wrong, its schema id or version is 65535, it has no template or over 64, or "
+        "its contents don't fit",
+        "0",
+    )
+    BOOK_CONTENTS = 3, "the book's contents break a rule, or a template id is 65535", "0"
+    BOOK_BLOCK = (
+        4,
+        "a block runs past its body, body words are left over, a count or the depth is too high, or a group "
+        "has no field",
+        "the template's number",
+    )
+    BOOK_LAYOUT = 5, "a block length, type, length, presence or offset breaks its rule", "the template's number"
+    BOOK_SINCE = 6, "a since breaks its rule", "the template's number"
+    MESSAGE_SIZE = 10, "the message is under 12 or over 65,535 octets", "0"
+    HEADER_NULL = 11, "a header number is 65535", "the first such number's offset"
+    SCHEMA_DIFFERS = 12, "the message's schema id is not the book's", "4"
+    TEMPLATE_UNKNOWN = 13, "the book has no such template", "2"
+    ROOT_BLOCK_SHORT = 14, "the root block length is under the need", "0"
+    COUNTS_WRONG = 15, "the number of groups is wrong, or else the number of data", "8 for groups, 10 for data"
+    PAST_THE_END = 16, "an element runs past the message's end", "the element's start"
+    DIMENSION_NULL = 17, "a dimension holds 65535", "the dimension's start"
+    GROUP_BLOCK_SHORT = 18, "a known group's block length is under the need", "the dimension's start"
+    DATA_LENGTH_NULL = 19, "a data length is 65535", "the data's start"
+    OCTETS_LEFT_OVER = 20, "octets are left over", "the first of them"
+    PLACE_UNKNOWN = 30, "the place has over four steps, or a number that the book lacks", "0"
+    ENTRY_MISSING = 31, "an entry is not below its group's count", "0"
+    ROOM_TOO_SMALL = 40, "the room is below three numbers per record", "0"
+    WRITE_TEMPLATE_UNKNOWN = 50, "the book has no such template to write", "0"
+    RECORD_WRONG = (
+        51,
+        "a record is missing, left over, partial or of the wrong kind, or an unused number is not 0",
+        "the record's number",
+    )
+    VALUE_WRONG = 52, "a number is null or out of range, or null stands for a required field", "the record's number"
+    OCTETS_WRONG = (
+        53,
+        "octets run past the pool's end, are not as many as the field's, or are data over 65,534",
+        "the record's number",
+    )
+    ENTRIES_TOO_MANY = 54, "a group has over 65,534 entries", "the record's number"
+    MESSAGE_TOO_LONG = 55, "the message is longer than the room or than 65,535 octets", "0"
+
+
+# The first and the last of the refusals whose place counts templates, octets or records.
+COUNTED = [
+    (Refusal.BOOK_BLOCK, Refusal.BOOK_SINCE, "in template"),
+    (Refusal.MESSAGE_SIZE, Refusal.OCTETS_LEFT_OVER, "at octet"),
+    (Refusal.RECORD_WRONG, Refusal.ENTRIES_TOO_MANY, "at record"),
+]
 
 # ---- The calls themselves ----
 

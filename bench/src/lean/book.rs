@@ -1,7 +1,6 @@
 //! The book in flat tables, and what a message's version has of a block.
 
 use super::numbers::Field;
-use crate::plain;
 
 pub struct Book {
     pub schema: u16,

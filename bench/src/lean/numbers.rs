@@ -1,7 +1,6 @@
 //! Fields, and their numbers in octets: eight octets are read or stored at once, whatever the width.
 
 use super::{Record, NULL, NUMBER, OCTETS, OUT_OF_RANGE};
-use crate::plain;
 
 #[derive(Clone, Copy)]
 pub struct Field {

@@ -3,7 +3,7 @@
 use super::book::{Block, Book};
 use super::check::{Root, Walk};
 use super::{refusal, Record, Refusal, ABSENT, GROUP, OCTETS};
-use crate::plain::Place;
+use plain::Place;
 
 /// What a place's `kind` names.
 const A_FIELD: u64 = 0;

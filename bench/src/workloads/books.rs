@@ -1,6 +1,6 @@
 //! The books of the workloads.
 
-use crate::plain::{Block, Book, Data, Field, Group, Template};
+use plain::{Block, Book, Data, Field, Group, Template};
 
 const CHAR: u16 = 0;
 const UINT8: u16 = 2;

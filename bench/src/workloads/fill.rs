@@ -1,7 +1,6 @@
 //! Random listings of a template: the same seed gives the same ones everywhere.
 
-use crate::plain::{writer, Block, Book, Draft, Field, Template};
-use crate::rng::Rng;
+use plain::{writer, Block, Book, Draft, Field, Rng, Template};
 use std::ops::RangeInclusive;
 
 pub struct Fill {
@@ -47,7 +46,7 @@ impl Fill {
         if field.is_optional() && self.rng.chance(NULLS_PERCENT) {
             return draft.listing.extend([1, 0, 0]);
         }
-        let value = kind.least + i128::from(self.rng.next()) % (kind.greatest - kind.least + 1);
+        let value = kind.least + i128::from(self.rng.draw()) % (kind.greatest - kind.least + 1);
         draft.listing.extend([0, value as u64, 0]);
     }
 

@@ -4,11 +4,10 @@ mod books;
 mod fill;
 mod stream;
 
-use crate::plain::{Book, Draft, Message};
 use crate::rivals::Asked;
-use crate::rng::Rng;
 use crate::timing::Rooms;
 use fill::Fill;
+use plain::{Book, Draft, Message, Rng};
 use siphonbard::Element;
 
 /// A workload's name, what it is, and how it is made.

@@ -3,9 +3,8 @@
 use super::books::{session, VERSION};
 use super::fill::Fill;
 use super::{Workload, SEED};
-use crate::plain::{Book, Template};
 use crate::rivals::Asked;
-use crate::rng::Rng;
+use plain::{Book, Rng, Template};
 use siphonbard::Element;
 
 const MESSAGES: usize = 100_000;

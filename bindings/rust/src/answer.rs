@@ -22,16 +22,32 @@ pub enum Answer {
     OutOfRange(u64),
 }
 
+/// The kinds of records: the first of a record's three numbers.
 impl Answer {
-    /// The answer that a record of a listing stands for; nothing if its first number is over 5.
+    /// The kind of a `Number`. The record's second number is its value.
+    pub const NUMBER: u64 = 0;
+    /// The kind of `Null`.
+    pub const NULL: u64 = 1;
+    /// The kind of `Octets`. The record's second number is their start, its third how many they are.
+    pub const OCTETS: u64 = 2;
+    /// The kind of `Absent`.
+    pub const ABSENT: u64 = 3;
+    /// The kind of a `Group`. The record's second number is its number of entries.
+    pub const GROUP: u64 = 4;
+    /// The kind of an `OutOfRange`. The record's second number is its value.
+    pub const OUT_OF_RANGE: u64 = 5;
+}
+
+impl Answer {
+    /// The answer that a record of a listing stands for; nothing if its first number is no kind.
     pub fn from_record(record: [u64; 3]) -> Option<Answer> {
         Some(match record[0] {
-            0 => Answer::Number(record[1]),
-            1 => Answer::Null,
-            2 => Answer::Octets { start: record[1] as usize, len: record[2] as usize },
-            3 => Answer::Absent,
-            4 => Answer::Group(record[1]),
-            5 => Answer::OutOfRange(record[1]),
+            Answer::NUMBER => Answer::Number(record[1]),
+            Answer::NULL => Answer::Null,
+            Answer::OCTETS => Answer::Octets { start: record[1] as usize, len: record[2] as usize },
+            Answer::ABSENT => Answer::Absent,
+            Answer::GROUP => Answer::Group(record[1]),
+            Answer::OUT_OF_RANGE => Answer::OutOfRange(record[1]),
             _ => return None,
         })
     }
@@ -39,12 +55,12 @@ impl Answer {
     /// The record of a listing that stands for the answer.
     pub fn record(&self) -> [u64; 3] {
         match *self {
-            Answer::Number(value) => [0, value, 0],
-            Answer::Null => [1, 0, 0],
-            Answer::Octets { start, len } => [2, start as u64, len as u64],
-            Answer::Absent => [3, 0, 0],
-            Answer::Group(entries) => [4, entries, 0],
-            Answer::OutOfRange(value) => [5, value, 0],
+            Answer::Number(value) => [Answer::NUMBER, value, 0],
+            Answer::Null => [Answer::NULL, 0, 0],
+            Answer::Octets { start, len } => [Answer::OCTETS, start as u64, len as u64],
+            Answer::Absent => [Answer::ABSENT, 0, 0],
+            Answer::Group(entries) => [Answer::GROUP, entries, 0],
+            Answer::OutOfRange(value) => [Answer::OUT_OF_RANGE, value, 0],
         }
     }
 
@@ -94,12 +110,20 @@ pub enum Element {
     Data(usize),
 }
 
+/// What a place asks for, as the exports take it. These are no kinds of records.
 impl Element {
+    /// A field is asked for.
+    pub const FIELD: u64 = 0;
+    /// A group is asked for.
+    pub const GROUP: u64 = 1;
+    /// A data is asked for.
+    pub const DATA: u64 = 2;
+
     pub(crate) fn numbers(self) -> (u64, u64) {
         match self {
-            Element::Field(number) => (0, number as u64),
-            Element::Group(number) => (1, number as u64),
-            Element::Data(number) => (2, number as u64),
+            Element::Field(number) => (Element::FIELD, number as u64),
+            Element::Group(number) => (Element::GROUP, number as u64),
+            Element::Data(number) => (Element::DATA, number as u64),
         }
     }
 }

@@ -57,6 +57,7 @@ impl<'a> Book<'a> {
     pub fn place(&self, message: &[u8], steps: &[Step], element: Element) -> Result<Answer, Refusal> {
         ffi::stream_place(self, message, steps, element)
     }
+
     /// Writes a message of the template into the room, as [`crate::write`] does, or 50 to 55.
     pub fn write(&self, template_id: u16, listing: &[u64], pool: &[u8], room: &mut [u8]) -> Result<usize, Refusal> {
         ffi::stream_write(self, template_id, listing, pool, room)

@@ -1,222 +1,139 @@
-//! The exports of `libsiphonbard.a`, as `include/siphonbard.h` has them, and a safe function for each: all of the
-//! crate's unsafe code.
+//! The exports of `libsiphonbard.a`, declared as `include/siphonbard.h` has them: for what the crate's safe calls
+//! cannot say, such as a null pointer, a room that holds nothing yet, an element that is neither field, group nor data,
+//! an odd number of numbers for the steps, or a template id over 65535. The header says of each call what comes back
+//! and what is left in the buffers.
 //!
-//! What every SAFETY comment below rests on: a slice of Rust is that many readable elements (writable, and apart
-//! from all others, behind `&mut`), the exports use nothing but what they are lent, and keep no pointer when they
-//! return. They are proved to do so on any octets; the `stream_` ones on any book that `siphonbard_check_book`
-//! accepted.
+//! # Safety
+//!
+//! Of every call: a pointer whose length is above 0 has that many elements, aligned and readable; those of a room are
+//! writable, and apart from the other buffers. With length 0 any pointer will do. Of the `siphonbard_stream_` calls:
+//! the book is what [`siphonbard_check_book`] accepted, not altered since. Nothing checks that, and with any other book
+//! the behaviour is undefined.
 
-use crate::{Answer, Book, Element, Refusal, Step};
+mod safe;
 
+pub(crate) use safe::{check, check_book, list, measure, place, write};
+pub(crate) use safe::{stream_check, stream_list, stream_measure, stream_place, stream_write};
+
+/// The verdict of a check.
 #[repr(C)]
-struct Checked {
-    number: u64,
-    place: u64,
+#[derive(Clone, Copy, Debug, PartialEq, Eq, Hash)]
+pub struct Checked {
+    /// 0, or the refusal's number.
+    pub number: u64,
+    /// The refusal's place, or 0.
+    pub place: u64,
 }
 
+/// A number of records, or of a written message's octets.
 #[repr(C)]
-struct Counted {
-    number: u64,
-    place: u64,
-    count: u64,
+#[derive(Clone, Copy, Debug, PartialEq, Eq, Hash)]
+pub struct Counted {
+    /// 0, or the refusal's number.
+    pub number: u64,
+    /// The refusal's place, or 0.
+    pub place: u64,
+    /// How many, or 0 where the call is refused.
+    pub count: u64,
 }
 
+/// What stands at one place: a record of a listing, or zeros where the call is refused.
 #[repr(C)]
-struct Found {
-    number: u64,
-    place: u64,
-    record: [u64; 3],
+#[derive(Clone, Copy, Debug, PartialEq, Eq, Hash)]
+pub struct Found {
+    /// 0, or the refusal's number.
+    pub number: u64,
+    /// The refusal's place, or 0.
+    pub place: u64,
+    /// The record's kind: one of the constants of [`Answer`](crate::Answer).
+    pub first: u64,
+    /// By the kind: a value, a start or a number of entries.
+    pub second: u64,
+    /// By the kind: a length.
+    pub third: u64,
 }
-
-type Octets = *const u8;
 
 extern "C" {
-    fn siphonbard_check_book(book: Octets, book_len: usize) -> Checked;
-    fn siphonbard_check(book: Octets, book_len: usize, message: Octets, message_len: usize) -> Checked;
-    fn siphonbard_measure(book: Octets, book_len: usize, message: Octets, message_len: usize) -> Counted;
-    fn siphonbard_list(
-        book: Octets,
+    /// Whether the octets are a schema book: accepted, or 1 to 6.
+    pub fn siphonbard_check_book(book: *const u8, book_len: usize) -> Checked;
+    /// Whether the message is one of the book's: accepted, or 1 to 20.
+    pub fn siphonbard_check(book: *const u8, book_len: usize, message: *const u8, message_len: usize) -> Checked;
+    /// How many records the message's listing has, or 1 to 20.
+    pub fn siphonbard_measure(book: *const u8, book_len: usize, message: *const u8, message_len: usize) -> Counted;
+    /// Lists the message into the room, or 1 to 40. `room_len` counts numbers, three a record.
+    pub fn siphonbard_list(
+        book: *const u8,
         book_len: usize,
-        message: Octets,
+        message: *const u8,
         message_len: usize,
         room: *mut u64,
         room_len: usize,
     ) -> Counted;
-    fn siphonbard_place(
-        book: Octets,
+    /// What stands at one place of the message, or 1 to 31. `steps_len` counts numbers, two a step; `ask` is one of
+    /// the constants of [`Element`](crate::Element).
+    pub fn siphonbard_place(
+        book: *const u8,
         book_len: usize,
-        message: Octets,
+        message: *const u8,
         message_len: usize,
         steps: *const u64,
         steps_len: usize,
-        kind: u64,
+        ask: u64,
         element: u64,
     ) -> Found;
-    fn siphonbard_write(
-        book: Octets,
+    /// Writes a message of the template into the room, or 1 to 6 or 50 to 55. `listing_len` counts numbers, three a
+    /// record.
+    pub fn siphonbard_write(
+        book: *const u8,
         book_len: usize,
         template_id: u64,
         listing: *const u64,
         listing_len: usize,
-        pool: Octets,
+        pool: *const u8,
         pool_len: usize,
         room: *mut u8,
         room_len: usize,
     ) -> Counted;
-    fn siphonbard_stream_check(book: Octets, book_len: usize, message: Octets, message_len: usize) -> Checked;
-    fn siphonbard_stream_measure(book: Octets, book_len: usize, message: Octets, message_len: usize) -> Counted;
-    fn siphonbard_stream_list(
-        book: Octets,
+    /// [`siphonbard_check`] by a book that was accepted before: accepted, or 10 to 20.
+    pub fn siphonbard_stream_check(book: *const u8, book_len: usize, message: *const u8, message_len: usize)
+        -> Checked;
+    /// [`siphonbard_measure`] by a book that was accepted before, or 10 to 20.
+    pub fn siphonbard_stream_measure(
+        book: *const u8,
         book_len: usize,
-        message: Octets,
+        message: *const u8,
+        message_len: usize,
+    ) -> Counted;
+    /// [`siphonbard_list`] by a book that was accepted before, or 10 to 40.
+    pub fn siphonbard_stream_list(
+        book: *const u8,
+        book_len: usize,
+        message: *const u8,
         message_len: usize,
         room: *mut u64,
         room_len: usize,
     ) -> Counted;
-    fn siphonbard_stream_place(
-        book: Octets,
+    /// [`siphonbard_place`] by a book that was accepted before, or 10 to 31.
+    pub fn siphonbard_stream_place(
+        book: *const u8,
         book_len: usize,
-        message: Octets,
+        message: *const u8,
         message_len: usize,
         steps: *const u64,
         steps_len: usize,
-        kind: u64,
+        ask: u64,
         element: u64,
     ) -> Found;
-    fn siphonbard_stream_write(
-        book: Octets,
+    /// [`siphonbard_write`] by a book that was accepted before, or 50 to 55.
+    pub fn siphonbard_stream_write(
+        book: *const u8,
         book_len: usize,
         template_id: u64,
         listing: *const u64,
         listing_len: usize,
-        pool: Octets,
+        pool: *const u8,
         pool_len: usize,
         room: *mut u8,
         room_len: usize,
     ) -> Counted;
-}
-
-fn verdict(number: u64, place: u64) -> Result<(), Refusal> {
-    match number {
-        0 => Ok(()),
-        _ => Err(Refusal { number: number as u8, place: place as usize }),
-    }
-}
-
-impl Checked {
-    fn result(self) -> Result<(), Refusal> {
-        verdict(self.number, self.place)
-    }
-}
-
-impl Counted {
-    fn result(self) -> Result<usize, Refusal> {
-        verdict(self.number, self.place).map(|()| self.count as usize)
-    }
-}
-
-impl Found {
-    fn result(self) -> Result<Answer, Refusal> {
-        verdict(self.number, self.place).map(|()| Answer::from_record(self.record).expect("a kind of 0 to 5"))
-    }
-}
-
-/// The steps as the exports take them: a group's number and an entry's by turns. `Step` is these two and nothing
-/// else.
-fn numbers(steps: &[Step]) -> (*const u64, usize) {
-    (steps.as_ptr().cast(), steps.len() * 2)
-}
-
-pub fn check_book(book: &[u8]) -> Result<(), Refusal> {
-    // SAFETY: lends one slice.
-    unsafe { siphonbard_check_book(book.as_ptr(), book.len()) }.result()
-}
-
-pub fn check(book: &[u8], message: &[u8]) -> Result<(), Refusal> {
-    // SAFETY: lends two slices.
-    unsafe { siphonbard_check(book.as_ptr(), book.len(), message.as_ptr(), message.len()) }.result()
-}
-
-pub fn measure(book: &[u8], message: &[u8]) -> Result<usize, Refusal> {
-    // SAFETY: lends two slices.
-    unsafe { siphonbard_measure(book.as_ptr(), book.len(), message.as_ptr(), message.len()) }.result()
-}
-
-pub fn list(book: &[u8], message: &[u8], room: &mut [u64]) -> Result<usize, Refusal> {
-    let (start, len) = (room.as_mut_ptr(), room.len());
-    // SAFETY: lends three slices, and `room` is borrowed mutably.
-    unsafe { siphonbard_list(book.as_ptr(), book.len(), message.as_ptr(), message.len(), start, len) }.result()
-}
-
-pub fn place(book: &[u8], message: &[u8], steps: &[Step], element: Element) -> Result<Answer, Refusal> {
-    let ((start, len), (kind, number)) = (numbers(steps), element.numbers());
-    // SAFETY: lends three slices; `Step` is `repr(C)` with two u64, so `steps` is `len` of them.
-    unsafe { siphonbard_place(book.as_ptr(), book.len(), message.as_ptr(), message.len(), start, len, kind, number) }
-        .result()
-}
-
-pub fn write(book: &[u8], id: u16, listing: &[u64], pool: &[u8], room: &mut [u8]) -> Result<usize, Refusal> {
-    // SAFETY: lends four slices, and `room` is borrowed mutably.
-    unsafe {
-        siphonbard_write(
-            book.as_ptr(),
-            book.len(),
-            id.into(),
-            listing.as_ptr(),
-            listing.len(),
-            pool.as_ptr(),
-            pool.len(),
-            room.as_mut_ptr(),
-            room.len(),
-        )
-    }
-    .result()
-}
-
-pub fn stream_check(book: &Book, message: &[u8]) -> Result<(), Refusal> {
-    let book = book.octets();
-    // SAFETY: lends two slices; a `Book` is accepted, and its octets are borrowed since.
-    unsafe { siphonbard_stream_check(book.as_ptr(), book.len(), message.as_ptr(), message.len()) }.result()
-}
-
-pub fn stream_measure(book: &Book, message: &[u8]) -> Result<usize, Refusal> {
-    let book = book.octets();
-    // SAFETY: as for `stream_check`.
-    unsafe { siphonbard_stream_measure(book.as_ptr(), book.len(), message.as_ptr(), message.len()) }.result()
-}
-
-pub fn stream_list(book: &Book, message: &[u8], room: &mut [u64]) -> Result<usize, Refusal> {
-    let book = book.octets();
-    let (start, len) = (room.as_mut_ptr(), room.len());
-    // SAFETY: as for `stream_check`; `room` is borrowed mutably.
-    unsafe { siphonbard_stream_list(book.as_ptr(), book.len(), message.as_ptr(), message.len(), start, len) }.result()
-}
-
-pub fn stream_place(book: &Book, message: &[u8], steps: &[Step], element: Element) -> Result<Answer, Refusal> {
-    let book = book.octets();
-    let ((start, len), (kind, number)) = (numbers(steps), element.numbers());
-    // SAFETY: as for `stream_check`; `steps` as for `place`.
-    unsafe {
-        siphonbard_stream_place(book.as_ptr(), book.len(), message.as_ptr(), message.len(), start, len, kind, number)
-    }
-    .result()
-}
-
-pub fn stream_write(book: &Book, id: u16, listing: &[u64], pool: &[u8], room: &mut [u8]) -> Result<usize, Refusal> {
-    let book = book.octets();
-    // SAFETY: as for `stream_check`; `room` is borrowed mutably.
-    unsafe {
-        siphonbard_stream_write(
-            book.as_ptr(),
-            book.len(),
-            id.into(),
-            listing.as_ptr(),
-            listing.len(),
-            pool.as_ptr(),
-            pool.len(),
-            room.as_mut_ptr(),
-            room.len(),
-        )
-    }
-    .result()
 }

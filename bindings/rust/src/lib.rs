@@ -28,6 +28,7 @@
 //! A message is written from a listing; [`Listing`] makes one, and has an example.
 //!
 //! The functions below check the book at each call; a [`Book`] is checked once.
+//! [`ffi`] has the exports themselves, for what these cannot say.
 
 #![deny(missing_docs)]
 #![deny(unsafe_code)]
@@ -35,7 +36,7 @@
 mod answer;
 mod book;
 #[allow(unsafe_code)]
-mod ffi;
+pub mod ffi;
 mod listing;
 mod refusal;
 

@@ -6,6 +6,18 @@ use std::fmt;
 /// 1 to 6 are the book's (the place is 0, or a template's number from 4 on), 10 to 20 the message's (the place is
 /// an offset in it), 30 and 31 those of a place asked for, 40 that of a listing's room, 50 to 55 those of writing (the
 /// place is 0, or a record's number from 51 to 54). A refused call altered nothing.
+///
+/// ```
+/// use siphonbard::{check_book, Refusal};
+///
+/// let refusal = check_book(b"no book").unwrap_err();
+/// assert_eq!(refusal, Refusal { number: Refusal::BOOK_SIZE, place: 0 });
+/// assert_eq!(refusal.to_string(), "refused 1: the book's octets are odd, under 8 or over 8,192");
+///
+/// let refusal = Refusal { number: Refusal::PAST_THE_END, place: 28 };
+/// assert_eq!(refusal.to_string(), "refused 16 at octet 28: an element runs past the message's end");
+/// assert_eq!(refusal.place_meaning(), "the element's start");
+/// ```
 #[derive(Clone, Copy, Debug, PartialEq, Eq, Hash)]
 pub struct Refusal {
     /// Which rule.
@@ -14,58 +26,73 @@ pub struct Refusal {
     pub place: usize,
 }
 
-impl Refusal {
-    /// What the number means, in words.
-    pub fn meaning(&self) -> &'static str {
-        match (self.number, self.place) {
-            (1, _) => "the book's octets are odd, under 8 or over 8,192",
-            (2, _) => {
-                "the book's word count, schema id, version or number of templates is wrong, or its contents don't fit"
-            }
-            (3, _) => "the book's contents break their rules, or a template id is 65535",
-            (4, _) => {
-                "a block runs past its body, words are left over, a count or depth is too high, or a group lacks fields"
-            }
-            (5, _) => "a block length, type, length, presence or offset breaks its rule",
-            (6, _) => "a since breaks its rule",
-            (10, _) => "the message is under 12 or over 65,535 octets",
-            (11, _) => "a header number is 65535",
-            (12, _) => "the message's schema id is not the book's",
-            (13, _) => "the book has no such template",
-            (14, _) => "the root block length is under the need",
-            (15, 8) => "the number of groups is wrong",
-            (15, _) => "the number of data is wrong",
-            (16, _) => "an element runs past the message's end",
-            (17, _) => "a dimension holds 65535",
-            (18, _) => "a group's block length is under the need",
-            (19, _) => "a data length is 65535",
-            (20, _) => "octets are left over",
-            (30, _) => "the place has over four steps, or a number that the book lacks",
-            (31, _) => "an entry is not below its group's count",
-            (40, _) => "the room is below three numbers per record",
-            _ => self.meaning_in_writing(),
-        }
-    }
+// The one table of the crate: a number's name, when a call is refused with it, and what its place is.
+macro_rules! refusals {
+    ($($name:ident = $number:literal, $when:literal, $place:literal;)*) => {
+        impl Refusal {
+            $(
+                #[doc = concat!("When ", $when, ". Place: ", $place, ".")]
+                pub const $name: u8 = $number;
+            )*
 
-    fn meaning_in_writing(&self) -> &'static str {
-        match self.number {
-            50 => "the book has no such template to write",
-            51 => "a record is missing, left over, partial or of the wrong kind, or an unused number is not 0",
-            52 => "a number is null or out of range, or null stands for a required field",
-            53 => "octets run past the pool's end, are not as many as the field's, or are data over 65,534",
-            54 => "a group has over 65,534 entries",
-            55 => "the message is longer than the room or than 65,535 octets",
-            _ => "unknown",
+            /// When a call is refused with this number, in words.
+            pub fn meaning(&self) -> &'static str {
+                match self.number {
+                    $($number => $when,)*
+                    _ => "unknown",
+                }
+            }
+
+            /// What the place of a refusal with this number is, in words; or the one number that it always is.
+            pub fn place_meaning(&self) -> &'static str {
+                match self.number {
+                    $($number => $place,)*
+                    _ => "unknown",
+                }
+            }
         }
-    }
+    };
+}
+
+refusals! {
+    BOOK_SIZE = 1, "the book's octets are odd, under 8 or over 8,192", "0";
+    BOOK_HEAD = 2, "the book's word count is wrong, its schema id or version is 65535, it has no template or over 64, \
+        or its contents don't fit", "0";
+    BOOK_CONTENTS = 3, "the book's contents break a rule, or a template id is 65535", "0";
+    BOOK_BLOCK = 4, "a block runs past its body, body words are left over, a count or the depth is too high, \
+        or a group has no field", "the template's number";
+    BOOK_LAYOUT = 5, "a block length, type, length, presence or offset breaks its rule", "the template's number";
+    BOOK_SINCE = 6, "a since breaks its rule", "the template's number";
+    MESSAGE_SIZE = 10, "the message is under 12 or over 65,535 octets", "0";
+    HEADER_NULL = 11, "a header number is 65535", "the first such number's offset";
+    SCHEMA_DIFFERS = 12, "the message's schema id is not the book's", "4";
+    TEMPLATE_UNKNOWN = 13, "the book has no such template", "2";
+    ROOT_BLOCK_SHORT = 14, "the root block length is under the need", "0";
+    COUNTS_WRONG = 15, "the number of groups is wrong, or else the number of data", "8 for groups, 10 for data";
+    PAST_THE_END = 16, "an element runs past the message's end", "the element's start";
+    DIMENSION_NULL = 17, "a dimension holds 65535", "the dimension's start";
+    GROUP_BLOCK_SHORT = 18, "a known group's block length is under the need", "the dimension's start";
+    DATA_LENGTH_NULL = 19, "a data length is 65535", "the data's start";
+    OCTETS_LEFT_OVER = 20, "octets are left over", "the first of them";
+    PLACE_UNKNOWN = 30, "the place has over four steps, or a number that the book lacks", "0";
+    ENTRY_MISSING = 31, "an entry is not below its group's count", "0";
+    ROOM_TOO_SMALL = 40, "the room is below three numbers per record", "0";
+    WRITE_TEMPLATE_UNKNOWN = 50, "the book has no such template to write", "0";
+    RECORD_WRONG = 51, "a record is missing, left over, partial or of the wrong kind, or an unused number is not 0",
+        "the record's number";
+    VALUE_WRONG = 52, "a number is null or out of range, or null stands for a required field", "the record's number";
+    OCTETS_WRONG = 53, "octets run past the pool's end, are not as many as the field's, or are data over 65,534",
+        "the record's number";
+    ENTRIES_TOO_MANY = 54, "a group has over 65,534 entries", "the record's number";
+    MESSAGE_TOO_LONG = 55, "the message is longer than the room or than 65,535 octets", "0";
 }
 
 impl fmt::Display for Refusal {
     fn fmt(&self, f: &mut fmt::Formatter) -> fmt::Result {
         let at = match self.number {
-            4..=6 => " in template ",
-            10..=20 => " at octet ",
-            51..=54 => " at record ",
+            Refusal::BOOK_BLOCK..=Refusal::BOOK_SINCE => " in template ",
+            Refusal::MESSAGE_SIZE..=Refusal::OCTETS_LEFT_OVER => " at octet ",
+            Refusal::RECORD_WRONG..=Refusal::ENTRIES_TOO_MANY => " at record ",
             _ => return write!(f, "refused {}: {}", self.number, self.meaning()),
         };
         write!(f, "refused {}{}{}: {}", self.number, at, self.place, self.meaning())

@@ -30,9 +30,10 @@ fn read_fill(book: &[u8], message: &[u8]) -> Result<(), Refusal> {
     let mut listing = vec![0; 3 * book.measure(message)?];
     book.list(message, &mut listing)?;
     let quantity = book.place(message, &[], Element::Field(QUANTITY));
-
-    // The message is accepted by now: the place is refused if the book has no such field.
-    let fields = if quantity.is_ok() { &FIELDS[..] } else { &FIELDS[..QUANTITY] };
+    let fields = match quantity {
+        Err(Refusal { number: Refusal::PLACE_UNKNOWN, .. }) => &FIELDS[..QUANTITY],
+        _ => &FIELDS[..],
+    };
     show(fields, &listing, message);
     println!("filled quantity, asked alone: {}", said(quantity.map(|answer| words(answer, message))));
     println!("written back: {}", said(written_back(&book, &listing, message)));

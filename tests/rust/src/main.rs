@@ -6,7 +6,6 @@
 #![no_main]
 
 mod named;
-mod plain;
 mod random;
 mod raw;
 mod readers;
@@ -49,6 +48,6 @@ fn run() -> bool {
     robust::run(&mut report, seed, messages);
     report.part();
     random::run(&mut report, seed, messages);
-    println!("tests: {} passed, {} failed", report.passed, report.failed);
+    println!("tests: {} passed, {} failed, on {}", report.passed, report.failed, std::env::consts::ARCH);
     report.failed == 0
 }

@@ -1,7 +1,7 @@
 //! The library and the plain reader and writer under one set of calls, so that every test asks all of them the same.
 
-use crate::plain::{refusal, writer, Book, Draft, Message, Place, Record, Refusal};
 use crate::raw;
+use plain::{refusal, writer, Book, Draft, Message, Place, Record, Refusal};
 use siphonbard::{Element, Step};
 
 pub trait Reader {

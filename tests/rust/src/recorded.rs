@@ -11,9 +11,9 @@
 //! - write: template id, 16 bits; octets of room, 32 bits; how many numbers the listing has, 32 bits; these, 64 bits
 //!   each; the pool.
 
-use crate::plain::{refusal, word, Draft, Place, Record, Refusal};
 use crate::readers::{lent, Free, Plain, Reader, Stream};
 use crate::report::{hex, same, Report};
+use plain::{refusal, word, Draft, Place, Record, Refusal};
 
 const CASES: &[u8] = include_bytes!("../../cases/base.cases");
 const EXPECTED: &str = include_str!("../../cases/base.expected");

@@ -1,7 +1,7 @@
 //! Books with a name, and the verdict on each.
 
 use super::{Case, Expected};
-use crate::plain::{refusal, Block, Book, Data, Field, Group, Refusal, Template};
+use plain::{refusal, Block, Book, Data, Field, Group, Refusal, Template};
 
 /// Book A of the rules, word by word.
 pub fn a() -> Vec<u8> {

@@ -3,9 +3,10 @@
 
 use super::writing::draft_of_m;
 use super::{books, messages};
-use crate::plain::Block;
-use crate::raw::{self, Counted};
+use crate::raw;
 use crate::report::same;
+use plain::Block;
+use siphonbard::ffi::Counted;
 use siphonbard::{answers, Answer, Book, Element, Listing, Refusal, Step};
 
 pub type Call = fn() -> Result<(), String>;
@@ -88,13 +89,17 @@ fn unwritable() -> Result<(), String> {
 fn words() -> Result<(), String> {
     let said = Refusal { number: 16, place: 28 }.to_string();
     same("16", said.as_str(), "refused 16 at octet 28: an element runs past the message's end")?;
-    let unknown = Refusal { number: 99, place: 0 }.meaning();
+    let unknown = Refusal { number: 99, place: 0 };
+    same("99", (unknown.meaning(), unknown.place_meaning()), ("unknown", "unknown"))?;
     let said = Refusal { number: 54, place: 2 }.to_string();
     same("54", said.as_str(), "refused 54 at record 2: a group has over 65,534 entries")?;
     let said = Refusal { number: 55, place: 0 }.to_string();
     same("55", said.as_str(), "refused 55: the message is longer than the room or than 65,535 octets")?;
     let mut known = (1..=6).chain(10..=20).chain([30, 31, 40]).chain(50..=55);
-    let silent = known.find(|&number| Refusal { number, place: 0 }.meaning() == unknown);
+    let silent = known.find(|&number| {
+        let refusal = Refusal { number, place: 0 };
+        refusal.meaning() == "unknown" || refusal.place_meaning() == "unknown"
+    });
     same("a number without words", silent, None)
 }
 

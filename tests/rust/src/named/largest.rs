@@ -2,9 +2,9 @@
 
 use super::books::{fields, OCTET};
 use super::calls::Call;
-use crate::plain::{refusal, Block, Book, Field, Group, Place, Template, LONGEST};
 use crate::readers::{Free, Plain, Reader, Stream};
 use crate::report::same;
+use plain::{refusal, Block, Book, Field, Group, Place, Template, LONGEST};
 
 pub fn calls() -> [(&'static str, Call); 2] {
     [("a message of 65,535 octets with 4,193,217 records", largest), ("a message of 65,536 octets: 10", too_long)]

@@ -3,9 +3,9 @@
 use super::books::{field, fields, of, DATA, OCTET};
 use super::calls::Call;
 use super::writing::draft;
-use crate::plain::{refusal, Block, Draft, Group, Record, LONGEST};
 use crate::readers::{lent, Free, Plain, Reader, Stream};
 use crate::report::same;
+use plain::{refusal, Block, Draft, Group, Record, LONGEST};
 
 pub fn calls() -> [(&'static str, Call); 4] {
     [

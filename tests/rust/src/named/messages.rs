@@ -2,7 +2,7 @@
 
 use super::books::{a, b, field, fields, of, DATA, OCTET};
 use super::{octets, with_word, Case, Expected};
-use crate::plain::{refusal, Block, Place, Record, Refusal};
+use plain::{refusal, Block, Place, Record, Refusal};
 
 /// Message M of the rules.
 pub fn m() -> Vec<u8> {

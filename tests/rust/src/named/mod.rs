@@ -10,9 +10,9 @@ mod readings;
 mod unwritten;
 mod writing;
 
-use crate::plain::{Draft, Place, Record, Refusal};
 use crate::readers::{Free, Plain, Reader, Stream};
 use crate::report::{hex, same, Report};
+use plain::{Draft, Place, Record, Refusal};
 
 /// A book, a message (empty where it is not asked about) and the right answer.
 pub struct Case {

@@ -3,7 +3,7 @@
 use super::books::{a, b};
 use super::messages::{b_under_a, m, m_under_a, m_under_b, of_b, MINUS_5};
 use super::{octets, Case, Expected};
-use crate::plain::Record;
+use plain::Record;
 
 /// M with another group in the place of its own.
 fn m_with_group(group: &str) -> Vec<u8> {

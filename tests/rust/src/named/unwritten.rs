@@ -5,7 +5,7 @@ use super::books::{a, field, fields, of, DATA};
 use super::messages::m;
 use super::writing::{draft, draft_of_m};
 use super::{Case, Expected};
-use crate::plain::{refusal, Block, Draft, Field, Record};
+use plain::{refusal, Block, Draft, Field, Record};
 
 const ROOM: usize = 40;
 

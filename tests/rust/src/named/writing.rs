@@ -3,7 +3,7 @@
 use super::books::{a, b, field, fields, nested, of, DATA, OCTET};
 use super::messages::{m, m_under_a, of_b, rooted, MINUS_5};
 use super::{octets, Case, Expected};
-use crate::plain::{Block, Draft, Field, Record};
+use plain::{Block, Draft, Field, Record};
 
 /// For template 1.
 pub fn draft(records: &[Record], pool: &[u8]) -> Draft {

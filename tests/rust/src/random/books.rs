@@ -1,7 +1,6 @@
 //! Random books that keep every rule, and random legal extensions of them.
 
-use super::rng::Rng;
-use crate::plain::{types::TYPES, Block, Book, Data, Field, Group, Template};
+use plain::{types::TYPES, Block, Book, Data, Field, Group, Rng, Template};
 
 pub fn book(rng: &mut Rng) -> Book {
     let version = rng.pick(&[0, 0, 1, 1, 2, 3, 4, 6, 300, 65534]);

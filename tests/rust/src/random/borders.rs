@@ -1,8 +1,7 @@
 //! Books brought to a border of one rule, or just past it.
 
 use super::books::{add_field, data_of};
-use super::rng::Rng;
-use crate::plain::{Block, Book, Field, Group, Template};
+use plain::{Block, Book, Field, Group, Rng, Template};
 
 /// The book with one count, depth, number or since at its limit or one beyond.
 pub fn book(rng: &mut Rng, mut book: Book) -> Book {

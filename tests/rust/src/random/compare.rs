@@ -1,12 +1,11 @@
 //! One book or one message, asked of the library and of the plain reader: answers and rooms must be equal.
 
 use super::places;
-use super::rng::Rng;
 use super::seen::Seen;
 use super::written;
-use crate::plain::{refusal, Book, Message, Place, Record, Refusal};
 use crate::readers::{own, stream_place, Free, Reader};
 use crate::report::same;
+use plain::{refusal, Book, Message, Place, Record, Refusal, Rng};
 
 /// A book as both sides have it.
 pub struct BothBooks<'a> {

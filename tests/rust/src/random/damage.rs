@@ -1,6 +1,6 @@
 //! Damage: words and octets altered, cut off and added.
 
-use super::rng::Rng;
+use plain::Rng;
 
 /// One to three faults in a message. Its header and its words are hit more often than chance would.
 pub fn message(rng: &mut Rng, mut octets: Vec<u8>) -> Vec<u8> {
@@ -73,7 +73,7 @@ fn put_word(rng: &mut Rng, octets: &mut [u8]) {
         4 => old.wrapping_sub(1),
         5 => 0,
         6 => rng.word(0, 20),
-        _ => rng.next() as u16,
+        _ => rng.draw() as u16,
     };
     octets.copy_from_slice(&new.to_le_bytes());
 }

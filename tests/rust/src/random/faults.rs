@@ -1,7 +1,6 @@
 //! Faults of a listing: records that their element cannot have or only just can, and records lost and gained.
 
-use super::rng::Rng;
-use crate::plain::{types::Type, Record};
+use plain::{types::Type, Record, Rng};
 
 /// Another kind, or a number where none is used.
 pub fn shape(rng: &mut Rng, [first, second, third]: Record) -> Record {
@@ -27,7 +26,7 @@ pub fn number(rng: &mut Rng, kind: &Type) -> Record {
         5 => kind.least + modulus,
         6 => kind.greatest - modulus,
         7 => kind.greatest,
-        _ => rng.next().into(),
+        _ => rng.draw().into(),
     };
     [0, value as u64, 0]
 }

@@ -1,8 +1,7 @@
 //! Random listings: whole ones, ones with faults in their records, and ones that have lost or gained some.
 
 use super::faults;
-use super::rng::Rng;
-use crate::plain::{types::Type, Block, Book, Draft, Field, Record, Template};
+use plain::{types::Type, Block, Book, Draft, Field, Record, Rng, Template};
 
 /// Something to write with the book, at fault nearly as often as not.
 pub fn draft(rng: &mut Rng, book: &Book) -> Draft {
@@ -110,7 +109,7 @@ pub fn number(rng: &mut Rng, kind: &Type) -> i128 {
     match rng.below(8) {
         0 => kind.least,
         1 => kind.greatest,
-        _ => kind.least + i128::from(rng.next() % range),
+        _ => kind.least + i128::from(rng.draw() % range),
     }
 }
 

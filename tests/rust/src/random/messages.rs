@@ -1,8 +1,7 @@
 //! Random messages: some by the plain writer from random listings, some with all the freedom that the wire has.
 
 use super::listings::{self, entries, number};
-use super::rng::Rng;
-use crate::plain::{writer, Block, Book, Field, Template};
+use plain::{writer, Block, Book, Field, Rng, Template};
 
 /// A whole message for one of the book's templates.
 pub fn message(rng: &mut Rng, book: &Book) -> Vec<u8> {

@@ -1,8 +1,6 @@
 //! Random places: mostly ones that a message has, the others wrong in one number.
 
-use super::rng::Rng;
-use crate::plain::message::Part;
-use crate::plain::{Block, Message, Place};
+use plain::{message::Part, Block, Message, Place, Rng};
 
 /// A place in the message, and now and then one that it or its book lacks.
 pub fn near(rng: &mut Rng, message: &Message) -> Place {

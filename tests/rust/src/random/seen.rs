@@ -1,7 +1,7 @@
 //! What the library answered, by number and by kind: a test that never met one of them has not tested it.
 
-use crate::plain::Refusal;
 use crate::report::Report;
+use plain::Refusal;
 
 const REFUSALS: [(&str, &[usize]); 5] = [
     ("books", &[1, 2, 3, 4, 5, 6]),
@@ -43,25 +43,35 @@ impl Seen {
         self.kinds[kind as usize] += 1;
     }
 
-    /// Prints all counts. Each that must come and did not is a failure.
-    pub fn report(&self, report: &mut Report) {
-        for (of, numbers) in REFUSALS {
-            let counts = numbers.iter().map(|&number| (number.to_string(), self.refusals[number]));
-            print(report, &format!("refusals of {of}"), counts.collect());
+    /// Prints all counts.
+    pub fn print(&self) {
+        for (what, counts) in self.counts() {
+            let line: Vec<String> = counts.iter().map(|(name, count)| format!("{name}: {count}")).collect();
+            println!("  {what}: {}", line.join(", "));
         }
-        let counts = KINDS.iter().zip(self.kinds).map(|(name, count)| (name.to_string(), count));
-        print(report, "answers", counts.collect());
+    }
+
+    /// Each that never came is a failure.
+    pub fn report(&self, report: &mut Report) {
+        for (what, counts) in self.counts() {
+            for (name, count) in counts {
+                let outcome = if count > 0 { Ok(()) } else { Err("never seen".into()) };
+                report.check(outcome, || format!("{what}, {name}"));
+            }
+        }
+    }
+
+    /// How often each came, by what it is of.
+    fn counts(&self) -> Vec<(String, Vec<(String, u64)>)> {
+        let refusals = REFUSALS.iter().map(|(of, numbers)| {
+            let counts = numbers.iter().map(|&number| (number.to_string(), self.refusals[number]));
+            (format!("refusals of {of}"), counts.collect())
+        });
+        let kinds = KINDS.iter().zip(self.kinds).map(|(name, count)| (name.to_string(), count));
         let Trips { read_back, written_back, not_so } = self.trips;
         let trips = [("written and read back", read_back), ("read and written back", written_back), ("not so", not_so)];
-        print(report, "round trips", trips.iter().map(|&(name, count)| (name.to_string(), count)).collect());
-    }
-}
-
-fn print(report: &mut Report, what: &str, counts: Vec<(String, u64)>) {
-    let line: Vec<String> = counts.iter().map(|(name, count)| format!("{name}: {count}")).collect();
-    println!("  {what}: {}", line.join(", "));
-    for (name, count) in counts {
-        let outcome = if count > 0 { Ok(()) } else { Err("never seen".into()) };
-        report.check(outcome, || format!("{what}, {name}"));
+        let trips = trips.iter().map(|&(name, count)| (name.to_string(), count));
+        let others = [("answers".into(), kinds.collect()), ("round trips".into(), trips.collect())];
+        refusals.chain(others).collect()
     }
 }

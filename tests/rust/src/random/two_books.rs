@@ -2,11 +2,9 @@
 //! template is in both.
 
 use super::compare::BothBooks;
-use crate::plain::extension::extends;
-use crate::plain::message::Part;
-use crate::plain::{word, Block, Book, Message, Place};
 use crate::readers::stream_place;
 use crate::report::same;
+use plain::{extension::extends, message::Part, word, Block, Book, Message, Place};
 use siphonbard::Answer;
 
 /// An older book and one that legally extends it, both accepted.

@@ -1,11 +1,10 @@
 //! One listing, written by the library and by the plain writer: answers and rooms must be equal. And both round trips.
 
 use super::compare::BothBooks;
-use super::rng::Rng;
 use super::seen::Seen;
-use crate::plain::{refusal, word, writer, Draft, Message, Record, Refusal, LONGEST};
 use crate::readers::{lent, own, stream_write, Free, Reader};
 use crate::report::same;
+use plain::{refusal, word, writer, Draft, Message, Record, Refusal, Rng, LONGEST};
 use siphonbard::Listing;
 
 /// One in so many is written by the calls that make the room themselves, too.
@@ -25,7 +24,7 @@ pub fn draft(rng: &mut Rng, seen: &mut Seen, book: &BothBooks, draft: &Draft) ->
     for room in [Some(exact), exact.checked_sub(1), Some(smaller), Some(larger)].into_iter().flatten() {
         asked.write_into(room, seen)?;
     }
-    if rng.next() % MADE_ROOM == 0 {
+    if rng.draw() % MADE_ROOM == 0 {
         asked.makes_room()?;
     }
     match (&asked.plain, book.library) {

@@ -1,8 +1,8 @@
 //! What is asked: a book, and a message to read or a listing to write.
 
-use crate::plain::{Draft, Place};
 use crate::recorded::{self, draft_asked, number, place_asked, take, PLACE, WRITE};
 use crate::report::hex;
+use plain::{Draft, Place};
 use std::fmt;
 
 pub struct Case {

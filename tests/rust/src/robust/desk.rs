@@ -4,9 +4,9 @@
 use super::cases::{Asked, Case};
 use super::exports::{check_book, checked, counted, found, Lent, Way, FREE, STREAM};
 use super::memory::{holds, input, room, Kept, Memory};
-use crate::plain::{refusal, writer, Book, Draft, Message, Place, Refusal};
-use crate::raw::Counted;
 use crate::report::same;
+use plain::{refusal, writer, Book, Draft, Message, Place, Refusal};
+use siphonbard::ffi::Counted;
 
 /// The memories that the buffers of a call are lent from.
 pub struct Desk<M> {

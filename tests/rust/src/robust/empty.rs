@@ -4,8 +4,8 @@
 use super::exports::{check_book, Lent, Way, FREE, STREAM};
 use super::guarded::{Guarded, Side};
 use super::memory::{holds, input, room, Memory};
-use crate::raw::{Checked, Counted, Found};
 use crate::report::{same, Report};
+use siphonbard::ffi::{Checked, Counted, Found};
 
 /// Book A of the rules.
 const BOOK: [u16; 37] = [
@@ -75,15 +75,15 @@ struct Call {
 /// Number and place, and then a count, a record or zeros.
 type Answer = [u64; 5];
 
-fn refused(way: &Way, name: &'static str, answer: impl Into<Answer>, number: u64, place: u64) -> Call {
-    Call { way: way.name, name, answer: answer.into(), expected: [number, place, 0, 0, 0] }
+fn refused(way: &Way, name: &'static str, reply: impl Reply, number: u64, place: u64) -> Call {
+    Call { way: way.name, name, answer: reply.answer(), expected: [number, place, 0, 0, 0] }
 }
 
 /// Each buffer but the book's. M without steps has its first field; without its pool the last record is at fault.
 fn calls(way: &Way, full: &Buffers, at: usize) -> Vec<Call> {
     let (none, nothing) = (Lent::empty(at), Lent::empty(at));
     let &Buffers { book, message, steps, listing, numbers, octets } = full;
-    let first = way.place(book, message, nothing, FIELD).into();
+    let first = way.place(book, message, nothing, FIELD).answer();
     let write = |listing, pool, octets| way.write(book, 1, listing, pool, octets);
     vec![
         refused(way, "check, message", way.check(book, none), 10, 0),
@@ -122,21 +122,24 @@ fn calls_without_book(full: &Buffers, at: usize) -> Vec<Call> {
     ]
 }
 
-impl From<Checked> for Answer {
-    fn from(checked: Checked) -> Answer {
-        [checked.number, checked.place, 0, 0, 0]
+trait Reply {
+    fn answer(self) -> Answer;
+}
+
+impl Reply for Checked {
+    fn answer(self) -> Answer {
+        [self.number, self.place, 0, 0, 0]
     }
 }
 
-impl From<Counted> for Answer {
-    fn from(counted: Counted) -> Answer {
-        [counted.number, counted.place, counted.count, 0, 0]
+impl Reply for Counted {
+    fn answer(self) -> Answer {
+        [self.number, self.place, self.count, 0, 0]
     }
 }
 
-impl From<Found> for Answer {
-    fn from(found: Found) -> Answer {
-        let [first, second, third] = found.record;
-        [found.number, found.place, first, second, third]
+impl Reply for Found {
+    fn answer(self) -> Answer {
+        [self.number, self.place, self.first, self.second, self.third]
     }
 }

@@ -1,7 +1,8 @@
 //! The eleven exports by pointers and lengths alone, and what they return for an answer.
 
-use crate::plain::{Record, Refusal};
-use crate::raw::{self, Checked, Counted, Found};
+use crate::raw;
+use plain::{Record, Refusal};
+use siphonbard::ffi::{self, Checked, Counted, Found};
 
 /// A buffer as the exports take it. Who makes one sees to it that its elements are there while it is used.
 #[derive(Clone, Copy)]
@@ -29,26 +30,26 @@ pub struct Way {
 
 pub static FREE: Way = Way {
     name: "library",
-    check: raw::siphonbard_check,
-    measure: raw::siphonbard_measure,
-    list: raw::siphonbard_list,
-    place: raw::siphonbard_place,
-    write: raw::siphonbard_write,
+    check: ffi::siphonbard_check,
+    measure: ffi::siphonbard_measure,
+    list: ffi::siphonbard_list,
+    place: ffi::siphonbard_place,
+    write: ffi::siphonbard_write,
 };
 
 pub static STREAM: Way = Way {
     name: "library, book checked once",
-    check: raw::siphonbard_stream_check,
-    measure: raw::siphonbard_stream_measure,
-    list: raw::siphonbard_stream_list,
-    place: raw::siphonbard_stream_place,
-    write: raw::siphonbard_stream_write,
+    check: ffi::siphonbard_stream_check,
+    measure: ffi::siphonbard_stream_measure,
+    list: ffi::siphonbard_stream_list,
+    place: ffi::siphonbard_stream_place,
+    write: ffi::siphonbard_stream_write,
 };
 
 // SAFETY, of all calls: each pointer is lent with the number of its elements, and rooms have memory of their own.
 
 pub fn check_book(book: Lent<u8>) -> Checked {
-    unsafe { raw::siphonbard_check_book(book.start, book.len) }
+    unsafe { ffi::siphonbard_check_book(book.start, book.len) }
 }
 
 impl Way {
@@ -91,5 +92,6 @@ pub fn counted(answer: Result<usize, Refusal>) -> Counted {
 
 pub fn found(answer: Result<Record, Refusal>) -> Found {
     let (number, place) = verdict(&answer);
-    Found { number, place, record: answer.unwrap_or([0; 3]) }
+    let [first, second, third] = answer.unwrap_or([0; 3]);
+    Found { number, place, first, second, third }
 }

@@ -1,9 +1,8 @@
 //! Random cases by the makers of `random`, most of them damaged.
 
 use super::cases::{Asked, Case};
-use crate::plain::{Book, Message, LONGEST};
-use crate::random::rng::Rng;
 use crate::random::{books, borders, damage, faults, listings, messages, places};
+use plain::{Book, Message, Rng, LONGEST};
 
 /// Messages for each book, and listings.
 const MESSAGES: usize = 6;

@@ -1,6 +1,6 @@
 //! The schema book as a tree, read from its octets: refusals 1 to 4. `rules` has 5 and 6.
 
-use super::{refusal, rules, word, Refusal, NULL16};
+use crate::{refusal, rules, word, Refusal, NULL16};
 
 #[derive(Clone, Debug, PartialEq, Eq)]
 pub struct Book {

@@ -1,6 +1,6 @@
 //! A message from a listing: refusals 50 to 55.
 
-use super::{refusal, Block, Book, Field, Record, Refusal, LONGEST};
+use crate::{refusal, Block, Book, Field, Record, Refusal, LONGEST};
 
 /// What a message is to be written from: a template id, a listing, and the pool that its starts refer to.
 #[derive(Clone, Debug)]

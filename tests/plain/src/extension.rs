@@ -1,6 +1,6 @@
 //! When a newer book legally extends an older one.
 
-use super::{Block, Book};
+use crate::{Block, Book};
 
 pub fn extends(newer: &Book, older: &Book) -> bool {
     let added = Added { above: older.version };

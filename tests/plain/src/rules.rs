@@ -1,7 +1,7 @@
 //! The rules of a block that has been read: refusals 5 and 6, and the need of a block.
 
-use super::types::{Type, TYPES};
-use super::{Block, Field, NULL16};
+use crate::types::{Type, TYPES};
+use crate::{Block, Field, NULL16};
 
 impl Field {
     /// Of a field whose type is known.

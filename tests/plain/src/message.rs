@@ -1,6 +1,6 @@
 //! A message by a book: refusals 10 to 20, and where each element's octets stand.
 
-use super::{refusal, word, Block, Book, Refusal, LONGEST, NULL16};
+use crate::{refusal, word, Block, Book, Refusal, LONGEST, NULL16};
 
 /// An accepted message.
 pub struct Message<'a> {

@@ -1,18 +1,21 @@
 //! A reader and a writer in plain Rust, made from the rules' words alone and from nothing of the library: what the
-//! library is compared with. Whatever is clear stands before what is fast.
+//! library is compared with, in tests and benchmark. Whatever is clear stands before what is fast. The random numbers
+//! that both draw from are here too.
 
-pub mod answers;
-pub mod as_written;
-pub mod book;
+mod answers;
+mod as_written;
+mod book;
 pub mod extension;
 pub mod message;
-pub mod rules;
+mod rng;
+mod rules;
 pub mod types;
 pub mod writer;
 
 pub use answers::Place;
 pub use book::{Block, Book, Data, Field, Group, Template};
 pub use message::Message;
+pub use rng::Rng;
 pub use writer::Draft;
 
 /// A number and a place.

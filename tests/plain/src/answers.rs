@@ -1,7 +1,7 @@
 //! What an accepted message says: its listing, the number of its records, and the answer for one place.
 
-use super::message::Part;
-use super::{refusal, Block, Field, Message, Record, Refusal};
+use crate::message::Part;
+use crate::{refusal, Block, Field, Message, Record, Refusal};
 
 const NUMBER: u64 = 0;
 const NULL: u64 = 1;

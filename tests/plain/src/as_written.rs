@@ -1,8 +1,8 @@
 //! Which messages are as the book's own writer has them: read and written back, they are the same octets.
 
-use super::answers::OUT_OF_RANGE;
-use super::message::Part;
-use super::{word, Block, Book, Message};
+use crate::answers::OUT_OF_RANGE;
+use crate::message::Part;
+use crate::{word, Block, Book, Message};
 
 impl Message<'_> {
     /// The book's own version and block lengths, zero padding, and no value out of range.

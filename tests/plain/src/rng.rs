@@ -9,8 +9,8 @@ impl Rng {
         Rng { state: seed }
     }
 
-    /// SplitMix64.
-    pub fn next(&mut self) -> u64 {
+    /// Any 64 bits: SplitMix64.
+    pub fn draw(&mut self) -> u64 {
         self.state = self.state.wrapping_add(0x9e37_79b9_7f4a_7c15);
         let mut z = self.state;
         z = (z ^ (z >> 30)).wrapping_mul(0xbf58_476d_1ce4_e5b9);
@@ -20,7 +20,7 @@ impl Rng {
 
     /// Below `bound`, which is not 0.
     pub fn below(&mut self, bound: usize) -> usize {
-        ((u128::from(self.next()) * bound as u128) >> 64) as usize
+        ((u128::from(self.draw()) * bound as u128) >> 64) as usize
     }
 
     /// Both ends can come.
@@ -41,11 +41,11 @@ impl Rng {
     }
 
     pub fn octet(&mut self) -> u8 {
-        self.next() as u8
+        self.draw() as u8
     }
 
     pub fn octets(&mut self, count: usize) -> Vec<u8> {
-        let mut octets: Vec<u8> = (0..(count + 7) / 8).flat_map(|_| self.next().to_le_bytes()).collect();
+        let mut octets: Vec<u8> = (0..(count + 7) / 8).flat_map(|_| self.draw().to_le_bytes()).collect();
         octets.truncate(count);
         octets
     }

@@ -1,0 +1,54 @@
+"""schema_book: makes schema books from a description in words. make.py shows how; for a book of your own, copy both.
+
+A book is words of 16 bits, least significant octet first. Nothing is judged here: siphonbard_check_book does that."""
+import struct
+
+TYPES = ["char", "int8", "uint8", "int16", "uint16", "int32", "uint32", "int64", "uint64"]
+PRESENCES = ["required", "optional"]
+
+
+def field(id, type, offset, length=1, presence="required", since=0):
+    """Six words. A char or uint8 of a length over 1 is an array: plain octets. The id is a label, such as a FIX tag."""
+    return [id, number(type, TYPES), length, offset, number(presence, PRESENCES), since]
+
+
+def data(id, since=0):
+    """Two words."""
+    return [id, since]
+
+
+def block(length, fields=(), groups=(), datas=()):
+    """The declared length in octets and the numbers of fields, groups and data; then the fields, the data, the groups.
+    Offsets rise, and each field ends before the next begins and within the length. What is between is padding."""
+    rows = [*fields, *datas, *groups]
+    return [length, len(fields), len(groups), len(datas)] + [word for row in rows for word in row]
+
+
+def group(id, block, since=0):
+    """Its id and since, then its block, which has at least one field; the first field has the group's since."""
+    return [id, since] + block
+
+
+def book(schema, version, templates):
+    """The octets of a book with a block for each template id."""
+    return octets(words(schema, version, sorted(templates.items())))
+
+
+def words(schema, version, templates):
+    """The head: schema id, version, number of templates, number of words. The contents, a row for each template, ids
+    rising: its id, the first word of its body, the words in its body. Then the bodies, back to back, each one block."""
+    first = 4 + 3 * len(templates)
+    contents, bodies = [], []
+    for id, body in templates:
+        contents += [id, first + len(bodies), len(body)]
+        bodies += body
+    return [schema, version, len(templates), first + len(bodies)] + contents + bodies
+
+
+def octets(words):
+    return struct.pack("<%dH" % len(words), *words)
+
+
+def number(name, names):
+    """A name's number; a number stands for itself."""
+    return name if isinstance(name, int) else names.index(name)
