@@ -60,7 +60,7 @@ module _ (l pool : List ℕ) where
       → from ≤ len
       → judgeFields l (length pool) fs i ≡ done r → from + length (blockOctets pool len from fs (r .0)) ≡ len
   unfolding judgeFields blockOctets
-  fields-long [] len from i r g h e = rw (length-replicate {A = ℕ} (len - from) 0) (omega arith)
+  fields-long [] len from i r g h e = rw (length-replicate {A = ℕ} (len - from)) (omega arith)
   fields-long (f ∷ fs) len from i r g h e =
       let p = inv-bind _ _ _ e in
       let q = inv-bind _ _ _ (p .next) in
