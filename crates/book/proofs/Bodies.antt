@@ -11,9 +11,7 @@ use Rattle.layout.specs.Result.{Result, _>>=_, asRefusal, done, if_then_else_, 
 use Rattle.layout.specs.Book.{Groups, Shape, Template}
 use Rattle.layout.specs.BookRules.{ContentsRow, contentsGood, eachMust, layoutGood, parseBodies, parseBody}
 use Rattle.layout.specs.BookRules.{parseContents, parseGroups, parseShape, sinceGood, word}
-use Rattle.layout.specs.Writing.{first}
 use Rattle.layout.specs.Contracts.{checked}
-use Rattle.layout.specs.Cases.{Row}
 use Rattle.book.specs.Answers.{allRules, blockOf, bodyOf, firstOf, groupsRules, judged, rowOf, seenOr, shapeRules}
 use Rattle.book.specs.Answers.{verdictOf}
 use Rattle.book.proofs.Groups.{BlockIs, RowIs, block-broken, block-is, row-broken, row-is}

@@ -5,7 +5,7 @@ use mathlib.Core.List.{List}
 use Prim.Native.Nat.{ℕ}
 use Rattle.layout.specs.Result.{Result, _>>=_, done, if_then_else_, must, refused}
 use Rattle.layout.specs.Octets.{wordsOf}
-use Rattle.layout.specs.Book.{Book, Template, size}
+use Rattle.layout.specs.Book.{Book, Template}
 use Rattle.layout.specs.BookRules.{bookOf, eachMust, headGood, layoutGood, parseBodies, parseContents, sinceGood}
 use Rattle.layout.specs.BookRules.{sizeGood, word}
 use Rattle.layout.specs.Contracts.{checked, refusal}

@@ -12,8 +12,6 @@ use Rattle.layout.specs.Octets.{wordsOf}
 use Rattle.layout.specs.Book.{Field, dataSinces, end, fieldSinces}
 use Rattle.layout.specs.BookRules.{contentsGood, fieldAt, fieldsGood, fieldsSince, lengthGood, parseContents}
 use Rattle.layout.specs.BookRules.{parseDatas, parseFields, rising, word}
-use Rattle.layout.specs.Writing.{first}
-use Rattle.layout.specs.Cases.{words}
 use Rattle.book.specs.Answers.{BookHead, allRules, fieldOf, fieldsRules, rulesAre}
 use Rattle.book.proofs.Words.{length-words}
 use Rattle.layout.proofs.Results.{and-left, and-right}

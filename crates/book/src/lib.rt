@@ -4,7 +4,7 @@ use layout::Checked;
 use layout::Refusal;
 ghost use mathlib.Core.Path.{_≡_};
 ghost use mathlib.Core.Bool.{true};
-ghost use Prim.Native.Nat.{_+_, _*_, _/_, _%_, _<_, _≤_};
+ghost use Prim.Native.Nat.{_+_, _*_, _/_, _<_, _≤_};
 ghost use lib.Dec.{leb, ltb, eqb};
 ghost use lib.ListN.{length};
 ghost use Rattle.layout.specs.Result.{_and_, _or_};
@@ -49,12 +49,6 @@ pub enum Row {
 pub enum Body {
     Whole(Rules),
     Broken,
-}
-
-// The first templates that break a rule of 5 and of 6.
-pub struct Faults {
-    pub five: usize,
-    pub six: usize,
 }
 
 // No template has this number.

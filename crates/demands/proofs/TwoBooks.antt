@@ -17,7 +17,6 @@ use Rattle.layout.specs.Values.{Step, Values, entry, nil}
 use Rattle.layout.specs.Message.{blockLength, countGood, readMessage, readRoot, templateId, versionOf}
 use Rattle.layout.specs.Reading.{checkOf, groupHas, hasElement, hasPlace, placeIn, placeOf}
 use Rattle.layout.specs.Extension.{AddsDatas, Extends, ExtendsGroups, ExtendsShape, StandsIn}
-use Rattle.layout.specs.All.{all}
 use Rattle.demands.proofs.Beside.{keptBlock, present-groups, sees-block, sees-groups}
 use Rattle.demands.proofs.Kept.{kept, kept-answer}
 use Rattle.demands.proofs.Needs.{need-adds, present-absent, present-append, present-most}
@@ -25,7 +24,6 @@ use Rattle.demands.proofs.Sees.{Sees, seen-done, sees-bind, sees-done, 
 use Rattle.layout.proofs.Accepted.{accepted, found-holds}
 use Rattle.layout.proofs.Present.{UpTo, present-up, writable}
 use Rattle.layout.proofs.Results.{and-left, and-right, bind-done, inv-bind, inv-must}
-use Rattle.layout.specs.declared.Answer.the-variants.{Group}
 use Rattle.layout.specs.declared.Element.{Element}
 use Rattle.layout.specs.declared.Element as Element
 

@@ -1,21 +1,23 @@
 -- That the definitions and theorems speak of something: B extends A, near misses do not, M could have been written with
 -- A, and the readings that look right are shut out.
-use mathlib.Core.Path.{_≡_, ap, refl, subst, sym}
-use mathlib.Core.Bool.{true}
+use mathlib.Core.Path.{_≡_, _∙_, ap, refl, subst, sym}
+use mathlib.Core.Bool.{false≢true, true}
 use mathlib.Core.List.{List, [], _++_, _∷_}
 use Prim.Native.Nat.{_<_, _^_, suc, zero, ℕ}
 use native.Mathlib.Omega.{arith}
 use lib.ListN.{drop, getD, length, take}
+use lib.Seq.{drop-append-seam}
 use Rattle.layout.specs.Result.{Each, done, if_then_else_}
 use Rattle.layout.specs.Octets.{AllOctets, Numbers64}
-use Rattle.layout.specs.Book.{Book, Data, Field, Groups, Shape, Template, fieldSinces, findTemplate, groupSinces}
-use Rattle.layout.specs.Book.{more, none}
+use Rattle.layout.specs.Book.{Book, Data, Field, Groups, Shape, Template, dataSinces, fieldSinces, findTemplate}
+use Rattle.layout.specs.Book.{groupSinces, more, none}
 use Rattle.layout.specs.BookRules.{bookOf}
 use Rattle.layout.specs.Values.{Values, entry, group, listing, nil}
 use Rattle.layout.specs.Message.{readMessage}
 use Rattle.layout.specs.Reading.{listOf}
 use Rattle.layout.specs.Writing.{writeOf}
-use Rattle.layout.specs.Extension.{AddedGroups, AddsGroups, AllAbove, Extends, ExtendsGroups, ExtendsShape}
+use Rattle.layout.specs.Extension.{AddedGroups, AddsDatas, AddsFields, AddsGroups, AllAbove, Extends}
+use Rattle.layout.specs.Extension.{ExtendsGroups, ExtendsShape}
 use Rattle.layout.specs.All.{all}
 use Rattle.layout.specs.Cases.{bookA, bookB, messageM, minus5}
 use Rattle.layout.specs.Demands.{AsWritten, InRange, OwnBlocks, ValuesInRange, ZeroPadding}
@@ -32,13 +34,11 @@ second44 = record { id = 44; type = 3; length = 1; offset = 4; presence = 1; sin
 abbrev data58 : Data
 data58 = record { id = 58; since = 0 }
 
+abbrev field452 : Field
+field452 = record { id = 452; type = 2; length = 1; offset = 0; presence = 0; since = 0 }
+
 abbrev shape453 : Shape
-shape453 = record {
-  length = 2;
-  fields = record { id = 452; type = 2; length = 1; offset = 0; presence = 0; since = 0 }
-      ∷ [];
-  datas = [];
-}
+shape453 = record { length = 2; fields = field452 ∷ []; datas = [] }
 
 abbrev pub templateA : Template
 templateA =
@@ -64,16 +64,17 @@ shape454 = record {
 }
 
 -- A book of version 1 whose only template has this root block and these groups.
-abbrev newer : ℕ → List Field → Groups → Book
-newer l fs gs = record {
-  schema = 7;
-  version = 1;
-  templates =
-      record { id = 1; shape = record { length = l; fields = fs; datas = data58 ∷ [] }; groups = gs } ∷ [];
-}
+abbrev newer : Shape → Groups → Book
+newer s gs = record { schema = 7; version = 1; templates = record { id = 1; shape = s; groups = gs } ∷ [] }
+
+-- A at version 1 with additions: fields and data of the root block, fields of the group's block, and root groups.
+abbrev grown : List Field → List Data → List Field → Groups → Book
+grown fs ds fs′ gs =
+    newer (record { length = 8; fields = first38 ∷ second44 ∷ fs; datas = data58 ∷ ds })
+    (more 453 0 (record { length = 2; fields = field452 ∷ fs′; datas = [] }) none gs)
 
 abbrev pub treeB : Book
-treeB = newer 8 (first38 ∷ second44 ∷ field45 ∷ []) (more 453 0 shape453 none (more 454 1 shape454 none none))
+treeB = grown (field45 ∷ []) [] [] (more 454 1 shape454 none none)
 
 pub A-is : bookOf bookA ≡ done treeA
 unfolding all
@@ -83,106 +84,209 @@ pub B-is : bookOf bookB ≡ done treeB
 unfolding all
 B-is = refl
 
--- ---- B extends A
+-- ---- B extends A, as does whatever adds young elements where they may be added
 
-pub B-extends-A : Extends treeA treeB
-unfolding Each AddedGroups AddsGroups ExtendsGroups findTemplate if_then_else_
-B-extends-A =
+pub grown-extends-A : (fs : List Field) (ds : List Data) (fs′ : List Field) (gs : Groups)
+    → AllAbove 0 (fieldSinces fs)
+    → AllAbove 0 (dataSinces ds)
+    → AllAbove 0 (fieldSinces fs′)
+    → AddedGroups 0 gs
+    → Extends treeA (grown fs ds fs′ gs)
+unfolding Each AddsGroups ExtendsGroups findTemplate if_then_else_
+grown-extends-A fs ds fs′ gs youngFields youngDatas youngInside youngGroups =
     record {
       schema = refl;
       version = omega arith;
       templates = (
         record {
-          newer = getD (treeB .templates) 0 templateA;
+          newer = getD (grown fs ds fs′ gs .templates) 0 templateA;
           there = refl;
           shape = record {
             longer = omega arith;
-            fields = record { added = field45 ∷ []; first = refl; young = (omega arith, tt) };
-            datas = record { added = []; first = refl; young = tt };
-            inside = λ e. refl;
+            fields = record { added = fs; first = refl; young = youngFields };
+            datas = record { added = ds; first = refl; young = youngDatas };
+            inside = λ e. absurd (false≢true (sym e));
           };
           groups = record {
             sameId = refl;
             sameSince = refl;
             shape = record {
               longer = omega arith;
-              fields = record { added = []; first = refl; young = tt };
+              fields = record { added = fs′; first = refl; young = youngInside };
               datas = record { added = []; first = refl; young = tt };
               inside = λ e. refl;
             };
             inner = refl;
-            rest = (record { young = omega arith; noGroups = refl; noDatas = refl }, tt);
+            rest = youngGroups;
           };
         },
         tt,
       );
     }
 
--- ---- near misses
+pub B-extends-A : Extends treeA treeB
+unfolding Each AddedGroups
+B-extends-A =
+    grown-extends-A _ _ _ _ (omega arith, tt) tt tt
+    (record { young = omega arith; noGroups = refl; noDatas = refl }, tt)
+
+-- ---- near misses: for each rule trees that break it and no other. They are trees of accepted books, but for those
+-- that the rules of since shut out anyway.
 
 -- What an extension of A by such a book would have to be.
-record Would (l : ℕ) (fs : List Field) (gs : Groups) : Type 0 where
-  shape : ExtendsShape 0 true (templateA .shape) (record { length = l; fields = fs; datas = data58 ∷ [] })
+record Would (s : Shape) (gs : Groups) : Type 0 where
+  shape : ExtendsShape 0 true (templateA .shape) s
   groups : ExtendsGroups 0 true (templateA .groups) gs
 
-would : (l : ℕ) (fs : List Field) (gs : Groups) → Extends treeA (newer l fs gs) → Would l fs gs
+would : {s : Shape} {gs : Groups} → Extends treeA (newer s gs) → Would s gs
 unfolding Each findTemplate if_then_else_
-would l fs gs x =
-    let s = x .templates .0 in
-    let t = getD (newer l fs gs .templates) 0 templateA in
-    let q : s .newer ≡ t = cc in
+would {s} {gs} x =
+    let t = x .templates .0 in
+    let q : t .newer ≡ getD (newer s gs .templates) 0 templateA = cc in
     record {
-      shape = subst (λ (y : Template). ExtendsShape 0 true (templateA .shape) (y .shape)) q (s .shape);
-      groups = subst (λ (y : Template). ExtendsGroups 0 true (templateA .groups) (y .groups)) q (s .groups);
+      shape = subst (λ (y : Template). ExtendsShape 0 true (templateA .shape) (y .shape)) q (t .shape);
+      groups = subst (λ (y : Template). ExtendsGroups 0 true (templateA .groups) (y .groups)) q (t .groups);
     }
 
-abbrev groupsA : Groups
-groupsA = more 453 0 shape453 none none
+-- What is added is what follows the older ones.
+follows : {A : Type 0} (old : List A) {new added : List A} → new ≡ old ++ added → added ≡ drop (length old) new
+follows old {added = added} e = sym (ap (drop (length old)) e ∙ drop-append-seam old added)
 
--- an added field with since not above the older version
-abbrev early45 : Field
-early45 = record { id = 45; type = 2; length = 1; offset = 6; presence = 0; since = 0 }
+young-fields : {old new : List Field} → AddsFields 0 old new → AllAbove 0 (fieldSinces (drop (length old) new))
+young-fields {old} a = subst (λ (y : List Field). AllAbove 0 (fieldSinces y)) (follows old (a .first)) (a .young)
 
-pub early-field : ¬ Extends treeA (newer 8 (first38 ∷ second44 ∷ early45 ∷ []) groupsA)
-unfolding Each
-early-field x =
-    let f = would _ _ _ x .shape .fields in
-    let added : f .added ≡ early45 ∷ [] = ap (drop 2) (sym (f .first)) in
-    let young = subst (λ (y : List Field). AllAbove 0 (fieldSinces y)) added (f .young) in
-    omega (arith, young .0)
+young-datas : {old new : List Data} → AddsDatas 0 old new → AllAbove 0 (dataSinces (drop (length old) new))
+young-datas {old} a = subst (λ (y : List Data). AllAbove 0 (dataSinces y)) (follows old (a .first)) (a .young)
 
--- data added inside a group, since above the older version
-abbrev shape453data : Shape
-shape453data = record { length = 2; fields = shape453 .fields; datas = record { id = 59; since = 1 } ∷ [] }
+-- Another root block over A's groups, and other groups under A's root block.
+abbrev rooted : ℕ → List Field → List Data → Book
+rooted l fs ds = newer (record { length = l; fields = fs; datas = ds }) (templateA .groups)
 
-pub data-inside : ¬ Extends treeA (newer 8 (first38 ∷ second44 ∷ []) (more 453 0 shape453data none none))
-unfolding ExtendsGroups
-data-inside x =
-    let d = would _ _ _ x .groups .shape in
-    let none-added : d .datas .added ≡ [] = d .inside refl in
-    let one-added : 1 ≡ length (d .datas .added) = ap length (d .datas .first) in
-    omega (arith, one-added, ap length none-added)
+abbrev grouped : Groups → Book
+grouped gs = newer (templateA .shape) gs
 
--- an added root group with groups of its own
-pub nested-group : ¬ Extends treeA (newer 8 (first38 ∷ second44 ∷ [])
-    (more 453 0 shape453 none (more 454 1 shape454 (more 456 1 shape454 none none) none)))
-unfolding ExtendsGroups AddsGroups AddedGroups groupSinces
-nested-group x =
-    let g = would _ _ _ x .groups .rest .0 in
-    omega (arith, ap (λ (y : Groups). length (groupSinces y)) (g .noGroups))
+-- "the schema id is equal"
+pub other-schema : ¬ Extends treeA (record { schema = 8; version = 1; templates = treeA .templates })
+other-schema x = omega (arith, x .schema)
 
--- a changed word of an older field: its offset
+-- "its version is greater"
+pub same-version : ¬ Extends treeA treeA
+same-version x = omega (arith, x .version)
+
+-- "each older template stands in it": the second of two is missing
+abbrev template2 : Template
+template2 = record { id = 2; shape = templateA .shape; groups = none }
+
+pub missing-template : ¬ Extends (record { schema = 7; version = 0; templates = templateA ∷ template2 ∷ [] })
+    (record { schema = 7; version = 1; templates = templateA ∷ [] })
+unfolding Each findTemplate if_then_else_
+missing-template x =
+    let there = x .templates .1 .0 .there in
+    let z : _≡_ {A = ℕ} 0 1 = cc in
+    omega arith
+
+-- "declared length no smaller"
+pub shorter-block : ¬ Extends treeA (rooted 7 (first38 ∷ second44 ∷ []) (data58 ∷ []))
+shorter-block x = omega (arith, would x .shape .longer)
+
+-- "older fields come first, all six words equal": another offset, a field dropped, and one added in front, by which
+-- sinces fall
 abbrev moved44 : Field
 moved44 = record { id = 44; type = 3; length = 1; offset = 5; presence = 1; since = 0 }
 
-pub changed-word : ¬ Extends treeA (newer 8 (first38 ∷ moved44 ∷ []) groupsA)
-changed-word x =
-    let f = would _ _ _ x .shape .fields in
-    omega (arith, ap (λ (y : List Field). getD y 1 field45 .offset) (f .first))
+pub changed-word : ¬ Extends treeA (rooted 8 (first38 ∷ moved44 ∷ []) (data58 ∷ []))
+changed-word x = omega (arith, ap (λ (y : List Field). getD y 1 field45 .offset) (would x .shape .fields .first))
 
--- a shorter declared length
-pub shorter-block : ¬ Extends treeA (newer 7 (first38 ∷ second44 ∷ []) groupsA)
-shorter-block x = omega (arith, would _ _ _ x .shape .longer)
+pub dropped-field : ¬ Extends treeA (rooted 8 (first38 ∷ []) (data58 ∷ []))
+dropped-field x = omega (arith, ap length (would x .shape .fields .first))
+
+pub field-in-front : ¬ Extends treeA (rooted 8 (field45 ∷ first38 ∷ second44 ∷ []) (data58 ∷ []))
+field-in-front x = omega (arith, ap (λ (y : List Field). getD y 0 field45 .id) (would x .shape .fields .first))
+
+-- "older data likewise": another id, data dropped, and data added in front, by which sinces fall
+abbrev data59 : ℕ → Data
+data59 since = record { id = 59; since = since }
+
+pub changed-data : ¬ Extends treeA (rooted 8 (first38 ∷ second44 ∷ []) (data59 0 ∷ []))
+changed-data x = omega (arith, ap (λ (y : List Data). getD y 0 data58 .id) (would x .shape .datas .first))
+
+pub dropped-data : ¬ Extends treeA (rooted 8 (first38 ∷ second44 ∷ []) [])
+dropped-data x = omega (arith, ap length (would x .shape .datas .first))
+
+pub data-in-front : ¬ Extends treeA (rooted 8 (first38 ∷ second44 ∷ []) (data59 1 ∷ data58 ∷ []))
+data-in-front x = omega (arith, ap (λ (y : List Data). getD y 0 data58 .id) (would x .shape .datas .first))
+
+-- "older groups come first with equal id and since": a group dropped, another id, and another since, which its first
+-- field has not
+pub dropped-group : ¬ Extends treeA (grouped none)
+unfolding ExtendsGroups
+dropped-group x = would x .groups
+
+pub other-group-id : ¬ Extends treeA (grouped (more 454 0 shape453 none none))
+unfolding ExtendsGroups
+other-group-id x = omega (arith, would x .groups .sameId)
+
+pub other-group-since : ¬ Extends treeA (grouped (more 453 1 shape453 none none))
+unfolding ExtendsGroups
+other-group-since x = omega (arith, would x .groups .sameSince)
+
+-- "their blocks extended in turn": a shorter length, and another field
+abbrev field456 : Field
+field456 = record { id = 456; type = 2; length = 1; offset = 1; presence = 0; since = 0 }
+
+pub shorter-inside : ¬ Extends treeA
+    (grouped (more 453 0 (record { length = 1; fields = field452 ∷ []; datas = [] }) none none))
+unfolding ExtendsGroups
+shorter-inside x = omega (arith, would x .groups .shape .longer)
+
+pub changed-inside : ¬ Extends treeA
+    (grouped (more 453 0 (record { length = 2; fields = field456 ∷ []; datas = [] }) none none))
+unfolding ExtendsGroups
+changed-inside x = omega (arith, ap (λ (y : List Field). getD y 0 field45 .id) (would x .groups .shape .fields .first))
+
+-- "every added element's since is above the older version"
+abbrev early45 : Field
+early45 = record { id = 45; type = 2; length = 1; offset = 6; presence = 0; since = 0 }
+
+pub early-field : ¬ Extends treeA (grown (early45 ∷ []) [] [] none)
+unfolding Each
+early-field x = omega (arith, young-fields (would x .shape .fields) .0)
+
+pub early-data : ¬ Extends treeA (grown [] (data59 0 ∷ []) [] none)
+unfolding Each
+early-data x = omega (arith, young-datas (would x .shape .datas) .0)
+
+pub early-inside : ¬ Extends treeA (grown [] [] (field456 ∷ []) none)
+unfolding Each ExtendsGroups
+early-inside x = omega (arith, young-fields (would x .groups .shape .fields) .0)
+
+pub early-group : ¬ Extends treeA (grown [] [] [] (more 454 0 shape453 none none))
+unfolding ExtendsGroups AddsGroups AddedGroups
+early-group x = omega (arith, would x .groups .rest .0 .young)
+
+-- "Inside groups only fields may be added": young data, and a young group, though all inside has the group's since
+pub data-inside : ¬ Extends treeA
+    (grouped (more 453 0 (record { length = 2; fields = field452 ∷ []; datas = data59 1 ∷ [] }) none none))
+unfolding ExtendsGroups
+data-inside x =
+    let d = would x .groups .shape in
+    omega (arith, ap length (d .datas .first), ap length (d .inside refl))
+
+pub group-inside : ¬ Extends treeA (grouped (more 453 0 shape453 (more 454 1 shape454 none none) none))
+unfolding ExtendsGroups AddsGroups groupSinces
+group-inside x = omega (arith, ap (λ (y : Groups). length (groupSinces y)) (would x .groups .inner))
+
+-- "An added root group has no groups and no data": a group in it, and data in the second of two
+pub nested-group : ¬ Extends treeA (grown [] [] [] (more 454 1 shape454 (more 456 1 shape454 none none) none))
+unfolding ExtendsGroups AddsGroups AddedGroups groupSinces
+nested-group x = omega (arith, ap (λ (y : Groups). length (groupSinces y)) (would x .groups .rest .0 .noGroups))
+
+abbrev shape457 : Shape
+shape457 = record { length = 4; fields = shape454 .fields; datas = data59 1 ∷ [] }
+
+pub group-with-data : ¬ Extends treeA (grown [] [] [] (more 454 1 shape454 none (more 457 1 shape457 none none)))
+unfolding ExtendsGroups AddsGroups AddedGroups
+group-with-data x = omega (arith, ap length (would x .groups .rest .1 .0 .noDatas))
 
 -- ---- M could have been written with A, and is written back
 

@@ -35,6 +35,8 @@ module _ (limit : ℕ) where
 
   -- "An added root group has no groups and no data."
   pub record AddedGroup (since : ℕ) (s : Shape) (inner : Groups) : Type 0 where
+    -- Its fields are young, too, where the newer book is accepted: by the rules of since (refusal 6) the first has the
+    -- group's own since, and along fields sinces never fall.
     pub young : limit < since
     pub noGroups : inner ≡ none
     pub noDatas : s .datas ≡ []

@@ -19,7 +19,6 @@ use Rattle.layout.specs.Reading.{groupHas, hasElement, hasPlace}
 use Rattle.layout.specs.Values.{Step, Values, answerAt, elementIn, elementOf, entriesFrom, entriesOf, entry, group}
 use Rattle.layout.specs.Values.{groupOf, groupsIn, nil}
 use Rattle.layout.specs.declared.Answer.{Answer}
-use Rattle.layout.specs.declared.Answer.the-variants.{Group}
 use Rattle.layout.specs.declared.Element as Element
 use Rattle.layout.specs.declared.Element.{Element}
 use Rattle.layout.specs.declared.Found as Found

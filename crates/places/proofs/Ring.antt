@@ -20,7 +20,6 @@ use Rattle.wire.specs.declared.Walked.the-variants as Walked
 use Rattle.walk.specs.Walks.{BlockAt, GoodBlock, groupAt, innerAt, rowAt}
 use Rattle.places.specs.Asks.{Asked, HasRest, Inner, Paired, countOf, groupAsked, groupItself, groupSought}
 use Rattle.places.specs.Asks.{groupTo, inGroup, inRow, numberOf}
-use Rattle.places.specs.declared.Sought.the-variants.{To}
 use Rattle.places.proofs.Steps.{has-element, not-empty, row-halves, row-opens, steps-none, steps-open}
 use Rattle.places.proofs.Along.{Cut, group-good, group-has, group-there, last-row, row-cuts}
 

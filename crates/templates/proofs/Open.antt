@@ -6,7 +6,7 @@ use native.Mathlib.Nat.{zero-add}
 use native.Mathlib.Omega.{arith}
 use borrow.Author.Tests.{leb-true}
 use Rattle.layout.specs.Result.{Result, _>>=_, done, refused}
-use Rattle.layout.specs.Book.{Groups, Shape, end, more, none}
+use Rattle.layout.specs.Book.{Groups, Shape, more, none}
 use Rattle.layout.specs.BookRules.{parseBody, parseGroups, parseShape, word}
 use Rattle.templates.specs.Positions.{IsBlock, IsRow, Opened, OpenedBody, endOf, fieldCount, groupCount, groupsAt}
 use Rattle.templates.specs.Positions.{groupsEnd, groupsFrom, shapeAt, treeOf}

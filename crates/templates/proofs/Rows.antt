@@ -10,10 +10,7 @@ use lib.Dec.{eqb, ltb}
 use borrow.Author.Tests.{eq-eqb, leb-true, ltb-false, ltb-true, ne-eqb}
 use Rattle.layout.specs.Result.{if_then_else_}
 use Rattle.layout.specs.BookRules.{ContentsRow, contentsGood, parseContents, word}
-use Rattle.layout.specs.Writing.{first}
-use Rattle.layout.specs.Cases.{words}
 use Rattle.templates.specs.Lookup.{findRow, placeOf}
-use Rattle.book.proofs.Groups.{after}
 use Rattle.layout.proofs.Results.{and-left, and-right}
 use Rattle.templates.specs.declared.Place.the-variants.{At, Unknown}
 

@@ -1,6 +1,5 @@
 -- Each return is one law of Books, by the tests that led there.
 use mathlib.Core.Path.{sym, _∙_}
-use native.Mathlib.Omega.{arith}
 use borrow.Author.Needs.{needs}
 use borrow.Author.Tests.{leb-true}
 use Rattle.layout.proofs.Results.{and-left, and-right}

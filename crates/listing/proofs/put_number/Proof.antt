@@ -1,5 +1,5 @@
 -- `listing::put_number` meets its contract: a number below 2 ^ 64 has at most 20 digits.
-use Prim.Native.Nat.{ℕ, _^_, _-_, _≤_, _<_}
+use Prim.Native.Nat.{ℕ, _-_, _≤_, _<_}
 use native.Mathlib.Nat.{pow-le-pow-right, lt-of-not-le}
 use native.Mathlib.Omega.{arith}
 use borrow.Author.Needs.{needs}

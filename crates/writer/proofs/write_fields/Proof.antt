@@ -6,7 +6,6 @@ use native.Mathlib.Omega.{arith}
 use borrow.Author.Needs.{needs}
 use lib.ListN.{length, length-replicate, replicate}
 use Rattle.layout.specs.Octets.{wordsOf}
-use Rattle.layout.specs.Book.{end}
 use Rattle.layout.specs.BookRules.{fieldAt, fieldsGood, parseFields, word}
 use Rattle.layout.proofs.Fields.{FieldGood}
 use Rattle.layout.proofs.Results.{and-right}
