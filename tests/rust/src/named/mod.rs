@@ -2,6 +2,7 @@
 //! the library, and of the library with the book checked once.
 
 mod books;
+mod borders;
 mod calls;
 mod largest;
 mod longest;
@@ -31,7 +32,8 @@ pub enum Expected {
 }
 
 pub fn run(report: &mut Report) {
-    let cases = [books::cases(), messages::cases(), readings::cases(), writing::cases(), unwritten::cases()];
+    let cases =
+        [books::cases(), borders::cases(), messages::cases(), readings::cases(), writing::cases(), unwritten::cases()];
     for case in cases.iter().flatten() {
         let outcome = case.ask(&Plain).and_then(|()| case.ask(&Free)).and_then(|()| case.ask(&Stream));
         let input = || format!("{}, book {}, message {}", case.name, hex(&case.book), hex(&case.message));
