@@ -45,11 +45,15 @@ def message(version, root, mills, note):
 OLDER_FILL = message(0, struct.pack("<8siB7x", b"B7-10423", -125, NO_WEEK), [(12, 60), (31, 40)], b"May delivery")
 NEWER_FILL = message(1, struct.pack("<8siB3xI", b"C2-00917", 340, 23, 500), [(12, 100)], b"300 t to come")
 
+ALL_MILLS = [(mill, 2 + mill % 2) for mill in range(1, 41)]
+FORTY_MILLS = message(1, struct.pack("<8siB3xI", b"C2-00918", 335, 24, 2000), ALL_MILLS, b"all mills")
+
 FILES = {
     "books/older.book": OLDER,
     "books/newer.book": NEWER,
     "messages/older_fill.sbe": OLDER_FILL,
     "messages/newer_fill.sbe": NEWER_FILL,
+    "messages/forty_mills.sbe": FORTY_MILLS,
     "messages/cut_fill.sbe": NEWER_FILL[:-1],  # its last octet was lost on the way
 }
 

@@ -78,7 +78,7 @@ extern "C" {
 /* When an entry is not below its group's count. Place: 0. */
 #define SIPHONBARD_REFUSED_ENTRY_MISSING 31
 
-/* When the room is below three numbers per record. Place: 0. */
+/* When the room is below three numbers per record. Place: the number of records. */
 #define SIPHONBARD_REFUSED_ROOM_TOO_SMALL 40
 
 /* When the book has no such template to write. Place: 0. */
@@ -150,15 +150,16 @@ siphonbard_checked siphonbard_check_book(const uint8_t *book, size_t book_len);
 siphonbard_checked siphonbard_check(const uint8_t *book, size_t book_len, const uint8_t *message,
                                     size_t message_len);
 
-/* How many records the message's listing has, or 1 to 20. Its room is three times as many numbers. */
-siphonbard_counted siphonbard_measure(const uint8_t *book, size_t book_len, const uint8_t *message,
-                                      size_t message_len);
-
 /*
  * Lists the message into the room, three numbers a record, and gives how many records there are, or 1 to 40. Per
  * block: a record per field; per group a record and then the block of each entry; a record per data. Numbers of the
  * room past the last record are left as they were; after a refusal all of them are. `room_len` counts numbers, not
  * records.
+ *
+ * The place of SIPHONBARD_REFUSED_ROOM_TOO_SMALL is the number of records, whatever the room: lend three numbers for
+ * each of them, and list again. To ask for that number alone, list into an empty room (`room_len` is 0, and `room` may
+ * be null): one walk checks and counts, so this pays for the checking walk alone. A message without records is
+ * accepted there, with a count of 0. A first room that is large enough for most messages saves them the asking.
  */
 siphonbard_counted siphonbard_list(const uint8_t *book, size_t book_len, const uint8_t *message,
                                    size_t message_len, uint64_t *room, size_t room_len);
@@ -204,11 +205,7 @@ siphonbard_counted siphonbard_write(const uint8_t *book, size_t book_len, uint64
 siphonbard_checked siphonbard_stream_check(const uint8_t *book, size_t book_len, const uint8_t *message,
                                            size_t message_len);
 
-/* How many records the message's listing has, or 10 to 20. */
-siphonbard_counted siphonbard_stream_measure(const uint8_t *book, size_t book_len, const uint8_t *message,
-                                             size_t message_len);
-
-/* Lists the message into the room, or 10 to 40. What is left in the room is as for siphonbard_list. */
+/* Lists the message into the room, or 10 to 40. The room and the place of 40 are as siphonbard_list has them. */
 siphonbard_counted siphonbard_stream_list(const uint8_t *book, size_t book_len, const uint8_t *message,
                                           size_t message_len, uint64_t *room, size_t room_len);
 

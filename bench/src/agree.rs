@@ -21,20 +21,23 @@ pub fn agree<A: Rival, B: Rival>(a: &A, b: &B, workload: &Workload) {
     }
 }
 
-/// What is said of a message: its check, the number of its records twice, and the answer for the place asked for.
+/// What is said of a message: its check, the number of its records, with room for them and without, all its records,
+/// and the answer for the place asked for.
 #[derive(Debug, PartialEq)]
 struct Said {
     check: Result<(), Refusal>,
-    measure: Result<usize, Refusal>,
     list: Result<usize, Refusal>,
+    no_room: Result<usize, Refusal>,
+    list_all: Result<Vec<u64>, Refusal>,
     place: Result<Record, Refusal>,
 }
 
 fn said<R: Rival>(rival: &R, sample: Sample, room: &mut [u64]) -> Said {
     Said {
         check: rival.check(sample.octets).map_err(R::refusal),
-        measure: rival.measure(sample.octets).map_err(R::refusal),
         list: rival.list(sample.octets, room).map_err(R::refusal),
+        no_room: rival.list(sample.octets, &mut []).map_err(R::refusal),
+        list_all: rival.list_all(sample.octets).map_err(R::refusal).map(R::numbers),
         place: rival.place(sample.octets, sample.asked).map_err(R::refusal).map(R::record),
     }
 }

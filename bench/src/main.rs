@@ -24,21 +24,22 @@ const GROWTH: &str = "growth";
 #[derive(Clone, Copy, PartialEq)]
 pub enum Operation {
     Check,
-    Measure,
     List,
+    /// From nothing: into room of the rival's own making.
+    ListAll,
     Place,
     Write,
 }
 
 const OPERATIONS: [Operation; 5] =
-    [Operation::Check, Operation::Measure, Operation::List, Operation::Place, Operation::Write];
+    [Operation::Check, Operation::List, Operation::ListAll, Operation::Place, Operation::Write];
 
 impl Operation {
     pub fn name(self) -> &'static str {
         match self {
             Operation::Check => "check",
-            Operation::Measure => "measure",
             Operation::List => "list",
+            Operation::ListAll => "list_all",
             Operation::Place => "place",
             Operation::Write => "write",
         }
@@ -94,8 +95,8 @@ fn contender<'a, R: Rival>(rival: &'a R, workload: &'a Workload, operation: Oper
     let samples = workload.samples();
     match operation {
         Operation::Check => Contender::new(samples, move |sample, _| rival.check(sample.octets)),
-        Operation::Measure => Contender::new(samples, move |sample, _| rival.measure(sample.octets)),
         Operation::List => Contender::new(samples, move |sample, rooms| rival.list(sample.octets, &mut rooms.numbers)),
+        Operation::ListAll => Contender::new(samples, move |sample, _| rival.list_all(sample.octets)),
         Operation::Place => Contender::new(samples, move |sample, _| rival.place(sample.octets, sample.asked)),
         Operation::Write => {
             let drafts = workload.drafts.iter().collect();

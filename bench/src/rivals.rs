@@ -27,32 +27,35 @@ impl Asked {
 pub trait Rival {
     type Refused;
     type Found;
+    type All;
 
     fn check(&self, message: &[u8]) -> Result<(), Self::Refused>;
-    fn measure(&self, message: &[u8]) -> Result<usize, Self::Refused>;
     fn list(&self, message: &[u8], room: &mut [u64]) -> Result<usize, Self::Refused>;
+    fn list_all(&self, message: &[u8]) -> Result<Self::All, Self::Refused>;
     fn place(&self, message: &[u8], asked: &Asked) -> Result<Self::Found, Self::Refused>;
     fn write(&self, draft: &Draft, room: &mut [u8]) -> Result<usize, Self::Refused>;
 
     /// For comparing; not timed.
     fn refusal(refused: Self::Refused) -> Refusal;
     fn record(found: Self::Found) -> Record;
+    fn numbers(all: Self::All) -> Vec<u64>;
 }
 
 impl Rival for siphonbard::Book<'_> {
     type Refused = siphonbard::Refusal;
     type Found = Answer;
+    type All = Vec<Answer>;
 
     fn check(&self, message: &[u8]) -> Result<(), siphonbard::Refusal> {
         self.check(message)
     }
 
-    fn measure(&self, message: &[u8]) -> Result<usize, siphonbard::Refusal> {
-        self.measure(message)
-    }
-
     fn list(&self, message: &[u8], room: &mut [u64]) -> Result<usize, siphonbard::Refusal> {
         self.list(message, room)
+    }
+
+    fn list_all(&self, message: &[u8]) -> Result<Vec<Answer>, siphonbard::Refusal> {
+        self.list_all(message)
     }
 
     fn place(&self, message: &[u8], asked: &Asked) -> Result<Answer, siphonbard::Refusal> {
@@ -70,27 +73,32 @@ impl Rival for siphonbard::Book<'_> {
     fn record(found: Answer) -> Record {
         found.record()
     }
+
+    fn numbers(all: Vec<Answer>) -> Vec<u64> {
+        all.iter().flat_map(Answer::record).collect()
+    }
 }
 
 impl Rival for plain::Book {
     type Refused = Refusal;
     type Found = Record;
+    type All = Vec<Record>;
 
     fn check(&self, message: &[u8]) -> Result<(), Refusal> {
         Message::read(self, message).map(drop)
     }
 
-    fn measure(&self, message: &[u8]) -> Result<usize, Refusal> {
-        Ok(Message::read(self, message)?.measure() as usize)
-    }
-
     fn list(&self, message: &[u8], room: &mut [u64]) -> Result<usize, Refusal> {
         let records = Message::read(self, message)?.list();
-        let room = room.get_mut(..3 * records.len()).ok_or(plain::refusal(40, 0))?;
+        let room = room.get_mut(..3 * records.len()).ok_or(plain::refusal(40, records.len()))?;
         for (record, room) in records.iter().zip(room.chunks_exact_mut(3)) {
             room.copy_from_slice(record);
         }
         Ok(records.len())
+    }
+
+    fn list_all(&self, message: &[u8]) -> Result<Vec<Record>, Refusal> {
+        Ok(Message::read(self, message)?.list())
     }
 
     fn place(&self, message: &[u8], asked: &Asked) -> Result<Record, Refusal> {
@@ -108,22 +116,27 @@ impl Rival for plain::Book {
     fn record(found: Record) -> Record {
         found
     }
+
+    fn numbers(all: Vec<Record>) -> Vec<u64> {
+        all.concat()
+    }
 }
 
 impl Rival for lean::Book {
     type Refused = lean::Refusal;
     type Found = Record;
+    type All = Vec<u64>;
 
     fn check(&self, message: &[u8]) -> Result<(), lean::Refusal> {
         self.check(message)
     }
 
-    fn measure(&self, message: &[u8]) -> Result<usize, lean::Refusal> {
-        self.measure(message)
-    }
-
     fn list(&self, message: &[u8], room: &mut [u64]) -> Result<usize, lean::Refusal> {
         self.list(message, room)
+    }
+
+    fn list_all(&self, message: &[u8]) -> Result<Vec<u64>, lean::Refusal> {
+        self.list_all(message)
     }
 
     fn place(&self, message: &[u8], asked: &Asked) -> Result<Record, lean::Refusal> {
@@ -140,5 +153,9 @@ impl Rival for lean::Book {
 
     fn record(found: Record) -> Record {
         found
+    }
+
+    fn numbers(all: Vec<u64>) -> Vec<u64> {
+        all
     }
 }

@@ -61,7 +61,7 @@ fn digits(number: f64) -> String {
 }
 
 /// The operations whose growth is shown.
-pub const GROWING: [Operation; 4] = [Operation::List, Operation::Measure, Operation::Write, Operation::Place];
+pub const GROWING: [Operation; 4] = [Operation::List, Operation::Check, Operation::Write, Operation::Place];
 
 /// The library's nanoseconds per message and per octet: a column of times for each operation.
 pub fn growth(workloads: &[Workload], columns: &[Vec<f64>]) {

@@ -21,6 +21,9 @@ static const char *const MILL[] = {"  mill", "  share"};
 /* One octet more than a message may have, so that the library sees one that is too long. A book has fewer. */
 #define LONGEST 65536
 
+/* For how many records there is room at first: more than most fills have. */
+#define FIRST 64
+
 typedef struct {
     size_t len;
     uint8_t octets[LONGEST];
@@ -62,25 +65,24 @@ static const char *const MEANING[] = {
     [SIPHONBARD_REFUSED_MESSAGE_TOO_LONG] = "the message is longer than the room or than 65,535 octets",
 };
 
-/* What the place of a refusal counts; nothing where it is always 0. */
-static const char *counted_in(uint64_t number)
+/* The place of a refusal, by what it counts; nothing where it is always 0. */
+static void show_place(uint64_t number, uint64_t place)
 {
     if (number >= SIPHONBARD_REFUSED_BOOK_BLOCK && number <= SIPHONBARD_REFUSED_BOOK_SINCE)
-        return "in template";
+        printf(" in template %" PRIu64, place);
     if (number >= SIPHONBARD_REFUSED_MESSAGE_SIZE && number <= SIPHONBARD_REFUSED_OCTETS_LEFT_OVER)
-        return "at octet";
+        printf(" at octet %" PRIu64, place);
+    if (number == SIPHONBARD_REFUSED_ROOM_TOO_SMALL)
+        printf(" for %" PRIu64 " records", place);
     if (number >= SIPHONBARD_REFUSED_RECORD_WRONG && number <= SIPHONBARD_REFUSED_ENTRIES_TOO_MANY)
-        return "at record";
-    return NULL;
+        printf(" at record %" PRIu64, place);
 }
 
 /* The refusal: its number and place, in words. */
 static void show_refusal(uint64_t number, uint64_t place)
 {
-    const char *at = counted_in(number);
     printf("refused %" PRIu64, number);
-    if (at)
-        printf(" %s %" PRIu64, at, place);
+    show_place(number, place);
     printf(": %s\n", MEANING[number]);
 }
 
@@ -157,22 +159,33 @@ static void show_fill(const file *book, const uint64_t *listing, size_t count, c
     write_back(book, listing, count, message);
 }
 
-static int read_fill(const file *book, const file *message)
+/* A fill that has more records than there was room for: the refusal's place was how many. */
+static int read_long_fill(const file *book, const file *message, uint64_t records)
 {
-    siphonbard_counted records = siphonbard_measure(book->octets, book->len, message->octets, message->len);
-    if (records.number) {
-        show_refusal(records.number, records.place);
-        return 1;
-    }
-    uint64_t *listing = calloc(records.count + 1, 3 * sizeof *listing);
+    uint64_t *listing = calloc(records, 3 * sizeof *listing);
     if (!listing) {
         perror("no room for the listing");
         return 2;
     }
-    /* Book and message are accepted by now and there is room: this is not refused. */
-    siphonbard_list(book->octets, book->len, message->octets, message->len, listing, 3 * records.count);
-    show_fill(book, listing, records.count, message);
+    /* Book and message were accepted and there is room now: this is not refused. */
+    siphonbard_list(book->octets, book->len, message->octets, message->len, listing, 3 * records);
+    show_fill(book, listing, records, message);
     free(listing);
+    return 0;
+}
+
+static int read_fill(const file *book, const file *message)
+{
+    uint64_t listing[3 * FIRST];
+    siphonbard_counted listed =
+        siphonbard_list(book->octets, book->len, message->octets, message->len, listing, 3 * FIRST);
+    if (listed.number == SIPHONBARD_REFUSED_ROOM_TOO_SMALL)
+        return read_long_fill(book, message, listed.place);
+    if (listed.number) {
+        show_refusal(listed.number, listed.place);
+        return 1;
+    }
+    show_fill(book, listing, listed.count, message);
     return 0;
 }
 

@@ -40,11 +40,13 @@ class Book:
         check_book(*self._book)
 
     def list(self, message):
-        """The records of the message."""
-        count = measure(*self._book, message, len(message)).count
-        room = (Number * (3 * count))()
-        list_into(*self._book, message, len(message), room, len(room))
-        return [tuple(room[at:at + 3]) for at in range(0, len(room), 3)]
+        """The records of the message. Where there are more than FIRST, the refusal's place is how many."""
+        try:
+            return self._list(message, FIRST)
+        except Refused as refused:
+            if refused.number != Refusal.ROOM_TOO_SMALL:
+                raise
+            return self._list(message, refused.place)
 
     def place(self, message, steps, element, number):
         """The record of one place: that of an Element of the block to which the steps lead, by its number there. A step
@@ -59,6 +61,12 @@ class Book:
         written = write(*self._book, template_id, listing, len(listing), pool, len(pool), room, LONGEST)
         return room.raw[:written.count]
 
+    def _list(self, message, most):
+        """The records of the message, into room for so many."""
+        room = (Number * (3 * most))()
+        listed = list_into(*self._book, message, len(message), room, len(room))
+        return [tuple(room[at:at + 3]) for at in range(0, 3 * listed.count, 3)]
+
 
 class Refused(Exception):
     """A call said no: the number of the rule that is broken, a Refusal, and where. As text, in words."""
@@ -70,7 +78,7 @@ class Refused(Exception):
         at = ""
         for first, last, words in COUNTED:
             if first <= self.number <= last:
-                at = " %s %d" % (words, self.place)
+                at = words % self.place
         return "refused %d%s: %s" % (self.number, at, self.number.meaning)
 
 
@@ -111,7 +119,7 @@ class Refusal(enum.IntEnum):
     OCTETS_LEFT_OVER = 20, "octets are left over", "the first of them"
     PLACE_UNKNOWN = 30, "the place has over four steps, or a number that the book lacks", "0"
     ENTRY_MISSING = 31, "an entry is not below its group's count", "0"
-    ROOM_TOO_SMALL = 40, "the room is below three numbers per record", "0"
+    ROOM_TOO_SMALL = 40, "the room is below three numbers per record", "the number of records"
     WRITE_TEMPLATE_UNKNOWN = 50, "the book has no such template to write", "0"
     RECORD_WRONG = (
         51,
@@ -130,14 +138,16 @@ class Refusal(enum.IntEnum):
 
 # The first and the last of the refusals whose place counts templates, octets or records.
 COUNTED = [
-    (Refusal.BOOK_BLOCK, Refusal.BOOK_SINCE, "in template"),
-    (Refusal.MESSAGE_SIZE, Refusal.OCTETS_LEFT_OVER, "at octet"),
-    (Refusal.RECORD_WRONG, Refusal.ENTRIES_TOO_MANY, "at record"),
+    (Refusal.BOOK_BLOCK, Refusal.BOOK_SINCE, " in template %d"),
+    (Refusal.MESSAGE_SIZE, Refusal.OCTETS_LEFT_OVER, " at octet %d"),
+    (Refusal.ROOM_TOO_SMALL, Refusal.ROOM_TOO_SMALL, " for %d records"),
+    (Refusal.RECORD_WRONG, Refusal.ENTRIES_TOO_MANY, " at record %d"),
 ]
 
 # ---- The calls themselves ----
 
 LONGEST = 65535  # octets of a message
+FIRST = 64  # records that a listing has room for at first: more than most messages have
 
 Number = ctypes.c_uint64
 Lent = [ctypes.c_char_p, ctypes.c_size_t]  # octets: bytes are lent as they stand, zeros and all
@@ -179,7 +189,6 @@ FOLDER = os.path.dirname(os.path.abspath(__file__))
 LIBRARY = ctypes.CDLL(os.environ.get("SIPHONBARD_SO") or FOLDER + "/../../target/examples/libsiphonbard.so")
 
 check_book = call("check_book", Checked, *Lent)
-measure = call("stream_measure", Counted, *Lent, *Lent)
 list_into = call("stream_list", Counted, *Lent, *Lent, *LentNumbers)
 answer_at = call("stream_place", Found, *Lent, *Lent, *LentNumbers, Number, Number)
 write = call("stream_write", Counted, *Lent, Number, *LentNumbers, *Lent, *Lent)

@@ -14,13 +14,7 @@ pub struct Root<'a> {
 
 impl Book {
     pub fn check(&self, message: &[u8]) -> Result<(), Refusal> {
-        self.measure(message).map(drop)
-    }
-
-    /// How many records the message's listing has.
-    pub fn measure(&self, message: &[u8]) -> Result<usize, Refusal> {
-        let root = Root::read(self, message)?;
-        root.records(message)
+        Root::read(self, message)?.records(message).map(drop)
     }
 }
 
@@ -55,6 +49,7 @@ impl<'a> Root<'a> {
         Ok(Root { view, block, length, surplus_groups, surplus_data })
     }
 
+    /// Refusals 16 to 20, and how many records there are.
     #[inline(always)]
     pub fn records(&self, message: &[u8]) -> Result<usize, Refusal> {
         let mut walk = Walk::new(self.view, message);

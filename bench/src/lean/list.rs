@@ -11,16 +11,32 @@ impl Book {
     pub fn list(&self, message: &[u8], room: &mut [u64]) -> Result<usize, Refusal> {
         let root = Root::read(self, message)?;
         let records = root.records(message)?;
-        let room = room.get_mut(..3 * records).ok_or_else(|| refusal(40, 0))?;
-        let mut store = Store { view: root.view, message, at: HEADER, room };
-        store.block(root.block, root.length);
-        store.groups(root.block);
-        for _ in 0..root.surplus_groups {
+        let room = room.get_mut(..3 * records).ok_or_else(|| refusal(40, records))?;
+        root.store(message, room);
+        Ok(records)
+    }
+
+    /// All records of the message, three numbers each.
+    pub fn list_all(&self, message: &[u8]) -> Result<Vec<u64>, Refusal> {
+        let root = Root::read(self, message)?;
+        let mut room = vec![0; 3 * root.records(message)?];
+        root.store(message, &mut room);
+        Ok(room)
+    }
+}
+
+impl Root<'_> {
+    /// The records, into as much room as they have.
+    #[inline(always)]
+    fn store(&self, message: &[u8], room: &mut [u64]) {
+        let mut store = Store { view: self.view, message, at: HEADER, room };
+        store.block(self.block, self.length);
+        store.groups(self.block);
+        for _ in 0..self.surplus_groups {
             let (length, entries) = store.dimension();
             store.at += length * entries;
         }
-        store.data(root.block);
-        Ok(records)
+        store.data(self.block);
     }
 }
 

@@ -1,5 +1,6 @@
 //! A reader and a writer in safe Rust, made for speed under the library's own contract. The book is compiled once into
-//! flat tables; no call allocates; one pass checks and counts, another stores, so that a refused call alters nothing.
+//! flat tables; no call allocates but `list_all`, what it gives; one pass checks and counts, another stores, so that a
+//! refused call alters nothing.
 
 mod book;
 mod check;

@@ -3,6 +3,9 @@ use crate::{answers, ffi, Answer, Element, Listing, Refusal, Step};
 /// The longest message, in octets.
 const LONGEST: usize = 65535;
 
+/// For how many records `list_all` has room at first: more than most messages have.
+const FIRST: usize = 64;
+
 /// A schema book that was checked: for many messages by one book.
 ///
 /// The octets stay borrowed, so that they are what was checked, and no message pays for the book again. The methods
@@ -36,21 +39,24 @@ impl<'a> Book<'a> {
         ffi::stream_check(self, message)
     }
 
-    /// How many records the message's listing has, or 10 to 20.
-    pub fn measure(&self, message: &[u8]) -> Result<usize, Refusal> {
-        ffi::stream_measure(self, message)
-    }
-
     /// Lists the message into the room, as [`crate::list`] does, or 10 to 40.
     pub fn list(&self, message: &[u8], room: &mut [u64]) -> Result<usize, Refusal> {
         ffi::stream_list(self, message, room)
     }
 
-    /// All answers of the message, in the order of its listing, or 10 to 20.
+    /// All answers of the message, in the order of its listing, or 10 to 20. One call of the library lists a message of
+    /// up to 64 records; of a longer one the first call tells how many there are, and a second one lists them.
     pub fn list_all(&self, message: &[u8]) -> Result<Vec<Answer>, Refusal> {
-        let mut room = vec![0; self.measure(message)? * 3];
-        self.list(message, &mut room)?;
-        Ok(answers(&room).collect())
+        let mut first = [0; 3 * FIRST];
+        match self.list(message, &mut first) {
+            Ok(records) => Ok(all(&first[..3 * records])),
+            Err(Refusal { number: Refusal::ROOM_TOO_SMALL, place: records }) => {
+                let mut room = vec![0; 3 * records];
+                self.list(message, &mut room)?;
+                Ok(all(&room))
+            }
+            Err(refusal) => Err(refusal),
+        }
     }
 
     /// What stands at one place of the message, or 10 to 31.
@@ -76,4 +82,11 @@ impl<'a> Book<'a> {
     pub fn write_listing(&self, template_id: u16, listing: &Listing) -> Result<Vec<u8>, Refusal> {
         self.write_all(template_id, listing.numbers(), listing.pool())
     }
+}
+
+/// The answers that a listing stands for, in room for exactly so many.
+fn all(listing: &[u64]) -> Vec<Answer> {
+    let mut all = Vec::with_capacity(listing.len() / 3);
+    all.extend(answers(listing));
+    all
 }

@@ -12,8 +12,8 @@
 
 mod safe;
 
-pub(crate) use safe::{check, check_book, list, measure, place, write};
-pub(crate) use safe::{stream_check, stream_list, stream_measure, stream_place, stream_write};
+pub(crate) use safe::{check, check_book, list, place, write};
+pub(crate) use safe::{stream_check, stream_list, stream_place, stream_write};
 
 /// The verdict of a check.
 #[repr(C)]
@@ -58,9 +58,8 @@ extern "C" {
     pub fn siphonbard_check_book(book: *const u8, book_len: usize) -> Checked;
     /// Whether the message is one of the book's: accepted, or 1 to 20.
     pub fn siphonbard_check(book: *const u8, book_len: usize, message: *const u8, message_len: usize) -> Checked;
-    /// How many records the message's listing has, or 1 to 20.
-    pub fn siphonbard_measure(book: *const u8, book_len: usize, message: *const u8, message_len: usize) -> Counted;
-    /// Lists the message into the room, or 1 to 40. `room_len` counts numbers, three a record.
+    /// Lists the message into the room, or 1 to 40; the place of 40 is the number of records. `room_len` counts
+    /// numbers, three a record.
     pub fn siphonbard_list(
         book: *const u8,
         book_len: usize,
@@ -97,13 +96,6 @@ extern "C" {
     /// [`siphonbard_check`] by a book that was accepted before: accepted, or 10 to 20.
     pub fn siphonbard_stream_check(book: *const u8, book_len: usize, message: *const u8, message_len: usize)
         -> Checked;
-    /// [`siphonbard_measure`] by a book that was accepted before, or 10 to 20.
-    pub fn siphonbard_stream_measure(
-        book: *const u8,
-        book_len: usize,
-        message: *const u8,
-        message_len: usize,
-    ) -> Counted;
     /// [`siphonbard_list`] by a book that was accepted before, or 10 to 40.
     pub fn siphonbard_stream_list(
         book: *const u8,

@@ -55,18 +55,35 @@ pub fn check(book: &[u8], message: &[u8]) -> Result<(), Refusal> {
     ffi::check(book, message)
 }
 
-/// How many records the message's listing has, or 1 to 20.
-pub fn measure(book: &[u8], message: &[u8]) -> Result<usize, Refusal> {
-    ffi::measure(book, message)
-}
-
 /// Lists the message into the room, three numbers a record ([`answers`] reads them), and gives how many records
 /// there are; or 1 to 40. The room past the last record is left as it was; after a refusal all of it is.
+///
+/// The place of [`Refusal::ROOM_TOO_SMALL`] is the number of records, whatever the room: lend three numbers for each of
+/// them, and list again. To ask for that number alone, list into an empty room. One walk checks and counts, so this
+/// pays for the checking walk alone; a message without records is accepted there, with 0.
+///
+/// ```
+/// use siphonbard::{list, Refusal};
+///
+/// # let words: [u16; 37] = [
+/// #     7, 0, 1, 37, 1, 7, 30, 8, 2, 1, 1, 38, 6, 1, 0, 0, 0, 44, 3, 1, 4, 1, 0, 58, 0, 453, 0, 2, 1, 0, 0, 452, 2,
+/// #     1, 0, 0, 0,
+/// # ];
+/// # let book: Vec<u8> = words.iter().flat_map(|word| word.to_le_bytes()).collect();
+/// # let message = b"\x08\0\x01\0\x07\0\0\0\x01\0\x01\0\xe8\x03\0\0\xfb\xff\0\0\x02\0\x02\0\x01\0\x03\0\x02\0ab";
+/// // The book and the message of the crate's page.
+/// let refusal = list(&book, message, &mut []).unwrap_err();
+/// assert_eq!(refusal, Refusal { number: Refusal::ROOM_TOO_SMALL, place: 6 });
+///
+/// let mut room = vec![0; 3 * refusal.place];
+/// assert_eq!(list(&book, message, &mut room)?, 6);
+/// # Ok::<(), siphonbard::Refusal>(())
+/// ```
 pub fn list(book: &[u8], message: &[u8], room: &mut [u64]) -> Result<usize, Refusal> {
     ffi::list(book, message, room)
 }
 
-/// All answers of the message, in the order of its listing, or 1 to 20.
+/// All answers of the message, in the order of its listing, or 1 to 20. See [`Book::list_all`].
 pub fn list_all(book: &[u8], message: &[u8]) -> Result<Vec<Answer>, Refusal> {
     Book::checked(book)?.list_all(message)
 }

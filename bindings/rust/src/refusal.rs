@@ -4,8 +4,9 @@ use std::fmt;
 /// A call said no: the number of the rule that is broken, and where.
 ///
 /// 1 to 6 are the book's (the place is 0, or a template's number from 4 on), 10 to 20 the message's (the place is
-/// an offset in it), 30 and 31 those of a place asked for, 40 that of a listing's room, 50 to 55 those of writing (the
-/// place is 0, or a record's number from 51 to 54). A refused call altered nothing.
+/// an offset in it), 30 and 31 those of a place asked for, 40 that of a listing's room (the place is the number of
+/// records), 50 to 55 those of writing (the place is 0, or a record's number from 51 to 54). A refused call altered
+/// nothing.
 ///
 /// ```
 /// use siphonbard::{check_book, Refusal};
@@ -22,7 +23,7 @@ use std::fmt;
 pub struct Refusal {
     /// Which rule.
     pub number: u8,
-    /// Where: 0, a template's number, an offset in the message, or a record's number.
+    /// Where: 0, a template's number, an offset in the message, or a record's number; of 40 the number of records.
     pub place: usize,
 }
 
@@ -76,7 +77,7 @@ refusals! {
     OCTETS_LEFT_OVER = 20, "octets are left over", "the first of them";
     PLACE_UNKNOWN = 30, "the place has over four steps, or a number that the book lacks", "0";
     ENTRY_MISSING = 31, "an entry is not below its group's count", "0";
-    ROOM_TOO_SMALL = 40, "the room is below three numbers per record", "0";
+    ROOM_TOO_SMALL = 40, "the room is below three numbers per record", "the number of records";
     WRITE_TEMPLATE_UNKNOWN = 50, "the book has no such template to write", "0";
     RECORD_WRONG = 51, "a record is missing, left over, partial or of the wrong kind, or an unused number is not 0",
         "the record's number";
@@ -89,13 +90,15 @@ refusals! {
 
 impl fmt::Display for Refusal {
     fn fmt(&self, f: &mut fmt::Formatter) -> fmt::Result {
-        let at = match self.number {
-            Refusal::BOOK_BLOCK..=Refusal::BOOK_SINCE => " in template ",
-            Refusal::MESSAGE_SIZE..=Refusal::OCTETS_LEFT_OVER => " at octet ",
-            Refusal::RECORD_WRONG..=Refusal::ENTRIES_TOO_MANY => " at record ",
-            _ => return write!(f, "refused {}: {}", self.number, self.meaning()),
-        };
-        write!(f, "refused {}{}{}: {}", self.number, at, self.place, self.meaning())
+        write!(f, "refused {}", self.number)?;
+        match self.number {
+            Refusal::BOOK_BLOCK..=Refusal::BOOK_SINCE => write!(f, " in template {}", self.place)?,
+            Refusal::MESSAGE_SIZE..=Refusal::OCTETS_LEFT_OVER => write!(f, " at octet {}", self.place)?,
+            Refusal::ROOM_TOO_SMALL => write!(f, " for {} records", self.place)?,
+            Refusal::RECORD_WRONG..=Refusal::ENTRIES_TOO_MANY => write!(f, " at record {}", self.place)?,
+            _ => {}
+        }
+        write!(f, ": {}", self.meaning())
     }
 }
 

@@ -1,7 +1,7 @@
 -- The demands, said of the calls: of what each returns and leaves in the room that it was lent, which is what its
 -- contract is about (crates/layout/specs/Contracts.antt). `ChecksBook` is the contract of book::check; `Checks`,
--- `Measures`, `Lists`, `AnswersPlace` and `Writes` are those of reader::check, measure, list, place and write, and of
--- their like in stream. A room is `before` at the call and `after` at the return; r and r′ are what is returned.
+-- `Lists`, `AnswersPlace` and `Writes` are those of reader::check, list, place and write, and of their like in stream.
+-- A room is `before` at the call and `after` at the return; r and r′ are what is returned.
 use mathlib.Core.Path.{_∙_, _≡_, ap, refl, subst, sym}
 use mathlib.Core.Bool.{Bool, false, true}
 use mathlib.Core.List.{List, _++_}
@@ -17,18 +17,18 @@ use Rattle.layout.specs.Book.{Book, Template, findTemplate}
 use Rattle.layout.specs.BookRules.{bookOf}
 use Rattle.layout.specs.Values.{Values, answerAt, listing, measure}
 use Rattle.layout.specs.Message.{readMessage, templateId, versionOf}
-use Rattle.layout.specs.Reading.{checkOf, hasPlace, listOf, measureOf, placeIn, placeOf}
+use Rattle.layout.specs.Reading.{checkOf, hasPlace, listOf, placeIn, placeOf}
 use Rattle.layout.specs.Writing.{judgeListing, messageOctets, writeOf, writtenLength}
 use Rattle.layout.specs.Extension.{Extends}
-use Rattle.layout.specs.Contracts.{AnswersPlace, Checks, ChecksBook, Lists, Measures, Writes, checked, counted, found}
-use Rattle.layout.specs.Contracts.{refusal, roomAfter, stepsOf}
+use Rattle.layout.specs.Contracts.{AnswersPlace, Checks, ChecksBook, Lists, Writes, checked, counted, found, refusal}
+use Rattle.layout.specs.Contracts.{roomAfter, stepsOf}
 use Rattle.layout.specs.Demands.{AsWritten, contents}
 use Rattle.demands.proofs.Numbers.{book-refuses, check-refuses, forty-lacks-room, place-refuses, refuses-with}
 use Rattle.demands.proofs.Numbers.{write-refuses}
-use Rattle.demands.proofs.Outcomes.{Reads, Wrote, accepted-of, answer-of, count-of, counted-listing}
-use Rattle.demands.proofs.Outcomes.{counted-writing, first-is, goes-on, left, measured, no-answer-of, not-listed}
-use Rattle.demands.proofs.Outcomes.{only-tested, refused-listing, refused-of, refused-writing, rest-is}
-use Rattle.demands.proofs.Outcomes.{same-length, stops, was-accepted, was-measured, was-read, writes-on}
+use Rattle.demands.proofs.Outcomes.{Reads, Wrote, accepted-of, answer-of, counted-listing, counted-writing}
+use Rattle.demands.proofs.Outcomes.{first-is, goes-on, left, no-answer-of, not-listed, only-tested}
+use Rattle.demands.proofs.Outcomes.{refused-listing, refused-of, refused-writing, rest-is, same-length, stops}
+use Rattle.demands.proofs.Outcomes.{was-accepted, was-read, writes-on}
 use Rattle.demands.proofs.Theorems.{both-say-the-same, older-accepts, older-answers, read-writes-back}
 use Rattle.demands.proofs.Theorems.{written-length, written-reads-back}
 use Rattle.demands.proofs.Written.{lists-within, written-by}
@@ -54,9 +54,6 @@ checking-a-book-has-one-outcome book r r′ = one-outcome
 
 pub checking-has-one-outcome : (book m : List ℕ) (r r′ : Checked) → Checks book m r → Checks book m r′ → r ≡ r′
 checking-has-one-outcome book m r r′ = one-outcome
-
-pub measuring-has-one-outcome : (book m : List ℕ) (r r′ : Counted) → Measures book m r → Measures book m r′ → r ≡ r′
-measuring-has-one-outcome book m r r′ = one-outcome
 
 pub place-has-one-outcome : (book m steps : List ℕ) (x : Element) (r r′ : Found) → AnswersPlace book m steps x r
     → AnswersPlace book m steps x r′
@@ -117,13 +114,11 @@ refused-book book z c =
     (λ m. rw e refl, λ id l pool before. record { answer = rw e refl; room = rw e refl })
 
 pub refused-message : (book m : List ℕ) (z : Refusal) → Checks book m (Checked.Refused z)
-    → Measures book m (Counted.Refused z)
-    × ((before : List ℕ) → Lists book m before (Counted.Refused z) before)
+    → ((before : List ℕ) → Lists book m before (Counted.Refused z) before)
     × ((steps : List ℕ) (x : Element) → AnswersPlace book m steps x (Found.Refused z))
-unfolding measureOf listOf placeOf placeIn checked counted found roomAfter _>>=_
+unfolding listOf placeOf placeIn checked counted found roomAfter _>>=_
 refused-message book m z c =
     let e = refused-of (checkOf book m) z c in (
-      ap counted (sym (stops book m _ _ _ e)),
       (λ before.
           let l : listOf book m (length before) ≡ refused (z .number) (z .place) = stops book m _ _ _ e in
           record { answer = rw l refl; room = rw l refl }),
@@ -135,7 +130,8 @@ refused-message book m z c =
 
 module _ (book m before after : List ℕ) where
   pub refused-listing-alters-nothing : (z : Refusal) → Lists book m before (Counted.Refused z) after → after ≡ before
-  refused-listing-alters-nothing z c = left before after _ _ _ (c .room) (refused-listing book m before after z c)
+  unfolding roomAfter _>>=_
+  refused-listing-alters-nothing z c = c .room ∙ rw (refused-listing book m before after z c) refl
 
   pub listing-alters-its-records-only : (n : ℕ) → Lists book m before (Counted.Count n) after
       → (drop (3 * n) after ≡ drop (3 * n) before) × (length after ≡ length before)
@@ -175,48 +171,40 @@ module _ (book m : List ℕ) where
   pub one-tree : (t t′ : Values) → Reads book m t → Reads book m t′ → t ≡ t′
   one-tree t t′ q q′ = done-inj (sym (goes-on book m (λ b r. done r) q) ∙ goes-on book m (λ b r. done r) q′)
 
-  pub measuring-counts : (t : Values) → Reads book m t → Measures book m (Counted.Count (measure t))
-  unfolding counted
-  measuring-counts t q = ap counted (sym (measured book m q))
-
   pub listing-lists : (before after : List ℕ) (n : ℕ) → Lists book m before (Counted.Count n) after
       → (t : Values) × Reads book m t × (measure t ≡ n) × (take (3 * n) after ≡ listing t)
   listing-lists before after n c =
       let k = counted-listing book m before after n c in
       (k .values, k .reads, k .count, first-is _ before after (3 * n) (k .long) (k .stores))
 
-  -- "A separate measuring call gives the number of records": so many are listed if there is room for them, and else
-  -- "40: listing room below three numbers per record".
-  pub listing-counts-as-measured : (before after : List ℕ) (n : ℕ) → Lists book m before (Counted.Count n) after
-      → Measures book m (Counted.Count n)
-  listing-counts-as-measured before after n c =
-      let k = counted-listing book m before after n c in
-      ap Counted.Count (sym (k .count)) ∙ measuring-counts (k .values) (k .reads)
-
-  module _ (n : ℕ) (records : Measures book m (Counted.Count n)) (before after : List ℕ) (r : Counted)
+  -- "Listing gives the record count with its answer": so many are listed if there is room for them, and else "40:
+  -- listing room below three numbers per record", whose place is that count.
+  module _ (t : Values) (reads : Reads book m t) (before after : List ℕ) (r : Counted)
       (lists : Lists book m before r after) where
-    pub listing-has-room : 3 * n ≤ length before → r ≡ Counted.Count n
+    pub listing-has-room : 3 * measure t ≤ length before → r ≡ Counted.Count (measure t)
     unfolding counted _>>=_
     listing-has-room h =
-        let e = count-of (measureOf book m) n records in
-        let w = was-measured book m n e in
-        let q = w .1 in
-        let fits = lists-within book m (length before) (q .by) (w .0) (q .accepted) (q .reads) (omega (arith, w .2)) in
-        lists .answer ∙ rw (fits, e) refl
+        lists .answer
+        ∙ rw (lists-within book m (length before) (reads .by) t (reads .accepted) (reads .reads) h) refl
 
-    pub listing-lacks-room : length before < 3 * n → r ≡ Counted.Refused (refusal 40 0)
+    pub listing-lacks-room : length before < 3 * measure t → r ≡ Counted.Refused (refusal 40 (measure t))
     unfolding counted _>>=_
-    listing-lacks-room h =
-        let w = was-measured book m n (count-of (measureOf book m) n records) in
-        lists .answer ∙ rw (not-listed book m (length before) (w .1) (omega (arith, w .2))) refl
+    listing-lacks-room h = lists .answer ∙ rw (not-listed book m (length before) reads h) refl
 
-  -- 40 comes of nothing else.
-  pub listing-only-lacks-room : (before after : List ℕ) (z : Refusal) → Lists book m before (Counted.Refused z) after
-      → z .number ≡ 40
-      → (n : ℕ) × Measures book m (Counted.Count n) × (length before < 3 * n)
-  listing-only-lacks-room before after z c e =
-      let w = forty-lacks-room book m (length before) _ _ (refused-listing book m before after z c) e in
-      (measure (w .0), measuring-counts (w .0) (w .1), w .2)
+  -- 40 comes of nothing else, and a room for as many records as its place says is listed into.
+  module _ (before after : List ℕ) (z : Refusal) (lists : Lists book m before (Counted.Refused z) after)
+      (forty : z .number ≡ 40) where
+    pub listing-only-lacks-room : (t : Values) × Reads book m t × (z .place ≡ measure t)
+        × (length before < 3 * measure t)
+    listing-only-lacks-room =
+        forty-lacks-room book m (length before) _ _ (refused-listing book m before after z lists) forty
+
+    pub listing-tells-its-room : (before′ after′ : List ℕ) (r : Counted) → Lists book m before′ r after′
+        → 3 * z .place ≤ length before′
+        → r ≡ Counted.Count (z .place)
+    listing-tells-its-room before′ after′ r c room =
+        let w = listing-only-lacks-room in
+        listing-has-room (w .0) (w .1) before′ after′ r c (omega (arith, w .2)) ∙ ap Counted.Count (sym (w .2))
 
   pub place-answers : (steps : List ℕ) (x : Element) (a : Answer) → AnswersPlace book m steps x (Found.Is a)
       → (t : Values) × Reads book m t × (answerAt (stepsOf steps) x t ≡ done a)
@@ -302,9 +290,10 @@ module _ (book : List ℕ) (id : ℕ) (l pool before after : List ℕ) where
     unfolding listOf
     read-back =
         let w = written-reads-back book id l pool (length before) (take n after) small (written .gives) in
-        let q = was-read book (take n after) _ (w .0) (w .1) in
-        let is : listing (q .0) ≡ w .0 = done-inj (inv-bind _ _ _ (q .2) .next) in
-        (q .0, q .1, rw is (w .2), rw is (w .3))
+        let q = was-read book (take n after) _ (w .0, w .1) (w .2) in
+        let is : listing (q .0) ≡ w .1 =
+        ap (λ (l : ℕ × List ℕ). l .1) (done-inj (inv-bind _ _ _ (q .2) .next)) in
+        (q .0, q .1, rw is (w .4), rw is (w .5))
 
     pub written-is-accepted : Checks book (take n after) Checked.Accepted
     written-is-accepted = read-is-accepted book (take n after) (read-back .0) (read-back .1)
@@ -318,8 +307,7 @@ module _ (book : List ℕ) (id : ℕ) (l pool before after : List ℕ) where
         let b = read-back in
         let k = measure (b .0) in
         let all : 3 * k ≡ length l = sym (listing-three (b .0)) ∙ b .2 in
-        let records = measuring-counts book m (b .0) (b .1) in
-        let e = listing-has-room book m k records before′ after′ r lists (omega arith) in
+        let e = listing-has-room book m (b .0) (b .1) before′ after′ r lists (omega arith) in
         let same = subst (λ (x : Counted). Lists book m before′ x after′) e lists in
         let q = listing-lists book m before′ after′ k same in
         let is = q .3 ∙ ap listing (one-tree book m (q .0) (b .0) (q .1) (b .1)) in

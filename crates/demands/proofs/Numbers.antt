@@ -19,7 +19,7 @@ use Rattle.layout.specs.Reading.{checkOf, listOf, placeIn, placeOf}
 use Rattle.layout.specs.Writing.{judgeBlock, judgeDatas, judgeEntries, judgeFields, judgeGroups, judgeListing}
 use Rattle.layout.specs.Writing.{judgeNumber, judgeOctets, writeOf}
 use Rattle.layout.specs.Contracts.{checked}
-use Rattle.demands.proofs.Outcomes.{Reads, goes-on, stops, was-accepted}
+use Rattle.demands.proofs.Outcomes.{Reads, goes-on, not-listed, stops, was-accepted}
 use Rattle.demands.proofs.Written.{lists-within}
 use Rattle.layout.proofs.Results.{bind-done, either, inv-bind}
 use Rattle.layout.specs.declared.Element.{Element}
@@ -271,20 +271,26 @@ check-refuses book m b e = rw (e, bind-done) (refuses-bind 10 20 _ _ (message-re
 
 -- 40 is for want of room, of a message that was read.
 pub forty-lacks-room : (book m : List ℕ) (room n p : ℕ) → listOf book m room ≡ refused n p → n ≡ 40
-    → (r : Values) × Reads book m r × (room < 3 * measure r)
+    → (r : Values) × Reads book m r × (p ≡ measure r) × (room < 3 * measure r)
 unfolding listOf checked
 forty-lacks-room book m room n p e is = go (checkOf book m) refl
   where
-    short : (r : Values) → Reads book m r → (t : Bool) → leb (3 * measure r) room ≡ t → room < 3 * measure r
+    short : (r : Values) → Reads book m r → (t : Bool) → leb (3 * measure r) room ≡ t
+        → (p ≡ measure r) × (room < 3 * measure r)
     short r q true h =
         let l = lists-within book m room (q .by) r (q .accepted) (q .reads) (leb-true (3 * measure r) room h) in
         absurd (let y : _≡_ {A = ℕ} 0 1 = cc in omega arith)
-    short r q false h = leb-false (3 * measure r) room h
+    short r q false h =
+        let lacks = leb-false (3 * measure r) room h in
+        let l = not-listed book m room q lacks in
+        (cc, lacks)
 
-    go : (x : Result (Unit {0})) → checkOf book m ≡ x → (r : Values) × Reads book m r × (room < 3 * measure r)
+    go : (x : Result (Unit {0})) → checkOf book m ≡ x
+        → (r : Values) × Reads book m r × (p ≡ measure r) × (room < 3 * measure r)
     go (done u) q =
         let w = was-accepted book m (ap checked (sym q)) in
-        (w .0, w .1, short (w .0) (w .1) (leb (3 * measure (w .0)) room) refl)
+        let s = short (w .0) (w .1) (leb (3 * measure (w .0)) room) refl in
+        (w .0, w .1, s .0, s .1)
     go (refused i j) q =
         let l : listOf book m room ≡ refused i j = stops book m _ i j q in
         let same : i ≡ n = cc in

@@ -5,7 +5,7 @@ use mathlib.Core.Path.{_≡_}
 use mathlib.Core.Bool.{true}
 use mathlib.Core.List.{List}
 use mathlib.Core.Option.{some}
-use Prim.Native.Nat.{_≤_, ℕ}
+use Prim.Native.Nat.{_*_, _≤_, ℕ}
 use lib.ListN.{length}
 use Rattle.layout.specs.Result.{done}
 use Rattle.layout.specs.Octets.{AllOctets, Numbers64}
@@ -31,11 +31,12 @@ use Rattle.layout.specs.declared.Element.{Element}
 pub written-reads-back : (book : List ℕ) (id : ℕ) (l pool : List ℕ) (room : ℕ) (m : List ℕ)
     → Numbers64 l
     → writeOf book id l pool room ≡ done m
-    → (read : List ℕ) × (listOf book m (length l) ≡ done read) × (length read ≡ length l)
+    → (n : ℕ) × (read : List ℕ) × (listOf book m (length l) ≡ done (n, read)) × (3 * n ≡ length l)
+    × (length read ≡ length l)
     × (contents m read ≡ contents pool l)
 written-reads-back book id l pool room m small e =
     let r = reads-again book id l pool room m small (written-by book id l pool room m e) in
-    (r .read, r .lists, r .long, r .same)
+    (r .count, r .read, r .lists, r .all, r .long, r .same)
 
 -- "what is read writes back to the same octets if it carries the book's own version and block lengths, has zero padding
 -- and no value out of range": that is `AsWritten`. "writing back has the message as pool and room for it"

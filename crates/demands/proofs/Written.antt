@@ -207,15 +207,17 @@ written-by book id l pool room m e =
 
 -- What is read of what was written: a listing with the same contents.
 pub record ReadsAgain (book l pool m : List ℕ) : Type 0 where
+  pub count : ℕ
   pub read : List ℕ
-  pub lists : listOf book m (length l) ≡ done read
+  pub lists : listOf book m (length l) ≡ done (count, read)
+  pub all : 3 * count ≡ length l
   pub long : length read ≡ length l
   pub same : contents m read ≡ contents pool l
 
 pub lists-within : (book m : List ℕ) (room : ℕ) (b : Book) (r : Values) → bookOf book ≡ done b
     → readMessage b m ≡ done r
     → 3 * measure r ≤ room
-    → listOf book m room ≡ done (listing r)
+    → listOf book m room ≡ done (measure r, listing r)
 unfolding listOf must _>>=_
 lists-within book m room b r e q h = rw (e, q, le-leb (3 * measure r) room h) refl
 
@@ -231,8 +233,10 @@ reads-again book id l pool room m small w =
     sym (contents-measure m (k .values)) ∙ ap length (k .same) ∙ contents-measure pool (w .said) in
     let all : 3 * measure (k .values) ≡ length l = omega (arith, count, listing-three (w .said), ap length relists) in
     record {
+      count = measure (k .values);
       read = listing (k .values);
       lists = lists-within book m (length l) (w .by) (k .values) (w .good) (k .accepts) (omega arith);
+      all = all;
       long = listing-three (k .values) ∙ all;
       same = listing-says m (k .values) ∙ k .same ∙ sym (listing-says pool (w .said)) ∙ ap (contents pool) relists;
     }

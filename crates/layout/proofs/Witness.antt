@@ -339,11 +339,11 @@ abbrev noEntries : List ℕ
 noEntries = take 20 messageM ++ (2 ∷ 0 ∷ 0 ∷ 0 ∷ []) ++ drop 28 messageM
 
 pub wire-length-steps : listOf bookA wideEntries 6000
-    ≡ done (0 ∷ 1000 ∷ 0 ∷ 0 ∷ minus5 ∷ 0 ∷ 4 ∷ 2 ∷ 0 ∷ 0 ∷ 1 ∷ 0 ∷ 0 ∷ 3 ∷ 0 ∷ 2 ∷ 32 ∷ 2 ∷ [])
+    ≡ done (6, 0 ∷ 1000 ∷ 0 ∷ 0 ∷ minus5 ∷ 0 ∷ 4 ∷ 2 ∷ 0 ∷ 0 ∷ 1 ∷ 0 ∷ 0 ∷ 3 ∷ 0 ∷ 2 ∷ 32 ∷ 2 ∷ [])
 unfolding all
 wire-length-steps = refl
 
 pub empty-group-is-passed : listOf bookA noEntries 6000
-    ≡ done (0 ∷ 1000 ∷ 0 ∷ 0 ∷ minus5 ∷ 0 ∷ 4 ∷ 0 ∷ 0 ∷ 2 ∷ 26 ∷ 2 ∷ [])
+    ≡ done (4, 0 ∷ 1000 ∷ 0 ∷ 0 ∷ minus5 ∷ 0 ∷ 4 ∷ 0 ∷ 0 ∷ 2 ∷ 26 ∷ 2 ∷ [])
 unfolding all
 empty-group-is-passed = refl

@@ -5,7 +5,7 @@ use mathlib.Core.List.{List, [], _∷_, _++_, map}
 use Prim.Native.Nat.{ℕ, _+_, _-_, _/_, _%_, _^_}
 use lib.ListN.{take, set}
 use Rattle.layout.specs.All.{all}
-use Rattle.layout.specs.Result.{Result, done, refused}
+use Rattle.layout.specs.Result.{Result, _>>=_, done, refused}
 use Rattle.layout.specs.Octets.{numberOf}
 use Rattle.layout.specs.Types.{typeAt, valueOf, classify}
 use Rattle.layout.specs.Values.{recordOf}
@@ -72,7 +72,7 @@ pub data Case : Type 0 where
   holds : ℕ → Bool → List ℕ → Case
 
 abbrev pub answer : Case → Result (List ℕ)
-answer (listed b m) = listOf b m 6000
+answer (listed b m) = listOf b m 6000 >>= λ l. done (l .1)
 answer (holds t optional s) = done (recordOf (classify (typeAt t) optional (valueOf (typeAt t) (numberOf s))))
 
 pub record Row : Type 0 where

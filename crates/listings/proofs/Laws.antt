@@ -22,7 +22,7 @@ use Rattle.messages.specs.Whole.{rootEnd, wholeAt}
 use Rattle.store.specs.Prints.{Room, endOf, got, numbersOf}
 use Rattle.store.specs.Stores.{blockPrint}
 use Rattle.store.proofs.Laws.{prints}
-use Rattle.listings.specs.Whole.{ListsAs, listed, measured}
+use Rattle.listings.specs.Whole.{ListsAs, listed}
 
 -- A listing that is refused, whatever for.
 not-listed : (x : Result Values) (room : List ℕ) (n p : ℕ) → listed x (length room) ≡ refused n p
@@ -60,11 +60,11 @@ module _ (b m : List ℕ) (v : ℕ) (wire : OnWire) (room : List ℕ) where
         (end, prints (λ a. a .3) _ _ _ (p .first) ∙ ap (got end) (rw append-nil at (ap listing is)))
 
     -- The room is too small.
-    pub whole-full : length room / 3 < n → ListsAs whole room (Counted.Refused (refusal 40 0)) room
+    pub whole-full : length room / 3 < n → ListsAs whole room (Counted.Refused (refusal 40 n)) room
     unfolding listed _>>=_ must
     whole-full h =
         let full : length room < 3 * measure (read .value) = omega (arith, read .records, h) in
-        not-listed whole room 40 0 (rw (read .is, lt-leb _ _ full) refl)
+        not-listed whole room 40 n (rw (read .is, lt-leb _ _ full, read .records) refl)
 
     module _ (h : n ≤ length room / 3) where
       fits : 3 * measure (read .value) ≤ length room
@@ -81,7 +81,7 @@ module _ (b m : List ℕ) (v : ℕ) (wire : OnWire) (room : List ℕ) where
       -- The root block's records were stored.
       pub whole-stored : (after : List ℕ) → after ≡ sets room 0 (numbersOf (blockPrint b 4 0 m v wire 12))
           → ListsAs whole room (Counted.Count n) after
-      unfolding listed measured _>>=_ must counted roomAfter numbersOf
+      unfolding listed _>>=_ must counted roomAfter numbersOf
       whole-stored after q =
           let laid = rw (block-prints .1) at q ∙ sets-eq (listing (read .value)) room 0 within in
           record {

@@ -9,19 +9,14 @@ use Rattle.layout.specs.Contracts.{counted, roomAfter}
 use Rattle.layout.specs.Values.{Values, listing, measure}
 use Rattle.layout.specs.declared.Counted.{Counted}
 
--- 40; `room` is how many numbers there is room for.
-unfoldable pub listed : Result Values → ℕ → Result (List ℕ)
+-- The number of records and the records, or 40; `room` is how many numbers there is room for.
+unfoldable pub listed : Result Values → ℕ → Result (ℕ × List ℕ)
 listed x room = do
   r ← x
-  _ ← must (leb (3 * measure r) room) 40 0
-  done (listing r)
-
-unfoldable pub measured : Result Values → Result ℕ
-measured x = do
-  r ← x
-  done (measure r)
+  _ ← must (leb (3 * measure r) room) 40 (measure r)
+  done (measure r, listing r)
 
 -- What the call answers of a message that comes to x, and what it leaves in the room.
 pub record ListsAs (x : Result Values) (before : List ℕ) (r : Counted) (after : List ℕ) : Type 0 where
-  pub answer : r ≡ counted (listed x (length before) >>= λ _. measured x)
-  pub room : after ≡ roomAfter (listed x (length before)) before
+  pub answer : r ≡ counted (listed x (length before) >>= λ l. done (l .0))
+  pub room : after ≡ roomAfter (listed x (length before) >>= λ l. done (l .1)) before

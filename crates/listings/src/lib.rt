@@ -14,7 +14,7 @@ ghost use Rattle.messages.specs.Whole.{Within, rootAt, wholeAt};
 ghost use Rattle.listings.specs.Whole.{ListsAs};
 
 // Lists a message by its template's body and by what its root block is on the wire. A walk checks and counts, and then,
-// if there is room, a pass stores.
+// if there is room, a pass stores; else the place of the refusal is the count.
 fn list_whole(body: &[u8], m: &[u8], v: usize, wire: OnWire, room: &mut [u64]) -> Counted
     requires { ⌜ GoodBlock (wordsOf (now body)) 4 0 × Lent (now m) 12 ⌝ }
     requires { ⌜ need v (shapeAt (wordsOf (now body)) 0) ≤ wire .length ⌝ }
@@ -27,7 +27,7 @@ fn list_whole(body: &[u8], m: &[u8], v: usize, wire: OnWire, room: &mut [u64]) -
             if room.len() / 3 < records {
                 return Counted::Refused(Refusal {
                     number: 40,
-                    place: 0,
+                    place: records,
                 });
             }
             store::store_block(body, 0, 4, m, v, wire, room, Cursor { at: 12, n: 0 });

@@ -4,7 +4,7 @@ use layout::Checked;
 use layout::Counted;
 use layout::Element;
 use layout::Found;
-ghost use Rattle.layout.specs.Contracts.{AnswersPlace, Checks, Lists, Measures, Writes};
+ghost use Rattle.layout.specs.Contracts.{AnswersPlace, Checks, Lists, Writes};
 
 // Checks a message.
 pub fn check(book: &[u8], m: &[u8]) -> Checked
@@ -16,17 +16,8 @@ pub fn check(book: &[u8], m: &[u8]) -> Checked
     Checked::Refused(refusal)
 }
 
-// The number of records of a message.
-pub fn measure(book: &[u8], m: &[u8]) -> Counted
-    ensures { λ r. ⌜ Measures (now (book .entry)) (now (m .entry)) r ⌝ }
-{
-    let Checked::Refused(refusal) = book::check(book) else {
-        return stream::measure(book, m);
-    };
-    Counted::Refused(refusal)
-}
-
-// Lists a message: the number of records, which are stored from the room's start.
+// Lists a message: the number of records, which are stored from the room's start. If there is no room for them, the
+// place of the refusal is their number.
 pub fn list(book: &[u8], m: &[u8], room: &mut [u64]) -> Counted
     ensures { λ r. ⌜ Lists (now (book .entry)) (now (m .entry)) (now (room .entry)) r (now (room .exit)) ⌝ }
 {

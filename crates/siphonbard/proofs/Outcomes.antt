@@ -9,11 +9,9 @@ use denote.Triple.Entry.{Args, Res}
 use Rattle.siphonbard.proofs.siphonbard_check as check
 use Rattle.siphonbard.proofs.siphonbard_check_book as check-book
 use Rattle.siphonbard.proofs.siphonbard_list as list
-use Rattle.siphonbard.proofs.siphonbard_measure as measure
 use Rattle.siphonbard.proofs.siphonbard_place as place
 use Rattle.siphonbard.proofs.siphonbard_stream_check as stream-check
 use Rattle.siphonbard.proofs.siphonbard_stream_list as stream-list
-use Rattle.siphonbard.proofs.siphonbard_stream_measure as stream-measure
 use Rattle.siphonbard.proofs.siphonbard_stream_place as stream-place
 use Rattle.siphonbard.proofs.siphonbard_stream_write as stream-write
 use Rattle.siphonbard.proofs.siphonbard_write as write
@@ -38,9 +36,6 @@ siphonbard-check-book-has-one-outcome κs args r r′ left left′ c c′ = (c �
 pub siphonbard-check-has-one-outcome : OneOutcome check.ended check.Reads.Post
 siphonbard-check-has-one-outcome κs args r r′ left left′ c c′ = (c ∙ sym c′, refl)
 
-pub siphonbard-measure-has-one-outcome : OneOutcome measure.ended measure.Reads.Post
-siphonbard-measure-has-one-outcome κs args r r′ left left′ c c′ = (c ∙ sym c′, refl)
-
 pub siphonbard-list-has-one-outcome : OneOutcome list.ended list.Reads.Post
 siphonbard-list-has-one-outcome κs args r r′ left left′ c c′ =
     (c .reply ∙ sym (c′ .reply), ap (λ room. (tt, (tt, (room, tt)))) (c .room ∙ sym (c′ .room)))
@@ -56,9 +51,6 @@ siphonbard-write-has-one-outcome κs args r r′ left left′ c c′ =
 
 pub siphonbard-stream-check-has-one-outcome : OneOutcome stream-check.ended stream-check.Reads.Post
 siphonbard-stream-check-has-one-outcome = siphonbard-check-has-one-outcome
-
-pub siphonbard-stream-measure-has-one-outcome : OneOutcome stream-measure.ended stream-measure.Reads.Post
-siphonbard-stream-measure-has-one-outcome = siphonbard-measure-has-one-outcome
 
 pub siphonbard-stream-list-has-one-outcome : OneOutcome stream-list.ended stream-list.Reads.Post
 siphonbard-stream-list-has-one-outcome = siphonbard-list-has-one-outcome

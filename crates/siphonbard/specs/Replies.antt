@@ -4,7 +4,7 @@ use mathlib.Core.List.{List}
 use Prim.Native.Nat.{ℕ}
 use lib.ListN.{getD, length}
 use Rattle.layout.specs.Result.{Result, done, _>>=_}
-use Rattle.layout.specs.Reading.{listOf, measureOf}
+use Rattle.layout.specs.Reading.{listOf}
 use Rattle.layout.specs.Values.{recordOf}
 use Rattle.layout.specs.Writing.{writeOf}
 use Rattle.layout.specs.Contracts.{checked, counted, found, roomAfter}
@@ -53,8 +53,8 @@ replyFound r = sayFound (found r)
 
 -- A listing into a room that is `before` at the call and `after` at the return.
 pub record RepliesList (book m before : List ℕ) (r : CountedReply) (after : List ℕ) : Type 0 where
-  pub reply : r ≡ replyCounted (listOf book m (length before) >>= λ _. measureOf book m)
-  pub room : after ≡ roomAfter (listOf book m (length before)) before
+  pub reply : r ≡ replyCounted (listOf book m (length before) >>= λ l. done (l .0))
+  pub room : after ≡ roomAfter (listOf book m (length before) >>= λ l. done (l .1)) before
 
 -- A message written for the template `id` from a listing and a pool.
 pub record RepliesWrite (book : List ℕ) (id : ℕ) (l pool before : List ℕ) (r : CountedReply)

@@ -8,7 +8,7 @@ use layout::Refusal;
 ghost use mathlib.Core.Path.{_≡_};
 ghost use Rattle.layout.specs.BookRules.{bookOf};
 ghost use Rattle.layout.specs.Contracts.{stepsOf};
-ghost use Rattle.layout.specs.Reading.{checkOf, measureOf};
+ghost use Rattle.layout.specs.Reading.{checkOf};
 ghost use Rattle.templates.specs.Lookup.{IsBook};
 ghost use Rattle.siphonbard.specs.Replies.{sayChecked, sayCounted, sayFound};
 ghost use Rattle.siphonbard.specs.Replies.{replyChecked, replyCounted, replyFound, RepliesList, RepliesWrite};
@@ -148,14 +148,6 @@ pub extern "C" fn siphonbard_check(book: &[u8], m: &[u8]) -> CheckedReply
     say_checked(reader::check(book, m))
 }
 
-// The number of records of a message.
-#[no_mangle]
-pub extern "C" fn siphonbard_measure(book: &[u8], m: &[u8]) -> CountedReply
-    ensures { λ r. ⌜ r ≡ replyCounted (measureOf (now (book .entry)) (now (m .entry))) ⌝ }
-{
-    say_counted(reader::measure(book, m))
-}
-
 // Lists a message: the number of records, which are stored from the room's start.
 #[no_mangle]
 pub extern "C" fn siphonbard_list(book: &[u8], m: &[u8], room: &mut [u64]) -> CountedReply
@@ -209,15 +201,6 @@ pub extern "C" fn siphonbard_stream_check(book: &[u8], m: &[u8]) -> CheckedReply
     ensures { λ r. ⌜ r ≡ replyChecked (checkOf (now (book .entry)) (now (m .entry))) ⌝ }
 {
     say_checked(stream::check(book, m))
-}
-
-// The number of records of a message.
-#[no_mangle]
-pub extern "C" fn siphonbard_stream_measure(book: &[u8], m: &[u8]) -> CountedReply
-    requires { ⌜ IsBook (now book) ⌝ }
-    ensures { λ r. ⌜ r ≡ replyCounted (measureOf (now (book .entry)) (now (m .entry))) ⌝ }
-{
-    say_counted(stream::measure(book, m))
 }
 
 // Lists a message: the number of records, which are stored from the room's start.

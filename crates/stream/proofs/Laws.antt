@@ -3,11 +3,11 @@ use mathlib.Core.Path.{_≡_, refl, sym, ap, _∙_}
 use mathlib.Core.List.{List}
 use Prim.Native.Nat.{ℕ}
 use lib.ListN.{drop, take}
-use Rattle.layout.specs.Result.{Result, done, refused, _>>=_}
+use Rattle.layout.specs.Result.{Result, refused, _>>=_}
 use Rattle.layout.specs.BookRules.{bookOf, word}
 use Rattle.layout.specs.Octets.{wordsOf}
-use Rattle.layout.specs.Contracts.{Lists, checked, counted}
-use Rattle.layout.specs.Reading.{checkOf, listOf, measureOf, placeIn, placeOf}
+use Rattle.layout.specs.Contracts.{Lists, checked}
+use Rattle.layout.specs.Reading.{checkOf, listOf, placeIn, placeOf}
 use Rattle.layout.specs.Message.{readMessage}
 use Rattle.layout.specs.Values.{Step, Values}
 use Rattle.layout.specs.declared.Element.{Element}
@@ -24,7 +24,7 @@ use Rattle.messages.specs.Whole.{bodyAt, bodyFound, messageOf, rootAt, rootEnd}
 use Rattle.messages.specs.declared.Body.the-variants as Body
 use Rattle.messages.proofs.Laws.{message-found, place-found, place-refused}
 use Rattle.places.specs.Asks.{placeAt}
-use Rattle.listings.specs.Whole.{ListsAs, listed, measured}
+use Rattle.listings.specs.Whole.{ListsAs, listed}
 use Rattle.listings.proofs.Laws.{list-refused}
 
 module _ (s m : List ℕ) where
@@ -44,10 +44,6 @@ module _ (s m : List ℕ) where
     unfolding checkOf checked
     check-refused = ap checked (sym (stops _))
 
-    pub measure-refused : Counted.Refused z ≡ counted (measureOf s m)
-    unfolding measureOf counted
-    measure-refused = ap counted (sym (stops _))
-
   -- ---- the message is walked to its end
 
   module _ (x n : ℕ) (e : To x n ≡ walked (rootEnd m) (messageOf s m)) where
@@ -61,25 +57,17 @@ module _ (s m : List ℕ) where
     unfolding checkOf checked
     check-accepted = ap checked (sym (follows _))
 
-    pub measure-is : Counted.Count n ≡ counted (measureOf s m)
-    unfolding measureOf counted
-    measure-is = ap counted (sym (follows _ ∙ ap done (read .records)))
-
   -- ---- the message is listed
 
-  -- Listing and measuring go on from what the message comes to.
+  -- Listing goes on from what the message comes to.
   list-from : (room : ℕ) → listOf s m room ≡ listed (messageOf s m) room
   unfolding listOf listed
   list-from room = goes-on _ _ refl
 
-  measure-from : measureOf s m ≡ measured (messageOf s m)
-  unfolding measureOf measured
-  measure-from = goes-on _ _ refl
-
   lists : (before : List ℕ) (r : Counted) (after : List ℕ) → ListsAs (messageOf s m) before r after
       → Lists s m before r after
   lists before r after h =
-      record { answer = rw (list-from, measure-from) (h .answer); room = rw list-from (h .room) }
+      record { answer = rw list-from (h .answer); room = rw list-from (h .room) }
 
   -- A listing that is refused, for the book or for the message.
   pub no-listing : (z : Refusal) → messageOf s m ≡ refused (z .number) (z .place) → (room : List ℕ)

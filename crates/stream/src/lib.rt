@@ -10,7 +10,7 @@ use messages::Body;
 use templates::Place;
 use wire::Walked;
 use writer::Head;
-ghost use Rattle.layout.specs.Contracts.{AnswersPlace, Checks, Lists, Measures, Writes};
+ghost use Rattle.layout.specs.Contracts.{AnswersPlace, Checks, Lists, Writes};
 ghost use Rattle.layout.specs.Octets.{wordsOf};
 ghost use mathlib.Core.Path.{_≡_};
 ghost use lib.ListN.{length};
@@ -30,19 +30,8 @@ pub fn check(book: &[u8], m: &[u8]) -> Checked
     Checked::Refused(refusal)
 }
 
-// The number of records of a message.
-pub fn measure(book: &[u8], m: &[u8]) -> Counted
-    requires { ⌜ IsBook (now book) ⌝ }
-    ensures { λ r. ⌜ Measures (now (book .entry)) (now (m .entry)) r ⌝ }
-{
-    match messages::walk(book, m) {
-        Walked::To { records, .. } => Counted::Count(records),
-        Walked::Refused(refusal) => Counted::Refused(refusal),
-    }
-}
-
 // Lists a message: the number of records, which are stored from the room's start. A walk checks and counts, and then,
-// if there is room, a pass stores.
+// if there is room, a pass stores; else the place of the refusal is the number of records.
 pub fn list(book: &[u8], m: &[u8], room: &mut [u64]) -> Counted
     requires { ⌜ IsBook (now book) ⌝ }
     ensures { λ r. ⌜ Lists (now (book .entry)) (now (m .entry)) (now (room .entry)) r (now (room .exit)) ⌝ }

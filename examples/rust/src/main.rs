@@ -2,7 +2,7 @@
 //!
 //! Prints what the fill says, or the refusal. Exit status: 0 read, 1 refused, 2 without two files.
 
-use siphonbard::{answers, Answer, Book, Element, Refusal};
+use siphonbard::{Answer, Book, Element, Refusal};
 use std::ffi::OsString;
 use std::{env, fs, process};
 
@@ -27,26 +27,24 @@ fn main() {
 
 fn read_fill(book: &[u8], message: &[u8]) -> Result<(), Refusal> {
     let book = Book::checked(book)?;
-    let mut listing = vec![0; 3 * book.measure(message)?];
-    book.list(message, &mut listing)?;
+    let records = book.list_all(message)?;
     let quantity = book.place(message, &[], Element::Field(QUANTITY));
     let fields = match quantity {
         Err(Refusal { number: Refusal::PLACE_UNKNOWN, .. }) => &FIELDS[..QUANTITY],
         _ => &FIELDS[..],
     };
-    show(fields, &listing, message);
+    show(fields, &records, message);
     println!("filled quantity, asked alone: {}", said(quantity.map(|answer| words(answer, message))));
-    println!("written back: {}", said(written_back(&book, &listing, message)));
+    println!("written back: {}", said(written_back(&book, &records, message)));
     Ok(())
 }
 
 /// A line for each record of the listing, with its element's name.
-fn show(fields: &[&str], listing: &[u64], message: &[u8]) {
-    let records: Vec<Answer> = answers(listing).collect();
+fn show(fields: &[&str], records: &[Answer], message: &[u8]) {
     let mills = records.get(fields.len()).and_then(Answer::entries).unwrap_or(0) as usize;
     let entries = MILL.iter().cycle().take(2 * mills);
     let names = fields.iter().chain(&["mills"]).chain(entries).chain(&["note"]);
-    for (name, answer) in names.zip(records) {
+    for (name, &answer) in names.zip(records) {
         println!("{name:17}{}", words(answer, message));
     }
 }
@@ -68,9 +66,10 @@ fn text(octets: &[u8]) -> String {
     octets.iter().map(|&octet| if (32..127).contains(&octet) { octet as char } else { '.' }).collect()
 }
 
-/// Writes a message of the book's own version from the listing: is it the message that was read?
-fn written_back(book: &Book, listing: &[u64], message: &[u8]) -> Result<String, Refusal> {
-    let written = book.write_all(FILL, listing, message)?;
+/// Writes a message of the book's own version from the records: is it the message that was read?
+fn written_back(book: &Book, records: &[Answer], message: &[u8]) -> Result<String, Refusal> {
+    let listing: Vec<u64> = records.iter().flat_map(Answer::record).collect();
+    let written = book.write_all(FILL, &listing, message)?;
     let same = if written == message { "the same" } else { "not the same" };
     Ok(format!("{} octets, {same}", written.len()))
 }

@@ -1,4 +1,4 @@
-//! What an accepted message says: its listing, the number of its records, and the answer for one place.
+//! What an accepted message says: its listing, and the answer for one place.
 
 use crate::message::Part;
 use crate::{refusal, Block, Field, Message, Record, Refusal};
@@ -34,16 +34,6 @@ impl Message<'_> {
             }
         }
         records.extend((0..block.data.len()).map(|number| part.data(number)));
-    }
-
-    pub fn measure(&self) -> u64 {
-        fn of_part(block: &Block, part: &Part) -> usize {
-            let groups = block.groups.iter().enumerate().map(|(number, group)| {
-                1 + part.entries(number).iter().map(|entry| of_part(&group.block, entry)).sum::<usize>()
-            });
-            block.fields.len() + groups.sum::<usize>() + block.data.len()
-        }
-        of_part(self.block, &self.root) as u64
     }
 
     pub fn place(&self, place: &Place) -> Result<Record, Refusal> {

@@ -12,6 +12,7 @@ mod readers;
 mod recorded;
 mod report;
 mod robust;
+mod rooms;
 
 use report::Report;
 use std::os::raw::{c_char, c_int};

@@ -8,7 +8,6 @@ use std::ptr;
 
 type Octets = *const u8;
 pub type Check = unsafe extern "C" fn(Octets, usize, Octets, usize) -> Checked;
-pub type Measure = unsafe extern "C" fn(Octets, usize, Octets, usize) -> Counted;
 pub type List = unsafe extern "C" fn(Octets, usize, Octets, usize, *mut u64, usize) -> Counted;
 pub type Place = unsafe extern "C" fn(Octets, usize, Octets, usize, *const u64, usize, u64, u64) -> Found;
 pub type Write = unsafe extern "C" fn(Octets, usize, u64, *const u64, usize, Octets, usize, *mut u8, usize) -> Counted;
@@ -45,6 +44,14 @@ pub fn check_null_book() -> Checked {
 pub fn check_null_message(book: &[u8]) -> Checked {
     // SAFETY: lends one slice; a null pointer with length 0 is an empty buffer.
     unsafe { ffi::siphonbard_check(book.as_ptr(), book.len(), ptr::null(), 0) }
+}
+
+/// Both calls for listing, on a book that was checked: into a room that is a null pointer and length 0.
+pub fn list_nowhere(book: &Book, message: &[u8]) -> [Counted; 2] {
+    let (octets, start, len) = (book.octets(), message.as_ptr(), message.len());
+    // SAFETY: lends two slices; a null pointer with length 0 is an empty buffer; the book was checked.
+    let by = |list: List| unsafe { list(octets.as_ptr(), octets.len(), start, len, ptr::null_mut(), 0) };
+    [by(ffi::siphonbard_list), by(ffi::siphonbard_stream_list)]
 }
 
 /// Both calls for writing, on a book that was checked: the draft by another template id.

@@ -9,7 +9,6 @@ pub trait Reader {
 
     fn check_book(&self, book: &[u8]) -> Result<(), Refusal>;
     fn check(&self, book: &[u8], message: &[u8]) -> Result<(), Refusal>;
-    fn measure(&self, book: &[u8], message: &[u8]) -> Result<u64, Refusal>;
     fn list(&self, book: &[u8], message: &[u8], room: &mut [u64]) -> Result<u64, Refusal>;
     fn place(&self, book: &[u8], message: &[u8], place: &Place) -> Result<Record, Refusal>;
     fn write(&self, book: &[u8], draft: &Draft, room: &mut [u8]) -> Result<usize, Refusal>;
@@ -40,15 +39,10 @@ impl Reader for Plain {
         Message::read(&Book::read(book)?, message).map(drop)
     }
 
-    fn measure(&self, book: &[u8], message: &[u8]) -> Result<u64, Refusal> {
-        Ok(Message::read(&Book::read(book)?, message)?.measure())
-    }
-
     fn list(&self, book: &[u8], message: &[u8], room: &mut [u64]) -> Result<u64, Refusal> {
         let records = Message::read(&Book::read(book)?, message)?.list();
-        let numbers = records.concat();
-        let part = room.get_mut(..numbers.len()).ok_or(refusal(40, 0))?;
-        part.copy_from_slice(&numbers);
+        let part = room.get_mut(..3 * records.len()).ok_or(refusal(40, records.len()))?;
+        part.copy_from_slice(&records.concat());
         Ok(records.len() as u64)
     }
 
@@ -75,10 +69,6 @@ impl Reader for Free {
 
     fn check(&self, book: &[u8], message: &[u8]) -> Result<(), Refusal> {
         siphonbard::check(book, message).map_err(own)
-    }
-
-    fn measure(&self, book: &[u8], message: &[u8]) -> Result<u64, Refusal> {
-        siphonbard::measure(book, message).map(|count| count as u64).map_err(own)
     }
 
     fn list(&self, book: &[u8], message: &[u8], room: &mut [u64]) -> Result<u64, Refusal> {
@@ -113,11 +103,6 @@ impl Reader for Stream {
 
     fn check(&self, book: &[u8], message: &[u8]) -> Result<(), Refusal> {
         siphonbard::Book::checked(book).and_then(|book| book.check(message)).map_err(own)
-    }
-
-    fn measure(&self, book: &[u8], message: &[u8]) -> Result<u64, Refusal> {
-        let counted = siphonbard::Book::checked(book).and_then(|book| book.measure(message));
-        counted.map(|count| count as u64).map_err(own)
     }
 
     fn list(&self, book: &[u8], message: &[u8], room: &mut [u64]) -> Result<u64, Refusal> {

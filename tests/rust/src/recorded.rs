@@ -1,11 +1,11 @@
 //! The recorded cases of `tests/cases`: an input, and the answer that two implementations gave, made apart from each
 //! other.
 //!
-//! A case is an octet for the call (0 list, 1 measure, 2 place, 3 write), a 32-bit length and the input. All numbers
-//! are little-endian. An input begins with the book's octet count, 16 bits, and the book, as the listing program reads
+//! A case is an octet for the call (0 list, 2 place, 3 write), a 32-bit length and the input. All numbers are
+//! little-endian. An input begins with the book's octet count, 16 bits, and the book, as the listing program reads
 //! them. Then, for each call:
 //!
-//! - list, measure: the message.
+//! - list: the message.
 //! - place: an octet, how many steps; a group's number and an entry's for each, 16 bits; an octet for the kind of
 //!   element (0 field, 1 group, 2 data); its number, 16 bits; the message.
 //! - write: template id, 16 bits; octets of room, 32 bits; how many numbers the listing has, 32 bits; these, 64 bits
@@ -15,9 +15,10 @@ use crate::readers::{lent, Free, Plain, Reader, Stream};
 use crate::report::{hex, same, Report};
 use plain::{refusal, word, Draft, Place, Record, Refusal};
 
-const CASES: &[u8] = include_bytes!("../../cases/base.cases");
-const EXPECTED: &str = include_str!("../../cases/base.expected");
+const CASES: &[u8] = include_bytes!("../../cases/onecall.cases");
+const EXPECTED: &str = include_str!("../../cases/onecall.expected");
 
+const LIST: u8 = 0;
 pub const PLACE: u8 = 2;
 pub const WRITE: u8 = 3;
 /// The room of a listing, in numbers: the program's.
@@ -60,10 +61,10 @@ pub fn replay(report: &mut Report) {
 impl Case<'_> {
     fn run(&self, report: &mut Report, reader: &dyn Reader) -> bool {
         let answer = match self.call {
-            0 => list(self.input, reader),
-            1 => measure(self.input, reader),
+            LIST => list(self.input, reader),
+            PLACE => place(self.input, reader),
             WRITE => write(self.input, reader),
-            _ => place(self.input, reader),
+            call => panic!("there is no call {call}"),
         };
         let answer = answer.unwrap_or_else(|no| format!("refused {} {}", no.number, no.place));
         let outcome = same("answer", answer.as_str(), self.expected);
@@ -122,11 +123,6 @@ fn list(mut input: &[u8], reader: &dyn Reader) -> Result<String, Refusal> {
         return Ok("the room past the records is altered".into());
     }
     outcome.map(|_| room[..used].chunks(3).map(line).collect::<Vec<_>>().join("|"))
-}
-
-fn measure(mut input: &[u8], reader: &dyn Reader) -> Result<String, Refusal> {
-    let book = book(&mut input)?;
-    reader.measure(book, input).map(|count| count.to_string())
 }
 
 fn place(mut input: &[u8], reader: &dyn Reader) -> Result<String, Refusal> {

@@ -50,11 +50,6 @@ pub fn check(book: &[u8], message: &[u8]) -> Result<(), Refusal> {
     unsafe { siphonbard_check(book.as_ptr(), book.len(), message.as_ptr(), message.len()) }.result()
 }
 
-pub fn measure(book: &[u8], message: &[u8]) -> Result<usize, Refusal> {
-    // SAFETY: lends two slices.
-    unsafe { siphonbard_measure(book.as_ptr(), book.len(), message.as_ptr(), message.len()) }.result()
-}
-
 pub fn list(book: &[u8], message: &[u8], room: &mut [u64]) -> Result<usize, Refusal> {
     let (start, len) = (room.as_mut_ptr(), room.len());
     // SAFETY: lends three slices, and `room` is borrowed mutably.
@@ -90,12 +85,6 @@ pub fn stream_check(book: &Book, message: &[u8]) -> Result<(), Refusal> {
     let book = book.octets();
     // SAFETY: lends two slices; a `Book` is accepted, and its octets are borrowed since.
     unsafe { siphonbard_stream_check(book.as_ptr(), book.len(), message.as_ptr(), message.len()) }.result()
-}
-
-pub fn stream_measure(book: &Book, message: &[u8]) -> Result<usize, Refusal> {
-    let book = book.octets();
-    // SAFETY: as for `stream_check`.
-    unsafe { siphonbard_stream_measure(book.as_ptr(), book.len(), message.as_ptr(), message.len()) }.result()
 }
 
 pub fn stream_list(book: &Book, message: &[u8], room: &mut [u64]) -> Result<usize, Refusal> {

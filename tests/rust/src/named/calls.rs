@@ -91,6 +91,8 @@ fn words() -> Result<(), String> {
     same("16", said.as_str(), "refused 16 at octet 28: an element runs past the message's end")?;
     let unknown = Refusal { number: 99, place: 0 };
     same("99", (unknown.meaning(), unknown.place_meaning()), ("unknown", "unknown"))?;
+    let said = Refusal { number: 40, place: 6 }.to_string();
+    same("40", said.as_str(), "refused 40 for 6 records: the room is below three numbers per record")?;
     let said = Refusal { number: 54, place: 2 }.to_string();
     same("54", said.as_str(), "refused 54 at record 2: a group has over 65,534 entries")?;
     let said = Refusal { number: 55, place: 0 }.to_string();

@@ -17,13 +17,13 @@ pub fn calls() -> [(&'static str, Call); 4] {
 }
 
 /// Groups of one uint8 in a block of that length.
-fn of_groups(length: u16, count: usize) -> Vec<u8> {
+pub fn of_groups(length: u16, count: usize) -> Vec<u8> {
     let group = Group { id: 1, since: 0, block: fields(length, vec![field(OCTET, 0, 0)]) };
     of(Block { groups: vec![group; count], ..Block::default() })
 }
 
 /// A group of so many entries.
-fn group(entries: u64) -> impl Iterator<Item = Record> {
+pub fn group(entries: u64) -> impl Iterator<Item = Record> {
     [[4, entries, 0]].into_iter().chain((0..entries).map(|entry| [0, entry % 251, 0]))
 }
 

@@ -4,6 +4,7 @@
 mod books;
 mod borders;
 mod calls;
+mod counted;
 mod largest;
 mod longest;
 mod messages;
@@ -13,6 +14,7 @@ mod writing;
 
 use crate::readers::{Free, Plain, Reader, Stream};
 use crate::report::{hex, same, Report};
+use crate::rooms::{self, Listing};
 use plain::{Draft, Place, Record, Refusal};
 
 /// A book, a message (empty where it is not asked about) and the right answer.
@@ -25,23 +27,24 @@ pub struct Case {
 
 pub enum Expected {
     Book(Result<(), Refusal>),
-    Listing(Result<Vec<Record>, Refusal>),
+    /// What is listed into a room of any size.
+    Listing(Listing),
     Place(Place, Result<Record, Refusal>),
     /// What is written into so many octets of room, and the message.
     Written(Draft, usize, Result<Vec<u8>, Refusal>),
 }
 
 pub fn run(report: &mut Report) {
-    let cases =
-        [books::cases(), borders::cases(), messages::cases(), readings::cases(), writing::cases(), unwritten::cases()];
-    for case in cases.iter().flatten() {
+    let read = [books::cases(), borders::cases(), messages::cases(), readings::cases(), counted::cases()];
+    let written = [writing::cases(), unwritten::cases()];
+    for case in read.iter().chain(&written).flatten() {
         let outcome = case.ask(&Plain).and_then(|()| case.ask(&Free)).and_then(|()| case.ask(&Stream));
         let input = || format!("{}, book {}, message {}", case.name, hex(&case.book), hex(&case.message));
         if report.check(outcome, input) {
             println!("ok {}", case.name);
         }
     }
-    let calls = calls::calls().into_iter().chain(largest::calls()).chain(longest::calls());
+    let calls = calls::calls().into_iter().chain(counted::calls()).chain(largest::calls()).chain(longest::calls());
     for (name, call) in calls {
         if report.check(call(), || name.into()) {
             println!("ok {name}");
@@ -49,8 +52,6 @@ pub fn run(report: &mut Report) {
     }
 }
 
-const PATTERN: u64 = 0x1122_3344_5566_7788;
-const ROOM: usize = 100;
 /// In the octets of a room.
 const ONES: u8 = 0xff;
 
@@ -62,15 +63,10 @@ impl Case {
             Expected::Place(place, answer) => same(name, reader.place(book, message, place), *answer),
             Expected::Written(draft, room, written) => self.write(reader, draft, *room, written),
             Expected::Listing(listing) => {
-                let mut room = [PATTERN; ROOM];
-                let listed = reader.list(book, message, &mut room).map(|count| count as usize);
-                let listed = listed.map(|count| room[..3 * count].chunks(3).map(|r| [r[0], r[1], r[2]]).collect());
-                same(name, &listed, listing)?;
-                let past = 3 * listing.as_ref().map_or(0, Vec::len);
-                same(name, &room[past..], &[PATTERN; ROOM][past..])?;
-                let count = listing.as_ref().map(|records| records.len() as u64).map_err(|refused| *refused);
-                same(name, reader.measure(book, message), count)?;
-                same(name, reader.check(book, message), count.map(drop))
+                let verdict = listing.as_ref().map(drop).map_err(|refused| *refused);
+                same(name, reader.check(book, message), verdict)?;
+                let list = |len| rooms::listed(listing, len, |room| reader.list(book, message, room));
+                rooms::every(listing).try_for_each(list).map_err(|failure| format!("{name}, {failure}"))
             }
         }
     }

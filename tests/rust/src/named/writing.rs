@@ -52,7 +52,7 @@ fn padding() -> Vec<u8> {
     rooted("00 07 00 00 00 00 80 00 00 00", 0, "")
 }
 
-fn to_depth_four() -> Vec<Record> {
+pub fn to_depth_four() -> Vec<Record> {
     vec![
         [0, 1, 0],
         [4, 1, 0],
@@ -68,7 +68,7 @@ fn to_depth_four() -> Vec<Record> {
     ]
 }
 
-fn depth_four() -> Vec<u8> {
+pub fn depth_four() -> Vec<u8> {
     let root = "01 00 01 00 07 00 00 00 01 00 00 00 | 01";
     octets(
         &[root, "01 00 01 00 | 02", "01 00 02 00 | 03", "01 00 00 00 | 04", "01 00 01 00 | 05", "01 00 01 00 | 06"]

@@ -5,7 +5,9 @@ use super::seen::Seen;
 use super::written;
 use crate::readers::{own, stream_place, Free, Reader};
 use crate::report::same;
-use plain::{refusal, Book, Message, Place, Record, Refusal, Rng};
+use crate::rooms::{self, Listing};
+use plain::{Book, Message, Place, Refusal, Rng};
+use siphonbard::Answer;
 
 /// A book as both sides have it.
 pub struct BothBooks<'a> {
@@ -26,7 +28,9 @@ impl<'a> BothBooks<'a> {
     }
 }
 
-const PATTERN: u64 = 0x5bd1_e995_0b0e_c0de;
+/// Of so many in 100 messages that are accepted every room is tried, where the largest has not over so many numbers.
+const EVERY: usize = 20;
+const SHORT: usize = 1000;
 
 /// Everything that can be asked of one message.
 pub fn message(rng: &mut Rng, seen: &mut Seen, book: &BothBooks, octets: &[u8]) -> Result<(), String> {
@@ -36,7 +40,6 @@ pub fn message(rng: &mut Rng, seen: &mut Seen, book: &BothBooks, octets: &[u8]) 
     };
     let asked = Asked { book, octets, plain };
     asked.checks(seen)?;
-    asked.measures()?;
     asked.lists(rng, seen)?;
     asked.places(rng, seen)?;
     match &asked.plain {
@@ -67,57 +70,46 @@ impl Asked<'_> {
         }
     }
 
-    fn measures(&self) -> Result<(), String> {
-        let expected = self.expected(|message| message.measure());
-        same("measure", Free.measure(self.book.octets, self.octets), expected)?;
-        match self.book.library {
-            Ok(book) => same("Book::measure", book.measure(self.octets).map(|n| n as u64).map_err(own), expected),
-            Err(_) => Ok(()),
-        }
-    }
-
-    /// Into rooms that are exact, too small by one number, and larger.
+    /// Into rooms that are exact, too small by one number, empty, and larger; of some messages into every room.
     fn lists(&self, rng: &mut Rng, seen: &mut Seen) -> Result<(), String> {
-        let records = self.expected(|message| message.list());
-        let exact = records.as_ref().map_or(6, |records| 3 * records.len());
-        let larger = exact + rng.between(1, 4);
-        for room in [Some(exact), exact.checked_sub(1), Some(larger)].into_iter().flatten() {
-            self.list_into(room, &records, seen)?;
+        let listing = self.expected(|message| message.list());
+        let exact = listing.as_ref().map_or(6, |records| 3 * records.len());
+        if rng.chance(EVERY) && listing.is_ok() && exact <= SHORT {
+            seen.every_room += 1;
+            rooms::every(&listing).try_for_each(|room| self.list_into(room, &listing, seen))?;
         }
-        for record in records.iter().flatten() {
+        for room in [exact, exact.saturating_sub(1), 0, exact + rng.between(1, 4)] {
+            self.list_into(room, &listing, seen)?;
+        }
+        for record in listing.iter().flatten() {
             seen.kind(record[0]);
         }
+        self.lists_all(listing)
+    }
+
+    fn list_into(&self, room: usize, listing: &Listing, seen: &mut Seen) -> Result<(), String> {
+        rooms::listed(listing, room, |room| {
+            let came = Free.list(self.book.octets, self.octets, room);
+            self.count(seen, &came);
+            came
+        })?;
         match self.book.library {
             Ok(book) => {
-                let all = book.list_all(self.octets).map_err(own);
-                let all = all.map(|all| all.iter().map(|answer| answer.record()).collect::<Vec<_>>());
-                same("Book::list_all", all, records)
+                let list = |room: &mut [u64]| book.list(self.octets, room).map(|count| count as u64).map_err(own);
+                rooms::listed(listing, room, list).map_err(|failure| format!("Book, {failure}"))
             }
             Err(_) => Ok(()),
         }
     }
 
-    fn list_into(&self, room: usize, records: &Result<Vec<Record>, Refusal>, seen: &mut Seen) -> Result<(), String> {
-        let mut left = vec![PATTERN; room];
-        let expected = match records {
-            Ok(records) if 3 * records.len() > room => Err(refusal(40, 0)),
-            Ok(records) => {
-                let numbers = left.iter_mut().zip(records.iter().flatten());
-                numbers.for_each(|(number, &record)| *number = record);
-                Ok(records.len() as u64)
-            }
-            Err(refused) => Err(*refused),
-        };
-        let mut lent = vec![PATTERN; room];
-        let came = Free.list(self.book.octets, self.octets, &mut lent);
-        self.count(seen, &came);
-        same("list", (came, &lent), (expected, &left))?;
-        if let Ok(book) = self.book.library {
-            lent.fill(PATTERN);
-            let came = book.list(self.octets, &mut lent).map(|count| count as u64).map_err(own);
-            same("Book::list", (came, &lent), (expected, &left))?;
+    fn lists_all(&self, listing: Listing) -> Result<(), String> {
+        let records = |all: Vec<Answer>| all.iter().map(Answer::record).collect();
+        let all = siphonbard::list_all(self.book.octets, self.octets).map(records).map_err(own);
+        same("list_all", &all, &listing)?;
+        match self.book.library {
+            Ok(book) => same("Book::list_all", book.list_all(self.octets).map(records).map_err(own), listing),
+            Err(_) => Ok(()),
         }
-        Ok(())
     }
 
     fn places(&self, rng: &mut Rng, seen: &mut Seen) -> Result<(), String> {

@@ -15,6 +15,8 @@ const KINDS: [&str; 6] = ["number", "null", "octets", "absent", "group", "out of
 pub struct Seen {
     refusals: [u64; 56],
     kinds: [u64; 6],
+    /// Messages that were listed into every room from none to enough.
+    pub every_room: u64,
     pub trips: Trips,
 }
 
@@ -29,7 +31,7 @@ pub struct Trips {
 
 impl Seen {
     pub fn nothing() -> Seen {
-        Seen { refusals: [0; 56], kinds: [0; 6], trips: Trips::default() }
+        Seen { refusals: [0; 56], kinds: [0; 6], every_room: 0, trips: Trips::default() }
     }
 
     /// Counts a refusal by its number.
@@ -71,7 +73,8 @@ impl Seen {
         let Trips { read_back, written_back, not_so } = self.trips;
         let trips = [("written and read back", read_back), ("read and written back", written_back), ("not so", not_so)];
         let trips = trips.iter().map(|&(name, count)| (name.to_string(), count));
-        let others = [("answers".into(), kinds.collect()), ("round trips".into(), trips.collect())];
-        refusals.chain(others).collect()
+        let rooms = vec![("listed into every room".into(), self.every_room)];
+        let others = [("answers", kinds.collect()), ("messages", rooms), ("round trips", trips.collect())];
+        refusals.chain(others.map(|(of, counts)| (of.into(), counts))).collect()
     }
 }

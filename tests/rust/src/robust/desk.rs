@@ -67,9 +67,7 @@ impl<M: Memory> Desk<M> {
 
     fn read(&mut self, way: &Way, reading: &Reading, places: &[Place]) -> Result<(), String> {
         let Reading { book, message, plain, listing } = reading;
-        let records = plain.as_ref().map(|message| message.measure() as usize).map_err(|refused| *refused);
         same("check", way.check(*book, *message), checked(plain))?;
-        same("measure", way.measure(*book, *message), counted(records))?;
         let larger = listing.as_ref().map_or(0, Vec::len) + 5;
         self.rooms("list", listing, larger, |room| way.list(*book, *message, room))?;
         for place in places {
@@ -117,7 +115,7 @@ impl<M: Memory> Desk<M> {
         for len in [exact, exact.saturating_sub(1), 0, other] {
             let room = room(&mut self.room, len);
             let stored = match stored {
-                Ok(elements) if elements.len() > len => Err(refusal(T::TOO_SMALL, 0)),
+                Ok(elements) if elements.len() > len => Err(T::too_small(elements)),
                 Ok(elements) => Ok(&elements[..]),
                 Err(refused) => Err(*refused),
             };

@@ -14,6 +14,9 @@ const BOOK: [u16; 37] = [
 ];
 /// Message M of the rules.
 const MESSAGE: [u16; 16] = [8, 1, 7, 0, 1, 1, 1000, 0, 65531, 0, 2, 2, 1, 3, 2, 0x6261];
+/// A book whose template has no elements, and its message.
+const BARE_BOOK: [u16; 11] = [7, 0, 1, 11, 1, 7, 4, 0, 0, 0, 0];
+const BARE_MESSAGE: [u16; 6] = [0, 1, 7, 0, 0, 0];
 /// M's listing under A.
 const LISTING: [u64; 18] = [0, 1000, 0, 0, u64::MAX - 4, 0, 4, 2, 0, 0, 1, 0, 0, 3, 0, 2, 30, 2];
 /// To the second entry of M's group.
@@ -22,7 +25,7 @@ const FIELD: (u64, u64) = (0, 0);
 
 pub fn run(report: &mut Report) {
     let new = || Guarded::at(Side::End);
-    let mut memories = [new(), new(), new(), new(), new(), new()];
+    let mut memories = [new(), new(), new(), new(), new(), new(), new(), new()];
     let full = Buffers::lie(&mut memories);
     let mut guarded = new();
     let (unreadable, last) = (guarded.take(0) as usize, usize::MAX - 7);
@@ -43,6 +46,8 @@ pub fn run(report: &mut Report) {
 struct Buffers {
     book: Lent<u8>,
     message: Lent<u8>,
+    bare_book: Lent<u8>,
+    bare_message: Lent<u8>,
     steps: Lent<u64>,
     listing: Lent<u64>,
     numbers: Lent<u64>,
@@ -50,11 +55,14 @@ struct Buffers {
 }
 
 impl Buffers {
-    fn lie([book, message, steps, listing, numbers, octets]: &mut [Guarded; 6]) -> Buffers {
+    fn lie(memories: &mut [Guarded; 8]) -> Buffers {
+        let [book, message, bare_book, bare_message, steps, listing, numbers, octets] = memories;
         let octets_of = |words: &[u16]| words.iter().flat_map(|word| word.to_le_bytes()).collect::<Vec<u8>>();
         Buffers {
             book: input(book, &octets_of(&BOOK)),
             message: input(message, &octets_of(&MESSAGE)),
+            bare_book: input(bare_book, &octets_of(&BARE_BOOK)),
+            bare_message: input(bare_message, &octets_of(&BARE_MESSAGE)),
             steps: input(steps, &STEPS),
             listing: input(listing, &LISTING),
             numbers: room(numbers, LISTING.len()),
@@ -79,18 +87,20 @@ fn refused(way: &Way, name: &'static str, reply: impl Reply, number: u64, place:
     Call { way: way.name, name, answer: reply.answer(), expected: [number, place, 0, 0, 0] }
 }
 
-/// Each buffer but the book's. M without steps has its first field; without its pool the last record is at fault.
+/// Each buffer but the book's. M without room has its six records; without steps it has its first field; without its
+/// pool the last record is at fault.
 fn calls(way: &Way, full: &Buffers, at: usize) -> Vec<Call> {
     let (none, nothing) = (Lent::empty(at), Lent::empty(at));
-    let &Buffers { book, message, steps, listing, numbers, octets } = full;
+    let &Buffers { book, message, bare_book, bare_message, steps, listing, numbers, octets } = full;
+    let no_records = way.list(bare_book, bare_message, nothing).answer();
     let first = way.place(book, message, nothing, FIELD).answer();
     let write = |listing, pool, octets| way.write(book, 1, listing, pool, octets);
     vec![
         refused(way, "check, message", way.check(book, none), 10, 0),
-        refused(way, "measure, message", way.measure(book, none), 10, 0),
         refused(way, "list, message", way.list(book, none, numbers), 10, 0),
-        refused(way, "list, room", way.list(book, message, nothing), 40, 0),
+        refused(way, "list, room", way.list(book, message, nothing), 40, 6),
         refused(way, "list, message and room", way.list(book, none, nothing), 10, 0),
+        Call { way: way.name, name: "list, room, no records", answer: no_records, expected: [0; 5] },
         refused(way, "place, message", way.place(book, none, steps, FIELD), 10, 0),
         Call { way: way.name, name: "place, steps", answer: first, expected: [0, 0, 0, 1000, 0] },
         refused(way, "place, message and steps", way.place(book, none, nothing, FIELD), 10, 0),
@@ -111,8 +121,6 @@ fn calls_without_book(full: &Buffers, at: usize) -> Vec<Call> {
         refused(&FREE, "check_book", check_book(none), 1, 0),
         refused(&FREE, "check, book", FREE.check(none, message), 1, 0),
         refused(&FREE, "check, all", FREE.check(none, none), 1, 0),
-        refused(&FREE, "measure, book", FREE.measure(none, message), 1, 0),
-        refused(&FREE, "measure, all", FREE.measure(none, none), 1, 0),
         refused(&FREE, "list, book", FREE.list(none, message, numbers), 1, 0),
         refused(&FREE, "list, all", FREE.list(none, none, nothing), 1, 0),
         refused(&FREE, "place, book", FREE.place(none, message, steps, FIELD), 1, 0),

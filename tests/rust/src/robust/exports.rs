@@ -1,4 +1,4 @@
-//! The eleven exports by pointers and lengths alone, and what they return for an answer.
+//! The nine exports by pointers and lengths alone, and what they return for an answer.
 
 use crate::raw;
 use plain::{Record, Refusal};
@@ -22,7 +22,6 @@ impl<T> Lent<T> {
 pub struct Way {
     pub name: &'static str,
     check: raw::Check,
-    measure: raw::Measure,
     list: raw::List,
     place: raw::Place,
     write: raw::Write,
@@ -31,7 +30,6 @@ pub struct Way {
 pub static FREE: Way = Way {
     name: "library",
     check: ffi::siphonbard_check,
-    measure: ffi::siphonbard_measure,
     list: ffi::siphonbard_list,
     place: ffi::siphonbard_place,
     write: ffi::siphonbard_write,
@@ -40,7 +38,6 @@ pub static FREE: Way = Way {
 pub static STREAM: Way = Way {
     name: "library, book checked once",
     check: ffi::siphonbard_stream_check,
-    measure: ffi::siphonbard_stream_measure,
     list: ffi::siphonbard_stream_list,
     place: ffi::siphonbard_stream_place,
     write: ffi::siphonbard_stream_write,
@@ -55,10 +52,6 @@ pub fn check_book(book: Lent<u8>) -> Checked {
 impl Way {
     pub fn check(&self, book: Lent<u8>, message: Lent<u8>) -> Checked {
         unsafe { (self.check)(book.start, book.len, message.start, message.len) }
-    }
-
-    pub fn measure(&self, book: Lent<u8>, message: Lent<u8>) -> Counted {
-        unsafe { (self.measure)(book.start, book.len, message.start, message.len) }
     }
 
     pub fn list(&self, book: Lent<u8>, message: Lent<u8>, room: Lent<u64>) -> Counted {

@@ -1,0 +1,85 @@
+#!/usr/bin/env python3
+"""wrapper.py: tries examples/python/siphonbard.py over the shared object that SIPHONBARD_SO names: listings of none to
+many records, a place, a message that is written back, and refusals with their words.
+
+Prints what is wrong. The last line is 'wrapper: N passed, 0 failed'."""
+import struct
+import sys
+from pathlib import Path
+
+ROOT = Path(__file__).resolve().parent.parent
+sys.path[:0] = [str(ROOT / "examples"), str(ROOT / "examples" / "python")]
+
+from schema_book import block, book, field, group
+from siphonbard import FIRST, Book, Element, Kind, Refused
+
+EMPTY = book(7, 0, {1: block(0)})
+ENTRIES = book(7, 0, {1: block(0, groups=[group(1, block(2, [field(2, "uint16", offset=0)]))])})
+
+
+def of_records(count):
+    """A book, its message with so many records, and these: a group and its entries, or none."""
+    if count == 0:
+        return Book(EMPTY), struct.pack("<6H", 0, 1, 7, 0, 0, 0), []
+    entries = range(count - 1)
+    header = struct.pack("<8H", 0, 1, 7, 0, 1, 0, 2, len(entries))
+    records = [(Kind.GROUP, len(entries), 0)] + [(Kind.NUMBER, entry, 0) for entry in entries]
+    return Book(ENTRIES), header + struct.pack("<%dH" % len(entries), *entries), records
+
+
+def lists(count):
+    by, message, records = of_records(count)
+    return by.list(message), records
+
+
+def places():
+    by, message, records = of_records(9)
+    return by.place(message, [(0, 7)], Element.FIELD, 0), records[8]
+
+
+def writes_back():
+    by, message, records = of_records(9)
+    return by.write(1, records, message), message
+
+
+def refuses(call, *arguments):
+    """Number, place and words of a refusal."""
+    try:
+        return call(*arguments)
+    except Refused as refused:
+        return refused.number, refused.place, str(refused)
+
+
+def refuses_a_book():
+    return refuses(Book, b"no book"), (1, 0, "refused 1: the book's octets are odd, under 8 or over 8,192")
+
+
+def refuses_a_message():
+    by, message, _ = of_records(FIRST + 1)
+    return refuses(by.list, message[:-1]), (16, 142, "refused 16 at octet 142: an element runs past the message's end")
+
+
+def refuses_a_room():
+    words = "refused 40 for 6 records: the room is below three numbers per record"
+    return str(Refused(40, 6)), words
+
+
+COUNTS = [0, 1, FIRST - 1, FIRST, FIRST + 1, 2 * FIRST, 5000]
+TESTS = [(lists, count) for count in COUNTS] + [
+    (places,), (writes_back,), (refuses_a_book,), (refuses_a_message,), (refuses_a_room,),
+]
+
+
+def main():
+    failed = 0
+    for test, *arguments in TESTS:
+        came, expected = test(*arguments)
+        if came != expected:
+            failed += 1
+            print("FAILED %s %s: came %.300r, expected %.300r" % (test.__name__, arguments, came, expected))
+    print("wrapper: %d passed, %d failed" % (len(TESTS) - failed, failed))
+    sys.exit(1 if failed else 0)
+
+
+if __name__ == "__main__":
+    main()
