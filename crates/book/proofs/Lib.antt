@@ -1,5 +1,4 @@
 pub mod Words
-pub mod Sizes
 pub mod RuleLaws
 pub mod Blocks
 pub mod Groups

@@ -97,15 +97,12 @@ pub fn word(s: &[u8], w: usize) -> usize
 
 // ---- fields and data
 
-// The end of a field of type t; its offset, if there is no such type.
+// The end of a field of type t.
 pub fn field_end(t: usize, n: usize, offset: usize) -> usize
     requires { ⌜ (n < 65536) × (offset < 65536) ⌝ }
     ensures { λ r. ⌜ r ≡ offset + typeAt t .width * n ⌝ }
 {
-    if t < 9 {
-        return offset + number_types::width_of(t) * n;
-    }
-    offset
+    offset + number_types::width_of(t) * n
 }
 
 fn length_good(t: usize, n: usize) -> bool

@@ -78,10 +78,10 @@ module _ (l m : List ℕ) (v : ℕ) where
 
   -- ---- fields
 
-  class-judged : (f : Field) (i x to : ℕ) → f .type < 9 → let a = classify (typeAt (f .type)) (isOptional f) x in
+  class-judged : (f : Field) (i x to : ℕ) → let a = classify (typeAt (f .type)) (isOptional f) x in
       InRange a → Stands l (3 * i) (recordOf a) to → judgeNumber l (length m) f i ≡ done a
   unfolding classify if_then_else_ InRange
-  class-judged f i x to t ranges s = go (isOptional f and eqb x (k .null)) refl (inRange k x) refl ranges s
+  class-judged f i x to ranges s = go (isOptional f and eqb x (k .null)) refl (inRange k x) refl ranges s
     where
       k : TypeRow
       k = typeAt (f .type)
@@ -91,14 +91,14 @@ module _ (l m : List ℕ) (v : ℕ) where
           → Stands l (3 * i) (recordOf (if b then Null else if c then Number x else OutOfRange x)) to
           → judgeNumber l (length m) f i ≡ done (if b then Null else if c then Number x else OutOfRange x)
       go true e c o ranges s = null-judged f i to (and-left _ _ e) s
-      go false e true o ranges s = number-judged f i x to o (inside-not-null (f .type) x t o) s
+      go false e true o ranges s = number-judged f i x to o (inside-not-null (f .type) x o) s
       go false e false o ranges s = absurd ranges
 
-  field-judged : (f : Field) (i at to : ℕ) → f .type < 9 → lengthGood f ≡ true → f .since ≤ v → at + end f ≤ length m
+  field-judged : (f : Field) (i at to : ℕ) → lengthGood f ≡ true → f .since ≤ v → at + end f ≤ length m
       → InRange (readField m v at f)
       → Stands l (3 * i) (recordOf (readField m v at f)) to → judgeField l (length m) f i ≡ done (readField m v at f)
   unfolding readField if_then_else_
-  field-judged f i at to t g u h ranges s =
+  field-judged f i at to g u h ranges s =
       let q = le-leb (f .since) v u in
       rw q (go (isArray f) refl (rw q at ranges) (rw q at s))
     where
@@ -115,7 +115,7 @@ module _ (l m : List ℕ) (v : ℕ) where
       go true y ranges s =
           let r = record-is i 2 (at + f .offset) (f .length) to (unfold recordOf in s) in
           octets-judged _ i (at + f .offset) (f .length) to (eq-eqb _ _ (r .is₃)) (omega (arith, size-array f g y)) s
-      go false y ranges s = class-judged f i _ to t ranges s
+      go false y ranges s = class-judged f i _ to ranges s
 
   fields-next : (f : Field) (fs : List Field) (i j : ℕ) (a : Answer) (r : List Answer)
       → judgeField l (length m) f i ≡ done a
@@ -149,7 +149,7 @@ module _ (l m : List ℕ) (v : ℕ) where
         w .0,
         w .1,
         fields-next f fs i (w .0) a rest
-            (field-judged f i at (3 * suc i) (k .type) (k .length) (u .0) within (ranges .0) (o .0)) (w .2),
+            (field-judged f i at (3 * suc i) (k .length) (u .0) within (ranges .0) (o .0)) (w .2),
       )
 
   -- ---- data

@@ -38,11 +38,11 @@ module _ (m : List ℕ) (v : ℕ) (octets : AllOctets m) where
       let l : length (replicate {A = ℕ} n 0) ≡ b - a = length-replicate {A = ℕ} n 0 ∙ e in
       record { whole = rw (l, e) z; ends = omega (arith, l); fits = k }
 
-  class-stands : (f : Field) (p : ℕ) → f .type < 9 → let k = typeAt (f .type) in
+  class-stands : (f : Field) (p : ℕ) → let k = typeAt (f .type) in
       let a = classify k (isOptional f) (valueOf k (numberAt (k .width) m p)) in
       p + k .width ≤ length m → InRange a → Stands m p (fieldOctets m f a) (p + k .width)
   unfolding classify if_then_else_ fieldOctets InRange
-  class-stands f p t h s = go (isOptional f and eqb y (k .null)) refl (inRange k y) s
+  class-stands f p h s = go (isOptional f and eqb y (k .null)) refl (inRange k y) s
     where
       k : TypeRow
       k = typeAt (f .type)
@@ -55,8 +55,8 @@ module _ (m : List ℕ) (v : ℕ) (octets : AllOctets m) where
           → Stands m p (fieldOctets m f (if b then Null else if c then Number y else OutOfRange y)) (p + k .width)
       go true e c s =
           let n : y ≡ k .null = eqb-true y (k .null) (and-right _ _ e) in
-          octets-stand m octets (k .width) p (k .null) h (ap (octetsOf (k .width)) (sym n) ∙ octets-value (f .type) _ t)
-      go false e true s = octets-stand m octets (k .width) p y h (octets-value (f .type) _ t)
+          octets-stand m octets (k .width) p (k .null) h (ap (octetsOf (k .width)) (sym n) ∙ octets-value (f .type) _)
+      go false e true s = octets-stand m octets (k .width) p y h (octets-value (f .type) _)
       go false e false s = absurd s
 
   array-stands : (f : Field) (p : ℕ) → p + f .length ≤ length m
@@ -64,11 +64,11 @@ module _ (m : List ℕ) (v : ℕ) (octets : AllOctets m) where
   unfolding fieldOctets spanOf
   array-stands f p h = slice-stands m p (f .length) h
 
-  field-stands : (f : Field) (at : ℕ) → f .type < 9 → lengthGood f ≡ true → f .since ≤ v → at + end f ≤ length m
+  field-stands : (f : Field) (at : ℕ) → lengthGood f ≡ true → f .since ≤ v → at + end f ≤ length m
       → InRange (readField m v at f)
       → Stands m (at + f .offset) (fieldOctets m f (readField m v at f)) (at + end f)
   unfolding readField if_then_else_
-  field-stands f at t g u h s = rw (le-leb (f .since) v u) (go (isArray f) refl (rw (le-leb (f .since) v u) at s))
+  field-stands f at g u h s = rw (le-leb (f .since) v u) (go (isArray f) refl (rw (le-leb (f .since) v u) at s))
     where
       k : TypeRow
       k = typeAt (f .type)
@@ -85,7 +85,7 @@ module _ (m : List ℕ) (v : ℕ) (octets : AllOctets m) where
           rw (← q) (array-stands f p (omega (arith, q)))
       go false y s =
           let q : p + k .width ≡ at + end f = omega (arith, size-plain f g y) in
-          rw (← q) (class-stands f p t (omega (arith, q)) s)
+          rw (← q) (class-stands f p (omega (arith, q)) s)
 
   fields-stand : (fs : List Field) (base len from : ℕ) → fieldsGood len from fs ≡ true → UpTo v (fieldSinces fs)
       → from ≤ len
@@ -98,7 +98,7 @@ module _ (m : List ℕ) (v : ℕ) (octets : AllOctets m) where
       let k = field-good len from f fs g in
       join _ _ (zeros-stand (base + from) (base + f .offset) (f .offset - from) (p .0) (omega arith)
       (omega (arith, k .placed)) (omega (arith, k .ended)))
-      (join _ _ (field-stands f base (k .type) (k .length) (u .0) (omega (arith, k .ended)) (s .0))
+      (join _ _ (field-stands f base (k .length) (u .0) (omega (arith, k .ended)) (s .0))
       (fields-stand fs base len (end f) (k .rest) (u .1) (k .ended) h (p .1) (s .1)))
 
   -- ---- data

@@ -66,29 +66,29 @@ module _ (l pool m : List ℕ) (v : ℕ) (small : Numbers64 l) where
       let k = typeAt (f .type) in
       classify k (isOptional f) (valueOf k (numberAt (k .width) m at)) ≡ a
 
-  null-back-at : (f : Field) (at to : ℕ) → f .type < 9 → isOptional f ≡ true → Stands m at (fieldOctets pool f Null) to
+  null-back-at : (f : Field) (at to : ℕ) → isOptional f ≡ true → Stands m at (fieldOctets pool f Null) to
       → ReadAs f at Null
   unfolding fieldOctets
-  null-back-at f at to t o s =
+  null-back-at f at to o s =
       let k = typeAt (f .type) in
-      let e = ap (valueOf k) (number-stands (k .width) (k .null) s) ∙ null-back (f .type) t in
+      let e = ap (valueOf k) (number-stands (k .width) (k .null) s) ∙ null-back (f .type) in
       rw (o, e) (class-null k)
 
-  number-back-at : (f : Field) (x at to : ℕ) → f .type < 9 → x < 2 ^ 64
+  number-back-at : (f : Field) (x at to : ℕ) → x < 2 ^ 64
       → (inRange (typeAt (f .type)) x and not (eqb x (typeAt (f .type) .null))) ≡ true
       → Stands m at (fieldOctets pool f (Number x)) to → ReadAs f at (Number x)
   unfolding fieldOctets
-  number-back-at f x at to t b h s =
+  number-back-at f x at to b h s =
       let k = typeAt (f .type) in
       let r = and-left _ _ h in
-      let e = ap (valueOf k) (number-stands (k .width) x s) ∙ number-back (f .type) x t b r in
+      let e = ap (valueOf k) (number-stands (k .width) x s) ∙ number-back (f .type) x b r in
       rw e (class-number k (isOptional f) x r (not-true _ (and-right _ _ h)))
 
-  number-field : (f : Field) (i at to : ℕ) (a : Answer) → f .type < 9 → isArray f ≡ false
+  number-field : (f : Field) (i at to : ℕ) (a : Answer) → isArray f ≡ false
       → judgeField l (length pool) f i ≡ done a
       → Stands m at (fieldOctets pool f a) to → ReadAs f at a × (contentOf m a ≡ contentOf pool a)
   unfolding if_then_else_ contentOf
-  number-field f i at to a t y e s =
+  number-field f i at to a y e s =
       let q = number-said l (length pool) f i a y e in
       go (eqb (first l i) 1) (q .fits) (q .is)
     where
@@ -97,8 +97,8 @@ module _ (l pool m : List ℕ) (v : ℕ) (small : Numbers64 l) where
 
       go : (b : Bool) → (if b then isOptional f else inRange k (second l i) and not (eqb (second l i) (k .null))) ≡ true
           → (if b then Null else Number (second l i)) ≡ a → ReadAs f at a × (contentOf m a ≡ contentOf pool a)
-      go true h q = rw (← q) (null-back-at f at to t h (rw (← q) at s), refl)
-      go false h q = rw (← q) (number-back-at f (second l i) at to t (small (3 * i + 1)) h (rw (← q) at s), refl)
+      go true h q = rw (← q) (null-back-at f at to h (rw (← q) at s), refl)
+      go false h q = rw (← q) (number-back-at f (second l i) at to (small (3 * i + 1)) h (rw (← q) at s), refl)
 
   -- Octets that stand elsewhere are the same octets.
   octets-same : (a : Answer) (at to i : ℕ) → OctetsSaid l (length pool) i a → Stands m at (spanOctets pool a) to
@@ -124,11 +124,11 @@ module _ (l pool m : List ℕ) (v : ℕ) (small : Numbers64 l) where
       let o : fieldOctets pool f a ≡ spanOctets pool a = rw (← (q .0 .is)) (array-octets f (second l i) (third l i)) in
       rw (← (q .1)) (octets-same a at to i (q .0) (rw o at s))
 
-  field-back : (f : Field) (i base to : ℕ) (a : Answer) → f .type < 9 → f .since ≤ v
+  field-back : (f : Field) (i base to : ℕ) (a : Answer) → f .since ≤ v
       → judgeField l (length pool) f i ≡ done a
       → Stands m (base + f .offset) (fieldOctets pool f a) to → contentOf m (readField m v base f) ≡ contentOf pool a
   unfolding readField if_then_else_
-  field-back f i base to a t h e s = rw (le-leb (f .since) v h) (go (isArray f) refl)
+  field-back f i base to a h e s = rw (le-leb (f .since) v h) (go (isArray f) refl)
     where
       k : TypeRow
       k = typeAt (f .type)
@@ -138,7 +138,7 @@ module _ (l pool m : List ℕ) (v : ℕ) (small : Numbers64 l) where
           (valueOf k (numberAt (k .width) m (base + f .offset)))) ≡ contentOf pool a
       go true y = array-field f i (base + f .offset) to a y e s
       go false y =
-          let b = number-field f i (base + f .offset) to a t y e s in
+          let b = number-field f i (base + f .offset) to a y e s in
           ap (contentOf m) (b .0) ∙ b .1
 
   -- ---- the fields of a block that starts at base, from its octet `from` on
@@ -162,7 +162,7 @@ module _ (l pool m : List ℕ) (v : ℕ) (small : Numbers64 l) where
       let o₁ = split-to (replicate (f .offset - from) 0) (xs ++ ys) (base + f .offset) (omega (arith, k .placed, pad))
       (rw (← q) at s) in
       let o₂ = split-to xs ys (base + end f) (omega (arith, field-long l pool f i a (k .length) (p .first))) (o₁ .1) in
-      let b = field-back f i base (base + end f) a (k .type) (u .0) (p .first) (o₂ .0) in
+      let b = field-back f i base (base + end f) a (u .0) (p .first) (o₂ .0) in
       cons-same b (fields-back fs len (end f) (suc i) base to rest (k .rest) (u .1) (n .first) (o₂ .1))
       ∙ ap (λ (x : List Answer × ℕ). contentsOf pool (x .0)) q
 

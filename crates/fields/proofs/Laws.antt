@@ -69,7 +69,7 @@ pub fields-fit : (m : List ℕ) (v at size l e least : ℕ) (fs : List Field) �
 unfolding needAfter Each
 fields-fit m v at size l e least [] g h n i = tt
 fields-fit m v at size l e least (f ∷ fs) g h n i = (
-  record { known = good .type; some = some-length f (good .length); inside = within },
+  record { some = some-length f (good .length); inside = within },
   fields-fit m v at size l (end f) _ fs (good .rest) low n i,
 )
   where

@@ -1,12 +1,11 @@
--- When a field can be read in a block: its type is in the table and, if it is present, its octets are in the message.
+-- When a field can be read in a block: if it is present, its octets are in the message.
 use mathlib.Core.List.{List}
-use Prim.Native.Nat.{ℕ, _+_, _<_, _≤_}
+use Prim.Native.Nat.{ℕ, _+_, _≤_}
 use lib.ListN.{length}
 use Rattle.layout.specs.Book.{Field, end}
 use Rattle.layout.specs.BookRules.{fieldAt}
 
 pub record Fits (m : List ℕ) (v at : ℕ) (f : Field) : Type 0 where
-  pub known : f .type < 9
   pub some : 1 ≤ f .length
   pub inside : f .since ≤ v → at + end f ≤ length m
 

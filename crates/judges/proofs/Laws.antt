@@ -11,7 +11,7 @@ use Rattle.layout.specs.Result.{Result, done, refused, must, if_then_else_, _an
 use Rattle.layout.specs.Octets.{null16}
 use Rattle.layout.specs.Types.{inRange, typeAt}
 use Rattle.layout.specs.Book.{Field, Groups, Shape, Template, isOptional, more, none}
-use Rattle.layout.specs.BookRules.{fieldAt, fieldsGood, parseDatas, parseFields, word}
+use Rattle.layout.specs.BookRules.{fieldAt, parseDatas, parseFields, word}
 use Rattle.layout.specs.Contracts.{refusal}
 use Rattle.layout.specs.Values.{Values, entry, group, nil}
 use Rattle.layout.specs.Message.{Entry}
@@ -23,7 +23,6 @@ use Rattle.layout.specs.declared.Answer.{Answer}
 use Rattle.layout.specs.declared.Answer.the-variants.{Group, Octets}
 use Rattle.layout.specs.declared.Refusal.{Refusal}
 use Rattle.layout.proofs.Results.{and-left, bind-done}
-use Rattle.layout.proofs.Fields.{FieldGood, field-good}
 use Rattle.layout.proofs.Said.{octets-said}
 use Rattle.layout.proofs.TypeLaws.{inside-not-null}
 use Rattle.templates.specs.Positions.{Plain, Opened, dataCount, groupCount, groupsAt, groupsEnd, groupsFrom, shapeAt}
@@ -188,13 +187,13 @@ module _ (l : List ℕ) (t : ℕ) (optional : Bool) (i : ℕ) where
     number-whole k = rw (h, k) refl
 
 -- What is in range is not null.
-inside-only : (t x : ℕ) → t < 9 → (inRange (typeAt t) x and not (eqb x (typeAt t .null))) ≡ inRange (typeAt t) x
+inside-only : (t x : ℕ) → (inRange (typeAt t) x and not (eqb x (typeAt t .null))) ≡ inRange (typeAt t) x
 unfolding _and_
-inside-only t x h = go (inRange (typeAt t) x) refl
+inside-only t x = go (inRange (typeAt t) x) refl
   where
     go : (b : Bool) → inRange (typeAt t) x ≡ b → (b and not (eqb x (typeAt t .null))) ≡ b
     go false e = refl
-    go true e = rw (inside-not-null t x h e) refl
+    go true e = rw (inside-not-null t x e) refl
 
 -- ---- fields
 
@@ -205,19 +204,10 @@ module _ (l : List ℕ) (n : ℕ) (f : Field) (i : ℕ) where
   unfolding if_then_else_
   field-array h = rw (lt-ltb 1 (f .length) h) refl
 
-  pub field-number : f .length ≤ 1 → f .type < 9
+  pub field-number : f .length ≤ 1
       → judged (fieldEnd i) (judgeField l n f i) ≡ judged (fieldEnd i) (numberAt l (f .type) (isOptional f) i)
   unfolding if_then_else_ judgeNumber numberAt
-  field-number h k = rw (le-ltb 1 (f .length) h, inside-only (f .type) (second l i) k) refl
-
--- The first of good fields, and the others.
-pub good-step : (b : List ℕ) (len e k w : ℕ) → 0 < k → fieldsGood len e (parseFields b k w) ≡ true
-    → FieldGood len e (fieldAt b w) (parseFields b (k - 1) (w + 6))
-unfolding parseFields
-good-step b len e zero w h g = absurd (omega arith)
-good-step b len e (suc k) w h g =
-    let q : suc k - 1 ≡ k = omega arith in
-    rw q (field-good len e (fieldAt b w) (parseFields b k (w + 6)) g)
+  field-number h = rw (le-ltb 1 (f .length) h, inside-only (f .type) (second l i)) refl
 
 module _ (l : List ℕ) (n : ℕ) (b : List ℕ) where
   abbrev pub fieldsFrom : ℕ → ℕ → ℕ → Result (List Answer × ℕ)

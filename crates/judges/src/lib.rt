@@ -9,12 +9,12 @@ ghost use lib.ListN.{length};
 ghost use Rattle.layout.specs.Result.{if_then_else_};
 ghost use Rattle.layout.specs.Octets.{wordsOf};
 ghost use Rattle.layout.specs.Types.{inRange, typeAt};
-ghost use Rattle.layout.specs.BookRules.{fieldAt, shapeGood};
+ghost use Rattle.layout.specs.BookRules.{fieldAt};
 ghost use Rattle.layout.specs.Contracts.{refusal};
 ghost use Rattle.layout.specs.Writing.{isGroup, isNumber, judgeData, judgeDatas, judgeField, judgeFields};
 ghost use Rattle.layout.specs.Writing.{judgeListing, judgeOctets};
 ghost use Rattle.templates.specs.Positions.{IsBlock, Plain, shapeAt};
-ghost use Rattle.walk.specs.Walks.{GoodBlock, innerAt};
+ghost use Rattle.walk.specs.Walks.{BlockAt, innerAt};
 ghost use Rattle.judges.specs.Judges.{blockAt, capped, dataEnd, datasEnd, entriesAt, entryEnd, fieldEnd};
 ghost use Rattle.judges.specs.Judges.{fieldsEnd, groupAt, groupEnd, judged, limit, listingEnd, numberAt};
 ghost use Rattle.judges.specs.Judges.{octetsEnd, rootAt, rowAt, rowEnd};
@@ -91,7 +91,6 @@ fn is_number(listing: &[u64], i: usize) -> bool
 
 // Whether a number or null fits a field of type t.
 fn number_fits(t: usize, optional: bool, kind: u64, x: u64) -> bool
-    requires { ⌜ t < 9 ⌝ }
     ensures { λ r. ⌜ r ≡ (if eqb kind 1 then optional else inRange (typeAt t) x) ⌝ }
 {
     if kind == 1 {
@@ -102,7 +101,6 @@ fn number_fits(t: usize, optional: bool, kind: u64, x: u64) -> bool
 
 // A number or null for a field of type t.
 fn judge_number(listing: &[u64], t: usize, optional: bool, i: usize) -> Judged
-    requires { ⌜ t < 9 ⌝ }
     ensures { λ r. ⌜ r ≡ judged (fieldEnd i) (numberAt (now (listing .entry)) t optional i) ⌝ }
 {
     if !is_number(listing, i) {
@@ -119,7 +117,7 @@ fn judge_number(listing: &[u64], t: usize, optional: bool, i: usize) -> Judged
 
 // The field at word w of the body. Its octets are the block's.
 fn judge_field(body: &[u8], w: usize, listing: &[u64], n: usize, i: usize) -> Judged
-    requires { ⌜ (w + 6 ≤ length (now body) / 2) × (fieldAt (wordsOf (now body)) w .type < 9) ⌝ }
+    requires { ⌜ w + 6 ≤ length (now body) / 2 ⌝ }
     ensures { λ r. ⌜ r ≡ judged (fieldEnd i) (judgeField (now (listing .entry)) n (fieldAt (wordsOf
         (now (body .entry))) w) i) ⌝ }
 {
@@ -140,7 +138,7 @@ fn judge_field(body: &[u8], w: usize, listing: &[u64], n: usize, i: usize) -> Ju
 
 // The fields of the block at word w.
 fn judge_fields(body: &[u8], w: usize, listing: &[u64], n: usize, start: usize) -> Judged
-    requires { ⌜ IsBlock (wordsOf (now body)) w × (shapeGood (shapeAt (wordsOf (now body)) w) ≡ true) ⌝ }
+    requires { ⌜ IsBlock (wordsOf (now body)) w ⌝ }
     ensures { λ r. ⌜ r ≡ judged fieldsEnd (judgeFields (now (listing .entry)) n (shapeAt (wordsOf
         (now (body .entry))) w .fields) start) ⌝ }
 {
@@ -202,7 +200,7 @@ fn judge_datas(body: &[u8], w: usize, listing: &[u64], n: usize, start: usize) -
 
 // The block at word w, `depth` more levels being left: its fields, its groups, its data.
 fn judge_block(body: &[u8], w: usize, depth: usize, listing: &[u64], n: usize, i: usize) -> Judged
-    requires { ⌜ GoodBlock (wordsOf (now body)) depth w ⌝ }
+    requires { ⌜ BlockAt (wordsOf (now body)) depth w ⌝ }
     ensures { λ r. ⌜ r ≡ judged (entryEnd (shapeAt (wordsOf (now (body .entry))) w) (innerAt (wordsOf
         (now (body .entry))) depth w)) (blockAt (wordsOf (now (body .entry))) depth w (now (listing .entry)) n i) ⌝ }
 {
@@ -230,8 +228,7 @@ fn judge_block(body: &[u8], w: usize, depth: usize, listing: &[u64], n: usize, i
 
 // k entries of the block at word w, which has neither groups nor data.
 fn judge_plain(body: &[u8], w: usize, listing: &[u64], n: usize, k: u64, start: usize) -> Judged
-    requires { ⌜ IsBlock (wordsOf (now body)) w × (shapeGood (shapeAt (wordsOf (now body)) w) ≡ true) ⌝ }
-    requires { ⌜ Plain (wordsOf (now body)) w ⌝ }
+    requires { ⌜ IsBlock (wordsOf (now body)) w × Plain (wordsOf (now body)) w ⌝ }
     ensures { λ r. ⌜ r ≡ judged (rowEnd (shapeAt (wordsOf (now (body .entry))) w) (innerAt (wordsOf
         (now (body .entry))) 0 w) 0) (entriesAt (wordsOf (now (body .entry))) 0 w (now (listing .entry)) n k
         start) ⌝ }
@@ -264,7 +261,7 @@ fn judge_entries(
     k: u64,
     start: usize,
 ) -> Judged
-    requires { ⌜ GoodBlock (wordsOf (now body)) depth w ⌝ }
+    requires { ⌜ BlockAt (wordsOf (now body)) depth w ⌝ }
     ensures { λ r. ⌜ r ≡ judged (rowEnd (shapeAt (wordsOf (now (body .entry))) w) (innerAt (wordsOf
         (now (body .entry))) depth w) 0) (entriesAt (wordsOf (now (body .entry))) depth w (now (listing .entry)) n k
         start) ⌝ }
@@ -305,7 +302,7 @@ fn is_group(listing: &[u64], i: usize) -> bool
 
 // The group at word w, `depth` more levels being left inside it: its dimension and its entries.
 fn judge_group(body: &[u8], w: usize, depth: usize, listing: &[u64], n: usize, i: usize) -> Judged
-    requires { ⌜ GoodBlock (wordsOf (now body)) depth (w + 2) ⌝ }
+    requires { ⌜ BlockAt (wordsOf (now body)) depth (w + 2) ⌝ }
     ensures { λ r. ⌜ r ≡ judged (groupEnd (shapeAt (wordsOf (now (body .entry))) (w + 2)) (innerAt (wordsOf
         (now (body .entry))) depth (w + 2))) (groupAt (wordsOf (now (body .entry))) depth w (now (listing .entry)) n
         i) ⌝ }
@@ -336,7 +333,7 @@ fn judge_groups(
     n: usize,
     start: usize,
 ) -> Judged
-    requires { ⌜ GoodBlock (wordsOf (now body)) depth w ⌝ }
+    requires { ⌜ BlockAt (wordsOf (now body)) depth w ⌝ }
     ensures { λ r. ⌜ r ≡ judged (rowEnd (shapeAt (wordsOf (now (body .entry))) w) (innerAt (wordsOf
         (now (body .entry))) depth w) 0) (rowAt (wordsOf (now (body .entry))) depth w (now (listing .entry)) n
         start) ⌝ }
@@ -365,7 +362,7 @@ fn judge_groups(
 
 // A whole listing by its template's body: the octets of the message without its header.
 pub fn judge_listing(body: &[u8], listing: &[u64], n: usize) -> Judged
-    requires { ⌜ GoodBlock (wordsOf (now body)) 4 0 ⌝ }
+    requires { ⌜ BlockAt (wordsOf (now body)) 4 0 ⌝ }
     ensures { λ r. ⌜ r ≡ judged (listingEnd (shapeAt (wordsOf (now (body .entry))) 0) (innerAt (wordsOf
         (now (body .entry))) 4 0) (now (listing .entry))) (judgeListing (now (listing .entry)) n (rootAt (wordsOf
         (now (body .entry))))) ⌝ }

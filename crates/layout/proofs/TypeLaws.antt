@@ -1,63 +1,58 @@
--- What is written as a type's octets is read again: number facts once over the width, and the table's nine rows by one
--- rule.
+-- What is written as a type's octets is read again: number facts once over the width, and the nine types by one rule.
 use mathlib.Core.Path.{_∙_, _≡_, ap, refl, sym}
 use mathlib.Core.Bool.{Bool, false, false≢true, true}
 use Prim.Native.Nat.{_%_, _*_, _+_, _-_, _/_, _<_, _^_, _≤_, suc, zero, ℕ}
-use native.Mathlib.Nat.{mod-eq-of-lt, mul-add-mod-self-right, mul-left-comm, one-le-pow, pow-succ'}
+use native.Mathlib.Nat.{mod-eq-of-lt, mul-add-mod-self-right, mul-left-comm, pow-succ'}
 use native.Mathlib.Omega.{arith}
-use lib.Dec.{eqb, leb, lit<}
+use lib.Dec.{eqb, leb}
 use borrow.Author.Tests.{le-leb, leb-true, lt-leb, ne-eqb}
 use Rattle.layout.specs.Result.{_and_, _or_, if_then_else_}
 use Rattle.layout.specs.Octets.{octetsOf}
-use Rattle.layout.specs.Types.{TypeRow, char, inRange, int, isWidth, typeAt, uint, valueOf}
+use Rattle.layout.specs.Types.{TypeRow, char, inRange, int, isSigned, isWidth, rowOf, typeAt, uint, valueOf}
+use Rattle.layout.specs.Types.{widthOf}
 use Rattle.layout.proofs.Results.{and-right, either, or-right}
 
--- A width of the table: its numbers are even in number, and 2 ^ 64 is a multiple of that.
+-- A width's numbers are even in number, and 2 ^ 64 is a multiple of that.
 pub record Width (w : ℕ) : Type 0 where
   pub above : ℕ
   pub whole : above * 256 ^ w + 256 ^ w ≡ 2 ^ 64
   pub even : 256 ^ w / 2 + 256 ^ w / 2 ≡ 256 ^ w
-  pub some-are : 0 < 256 ^ w
+  pub many : 256 ≤ 256 ^ w
   pub listed : isWidth w ≡ true
   pub few : w ≤ 8
 
-width : (w above : ℕ) → above * 256 ^ w + 256 ^ w ≡ 2 ^ 64 → 256 ^ w / 2 + 256 ^ w / 2 ≡ 256 ^ w → isWidth w ≡ true
-    → w ≤ 8 → Width w
-width w a whole even known few =
-    record { above = a; whole = whole; even = even; some-are = one-le-pow w 256 (lit< tt); listed = known; few = few }
+width : (w above : ℕ) → above * 256 ^ w + 256 ^ w ≡ 2 ^ 64 → 256 ^ w / 2 + 256 ^ w / 2 ≡ 256 ^ w → 256 ≤ 256 ^ w
+    → isWidth w ≡ true → w ≤ 8 → Width w
+width w a whole even many listed few =
+    record { above = a; whole = whole; even = even; many = many; listed = listed; few = few }
 
-one : Width 1
+doubled : (k : ℕ) → k < 4 → Width (2 ^ k)
 unfolding _or_
-one = width 1 (256 ^ 7 - 1) refl refl refl (omega arith)
+doubled zero h = width 1 (256 ^ 7 - 1) refl refl (omega arith) refl (omega arith)
+doubled (suc zero) h = width 2 (256 ^ 6 - 1) refl refl (omega arith) refl (omega arith)
+doubled (suc (suc zero)) h = width 4 (256 ^ 4 - 1) refl refl (omega arith) refl (omega arith)
+doubled (suc (suc (suc zero))) h = width 8 0 refl refl (omega arith) refl (omega arith)
+doubled (suc (suc (suc (suc k)))) h = absurd (omega arith)
 
-two : Width 2
-unfolding _or_
-two = width 2 (256 ^ 6 - 1) refl refl refl (omega arith)
+pub width-at : (t : ℕ) → t < 9 → Width (widthOf t)
+width-at t h = doubled ((t - 1) / 2) (omega arith)
 
-four : Width 4
-unfolding _or_
-four = width 4 (256 ^ 4 - 1) refl refl refl (omega arith)
-
-eight : Width 8
-unfolding _or_
-eight = width 8 0 refl refl refl (omega arith)
-
--- What holds of char and, at every width, of the signed and the unsigned type holds of the table.
+-- What holds of char and, at every width, of the signed and the unsigned type holds of every type.
 pub each-type : (P : TypeRow → Type 0) → P char → ((w : ℕ) → Width w → P (int w)) → ((w : ℕ) → Width w → P (uint w))
-    → (t : ℕ) → t < 9 → P (typeAt t)
-each-type P c i u zero h = c
-each-type P c i u (suc zero) h = i 1 one
-each-type P c i u (suc (suc zero)) h = u 1 one
-each-type P c i u (suc (suc (suc zero))) h = i 2 two
-each-type P c i u (suc (suc (suc (suc zero)))) h = u 2 two
-each-type P c i u (suc (suc (suc (suc (suc zero))))) h = i 4 four
-each-type P c i u (suc (suc (suc (suc (suc (suc zero)))))) h = u 4 four
-each-type P c i u (suc (suc (suc (suc (suc (suc (suc zero))))))) h = i 8 eight
-each-type P c i u (suc (suc (suc (suc (suc (suc (suc (suc zero)))))))) h = u 8 eight
-each-type P c i u (suc (suc (suc (suc (suc (suc (suc (suc (suc t))))))))) h = absurd (omega arith)
+    → (t : ℕ) → P (typeAt t)
+unfolding typeAt if_then_else_
+each-type P c i u t = go (leb 1 t and leb t 8) refl
+  where
+    either-sign : (s : Bool) → Width (widthOf t) → P (rowOf (widthOf t) s)
+    either-sign true w = i _ w
+    either-sign false w = u _ w
 
-pub width-few : (t : ℕ) → t < 9 → typeAt t .width ≤ 8
-width-few t h = each-type (λ k. k .width ≤ 8) (omega arith) (λ w a. a .few) (λ w a. a .few) t h
+    go : (b : Bool) → (leb 1 t and leb t 8) ≡ b → P (if b then rowOf (widthOf t) (isSigned t) else char)
+    go true e = either-sign (isSigned t) (width-at t (omega (arith, leb-true t 8 (and-right _ _ e))))
+    go false e = c
+
+pub width-few : (t : ℕ) → typeAt t .width ≤ 8
+width-few t = each-type (λ k. k .width ≤ 8) (omega arith) (λ w a. a .few) (λ w a. a .few) t
 
 -- ---- written and read again
 
@@ -88,35 +83,35 @@ module _ (w : ℕ) (a : Width w) (x : ℕ) where
     where
       go : (b : Bool) → leb x (256 ^ w / 2 - 1) ≡ b → (b or leb (2 ^ 64 - 256 ^ w / 2 + 1) x) ≡ true
           → valueOf (int w) (x % 256 ^ w) ≡ x
-      go true e q = int-low (omega (arith, leb-true x (256 ^ w / 2 - 1) e, a .even, a .some-are))
+      go true e q = int-low (omega (arith, leb-true x (256 ^ w / 2 - 1) e, a .even, a .many))
       go false e q = int-high (omega (arith, leb-true (2 ^ 64 - 256 ^ w / 2 + 1) x (or-right _ _ q refl))) h
 
   uint-back : inRange (uint w) x ≡ true → valueOf (uint w) (x % 256 ^ w) ≡ x
   unfolding inRange if_then_else_
-  uint-back r = plain-back (uint w) x refl (omega (arith, leb-true x (256 ^ w - 2) (and-right _ _ r), a .some-are))
+  uint-back r = plain-back (uint w) x refl (omega (arith, leb-true x (256 ^ w - 2) (and-right _ _ r), a .many))
 
 char-back : (x : ℕ) → inRange char x ≡ true → valueOf char (x % 256) ≡ x
 unfolding inRange if_then_else_
 char-back x r = plain-back char x refl (omega (arith, leb-true x 126 (and-right _ _ r)))
 
 -- A number in a type's range is read again.
-pub number-back : (t x : ℕ) → t < 9 → x < 2 ^ 64 → inRange (typeAt t) x ≡ true
+pub number-back : (t x : ℕ) → x < 2 ^ 64 → inRange (typeAt t) x ≡ true
     → valueOf (typeAt t) (x % 256 ^ typeAt t .width) ≡ x
-number-back t x h b r =
+number-back t x b r =
     each-type (λ k. inRange k x ≡ true → valueOf k (x % 256 ^ k .width) ≡ x)
-    (char-back x) (λ w a e. int-back w a x e b) (λ w a. uint-back w a x) t h r
+    (char-back x) (λ w a e. int-back w a x e b) (λ w a. uint-back w a x) t r
 
 -- So is a type's null.
-pub null-back : (t : ℕ) → t < 9 → valueOf (typeAt t) (typeAt t .null % 256 ^ typeAt t .width) ≡ typeAt t .null
-null-back t h =
+pub null-back : (t : ℕ) → valueOf (typeAt t) (typeAt t .null % 256 ^ typeAt t .width) ≡ typeAt t .null
+null-back t =
     each-type (λ k. valueOf k (k .null % 256 ^ k .width) ≡ k .null)
     (plain-back char 0 refl (omega arith))
-    (λ w a. int-high w a (2 ^ 64 - 256 ^ w / 2) (omega arith) (omega (arith, a .even, a .whole, a .some-are)))
-    (λ w a. plain-back (uint w) (256 ^ w - 1) refl (omega (arith, a .some-are))) t h
+    (λ w a. int-high w a (2 ^ 64 - 256 ^ w / 2) (omega arith) (omega (arith, a .even, a .whole, a .many)))
+    (λ w a. plain-back (uint w) (256 ^ w - 1) refl (omega (arith, a .many))) t
 
 -- A type's null is not in its range.
-null-outside : (t : ℕ) → t < 9 → inRange (typeAt t) (typeAt t .null) ≡ false
-null-outside t h = each-type (λ k. inRange k (k .null) ≡ false) in-char in-int in-uint t h
+null-outside : (t : ℕ) → inRange (typeAt t) (typeAt t .null) ≡ false
+null-outside t = each-type (λ k. inRange k (k .null) ≡ false) in-char in-int in-uint t
   where
     in-char : inRange char 0 ≡ false
     in-char = unfold inRange if_then_else_ _and_ in refl
@@ -125,7 +120,7 @@ null-outside t h = each-type (λ k. inRange k (k .null) ≡ false) in-char in-in
     in-int w a =
         let n = 2 ^ 64 - 256 ^ w / 2 in
         unfold inRange if_then_else_ _or_ in
-        rw (lt-leb n (256 ^ w / 2 - 1) (omega (arith, a .even, a .whole, a .some-are)), lt-leb (n + 1) n (omega arith))
+        rw (lt-leb n (256 ^ w / 2 - 1) (omega (arith, a .even, a .whole, a .many)), lt-leb (n + 1) n (omega arith))
         refl
 
     in-uint : (w : ℕ) → Width w → inRange (uint w) (256 ^ w - 1) ≡ false
@@ -134,12 +129,12 @@ null-outside t h = each-type (λ k. inRange k (k .null) ≡ false) in-char in-in
         rw (
           le-leb 0 (256 ^ w - 1) (omega arith),
           lt-leb (256 ^ w - 1) (256 ^ w - 2)
-              (omega (arith, a .even, a .some-are)),
+              (omega (arith, a .even, a .many)),
         ) refl
 
-pub inside-not-null : (t x : ℕ) → t < 9 → inRange (typeAt t) x ≡ true → eqb x (typeAt t .null) ≡ false
-inside-not-null t x h r =
-    ne-eqb x (typeAt t .null) (λ e. false≢true (sym (null-outside t h) ∙ ap (inRange (typeAt t)) (sym e) ∙ r))
+pub inside-not-null : (t x : ℕ) → inRange (typeAt t) x ≡ true → eqb x (typeAt t .null) ≡ false
+inside-not-null t x r =
+    ne-eqb x (typeAt t .null) (λ e. false≢true (sym (null-outside t) ∙ ap (inRange (typeAt t)) (sym e) ∙ r))
 
 -- ---- read and written again
 
@@ -163,7 +158,7 @@ int-octets w a x =
     (rw up (octets-add w (a .above) x)) refl
 
 -- A value has the octets of the number that it is the value of.
-pub octets-value : (t x : ℕ) → t < 9 → octetsOf (typeAt t .width) (valueOf (typeAt t) x) ≡ octetsOf (typeAt t .width) x
-octets-value t x h =
+pub octets-value : (t x : ℕ) → octetsOf (typeAt t .width) (valueOf (typeAt t) x) ≡ octetsOf (typeAt t .width) x
+octets-value t x =
     each-type (λ k. octetsOf (k .width) (valueOf k x) ≡ octetsOf (k .width) x)
-    (plain-octets char x refl) (λ w a. int-octets w a x) (λ w a. plain-octets (uint w) x refl) t h
+    (plain-octets char x refl) (λ w a. int-octets w a x) (λ w a. plain-octets (uint w) x refl) t

@@ -1,7 +1,7 @@
 -- Everything that computes, under one name: what says `unfolding all` is evaluated to its answer.
 use Rattle.layout.specs.Result.{_>>=_, must, orRefuse, asRefusal, _and_, _or_, if_then_else_}
 use Rattle.layout.specs.Octets.{numberOf, octetsOf, wordsOf}
-use Rattle.layout.specs.Types.{valueOf, inRange, classify}
+use Rattle.layout.specs.Types.{typeAt, valueOf, inRange, classify}
 use Rattle.layout.specs.Book.{findTemplate, needAfter, groupSinces, present}
 use Rattle.layout.specs.BookRules.{parseFields, parseDatas, parseShape, parseGroups, parseBody, fieldsGood}
 use Rattle.layout.specs.BookRules.{groupsGood, rising, fieldsSince, groupsSince, parseContents, contentsGood}
@@ -21,7 +21,7 @@ unfoldable pub all : Unit {0}
 unfolding
     _>>=_ must orRefuse asRefusal _and_ _or_ if_then_else_
     numberOf octetsOf wordsOf
-    valueOf inRange classify
+    typeAt valueOf inRange classify
     findTemplate needAfter groupSinces present
     parseFields parseDatas parseShape parseGroups parseBody fieldsGood groupsGood rising fieldsSince
     groupsSince parseContents contentsGood parseBodies eachMust bookOf

@@ -5,9 +5,9 @@ use mathlib.Core.List.{List, [], _∷_, _++_, map}
 use Prim.Native.Nat.{ℕ, _+_, _-_, _/_, _%_, _^_}
 use lib.ListN.{take, set}
 use Rattle.layout.specs.All.{all}
-use Rattle.layout.specs.Result.{Result, _>>=_, done, refused}
+use Rattle.layout.specs.Result.{Result, _>>=_, _and_, done, if_then_else_, refused}
 use Rattle.layout.specs.Octets.{numberOf}
-use Rattle.layout.specs.Types.{typeAt, valueOf, classify}
+use Rattle.layout.specs.Types.{TypeRow, typeAt, valueOf, classify}
 use Rattle.layout.specs.Values.{recordOf}
 use Rattle.layout.specs.Reading.{listOf}
 
@@ -65,6 +65,38 @@ messageB =
     ∷ 0x02 ∷ 0x00 ∷ 0x61 ∷ 0x62
     ∷ []
 
+-- "negatives as 2^64 + value"
+abbrev pub minus : ℕ → ℕ
+minus x = 2 ^ 64 - x
+
+-- Document 01's table of types, in figures.
+abbrev pub typeTable : List TypeRow
+typeTable =
+    -- char
+    row 1 false 32 126 0
+    -- int8, uint8
+    ∷ row 1 true (minus 127) 127 (minus 128)
+    ∷ row 1 false 0 254 255
+    -- int16, uint16
+    ∷ row 2 true (minus 32767) 32767 (minus 32768)
+    ∷ row 2 false 0 65534 65535
+    -- int32, uint32
+    ∷ row 4 true (minus 2147483647) 2147483647 (minus 2147483648)
+    ∷ row 4 false 0 4294967294 4294967295
+    -- int64, uint64
+    ∷ row 8 true (minus 9223372036854775807) 9223372036854775807 (minus 9223372036854775808)
+    ∷ row 8 false 0 18446744073709551614 18446744073709551615
+    ∷ []
+  where
+    row : ℕ → Bool → ℕ → ℕ → ℕ → TypeRow
+    row width signed least greatest null =
+        record { width = width; signed = signed; least = least; greatest = greatest; null = null }
+
+-- Its nine rows are what the rule gives for the types 0 to 8.
+pub nine-rows : map typeAt (0 ∷ 1 ∷ 2 ∷ 3 ∷ 4 ∷ 5 ∷ 6 ∷ 7 ∷ 8 ∷ []) ≡ typeTable
+unfolding typeAt if_then_else_ _and_
+nine-rows = refl
+
 pub data Case : Type 0 where
   -- a book and a message, listed by the program's room
   listed : List ℕ → List ℕ → Case
@@ -87,9 +119,8 @@ c says r = record { case = c; says = r }
 abbrev pub with16 : List ℕ → ℕ → ℕ → List ℕ
 with16 m at x = set (set m at (x % 256)) (at + 1) (x / 256)
 
--- "negatives as 2^64 + value"
 abbrev pub minus5 : ℕ
-minus5 = 18446744073709551611
+minus5 = minus 5
 
 unfoldable pub table : List Row
 table =
@@ -109,7 +140,7 @@ table =
     ∷ (listed bookA (with16 messageM 28 65534) says refused 16 28)
     ∷ (holds 6 false (0x10 ∷ 0x27 ∷ 0x00 ∷ 0x00 ∷ []) says done (0 ∷ 10000 ∷ 0 ∷ []))
     ∷ (holds 1 true (128 ∷ []) says done (1 ∷ 0 ∷ 0 ∷ []))
-    ∷ (holds 1 true (129 ∷ []) says done (0 ∷ (2 ^ 64 - 127) ∷ 0 ∷ []))
+    ∷ (holds 1 true (129 ∷ []) says done (0 ∷ minus 127 ∷ 0 ∷ []))
     ∷ []
 
 pub all-hold : map (λ (r : Row). answer (r .case)) table ≡ map (λ (r : Row). r .says) table

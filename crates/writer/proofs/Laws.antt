@@ -13,7 +13,7 @@ use Rattle.layout.specs.Result.{Result, done, refused, if_then_else_, _>>=_}
 use Rattle.layout.specs.Octets.{null16, octetsOf}
 use Rattle.layout.specs.Types.{typeAt}
 use Rattle.layout.specs.Book.{Field, Shape, end, isArray, size}
-use Rattle.layout.specs.BookRules.{fieldAt, lengthGood, parseDatas, parseFields, word}
+use Rattle.layout.specs.BookRules.{fieldAt, fieldsGood, lengthGood, parseDatas, parseFields, word}
 use Rattle.layout.specs.Writing.{blockOctets, dataOctets, entriesIn, fieldOctets, first, isGroup, judgeBlock}
 use Rattle.layout.specs.Writing.{judgeData, judgeDatas, judgeField, judgeFields, judgeGroups, numbers16, rowOctets}
 use Rattle.layout.specs.Writing.{second}
@@ -21,7 +21,7 @@ use Rattle.layout.specs.Writing.{spanOctets, spanOf, third}
 use Rattle.layout.specs.declared.Answer.{Answer}
 use Rattle.layout.specs.declared.Answer.the-variants.{Null, Number, Octets}
 use Rattle.layout.proofs.Results.{inv-bind, inv-must}
-use Rattle.layout.proofs.Fields.{FieldGood}
+use Rattle.layout.proofs.Fields.{FieldGood, field-good}
 use Rattle.layout.proofs.Said.{array-said, data-said, number-said}
 use Rattle.layout.proofs.Lengths.{field-long, span-long}
 use Rattle.layout.proofs.Stands.{length-numbers, length-octets}
@@ -153,6 +153,15 @@ module _ {A B C D : Type 0} (e : A → ℕ) (p : A → List ℕ) (e₁ : B → �
   thrice (refused n q) s t = refl
 
 -- ---- fields in a row
+
+-- The first of good fields, and the others.
+pub good-step : (b : List ℕ) (len e k w : ℕ) → 0 < k → fieldsGood len e (parseFields b k w) ≡ true
+    → FieldGood len e (fieldAt b w) (parseFields b (k - 1) (w + 6))
+unfolding parseFields
+good-step b len e zero w h g = absurd (omega arith)
+good-step b len e (suc k) w h g =
+    let q : suc k - 1 ≡ k = omega arith in
+    rw q (field-good len e (fieldAt b w) (parseFields b k (w + 6)) g)
 
 module _ (l pool : List ℕ) where
   fields-cons : (n at : ℕ) (f : Field) (fs : List Field) (i : ℕ)

@@ -28,12 +28,16 @@ pub struct Head {
     pub version: usize,
 }
 
-// n octets of padding.
+// n octets of padding. The first is stored by itself: the compiler makes a call of the loop, and most padding is short.
 fn put_zeros(room: &mut [u8], n: usize)
     requires { ⌜ n ≤ length (now room) ⌝ }
     ensures { λ _. ⌜ now (room .exit) ≡ sets (now (room .entry)) 0 (replicate n 0) ⌝ }
 {
-    let mut i = 0;
+    if n == 0 {
+        return;
+    }
+    room[0] = 0;
+    let mut i = 1;
     while i < n {
         room[i] = 0;
         i = i + 1;
@@ -61,7 +65,7 @@ fn write_value(
     pool: &[u8],
     room: &mut [u8],
 ) -> usize
-    requires { ⌜ (w + 6 ≤ length (now body) / 2) × (fieldAt (wordsOf (now body)) w .type < 9) ⌝ }
+    requires { ⌜ w + 6 ≤ length (now body) / 2 ⌝ }
     requires { ⌜ Room (valuePart (now listing) (now pool) (fieldAt (wordsOf (now body)) w) i) 0 (length (now room)) ⌝ }
     ensures { λ r. ⌜ Stored (valuePart (now (listing .entry)) (now (pool .entry)) (fieldAt (wordsOf (now (body
         .entry))) w) i) 0 (now (room .entry)) (i + 1) r (now (room .exit)) ⌝ }
@@ -74,11 +78,9 @@ fn write_value(
     let t = book::word(body, w + 1);
     let width = number_types::width_of(t);
     if listing[3 * i] == 1 {
-        number_types::store(room, 0, width, number_types::null_of(t));
-        return width;
+        return number_types::store(room, 0, width, number_types::null_of(t));
     }
-    number_types::store(room, 0, width, listing[3 * i + 1]);
-    width
+    number_types::store(room, 0, width, listing[3 * i + 1])
 }
 
 // The same after `pad` zeros.
@@ -91,7 +93,7 @@ fn write_field(
     pad: usize,
     room: &mut [u8],
 ) -> usize
-    requires { ⌜ (w + 6 ≤ length (now body) / 2) × (fieldAt (wordsOf (now body)) w .type < 9) ⌝ }
+    requires { ⌜ w + 6 ≤ length (now body) / 2 ⌝ }
     requires { ⌜ Room (fieldPart (now listing) (now pool) pad (fieldAt (wordsOf (now body)) w) i) 0 (length
         (now room)) ⌝ }
     ensures { λ r. ⌜ Stored (fieldPart (now (listing .entry)) (now (pool .entry)) pad (fieldAt (wordsOf (now (body

@@ -46,7 +46,7 @@ read-requires c κs =
     let one = c .before .before in
     let fits = one .before .before .before .before .before .before .before .pre .fits in
     rw (c .word5 .ensures .value, one .before .word3 .ensures .value)
-    (fits .known, number-inside _ _ _ _ (present (one .before .before .before)) (single one) fits)
+    (number-inside _ _ _ _ (present (one .before .before .before)) (single one) fits)
 
 returns-3 : tie.Need-returns-3
 returns-3 c =

@@ -11,9 +11,8 @@ use borrow.Fn.PlainCycle.{Measures, is, falls, and}
 use lib.ListN.{length}
 use Rattle.layout.specs.Octets.{wordsOf}
 use Rattle.layout.specs.Writing.{judgeGroups}
-use Rattle.templates.specs.Positions.{Plain, groupsAt, groupsFrom, shapeAt}
-use Rattle.walk.specs.Walks.{GoodBlock, GoodRow, innerAt}
-use Rattle.walk.proofs.Laws.{row-good}
+use Rattle.templates.specs.Positions.{IsRow, Plain, groupsAt, groupsFrom, shapeAt}
+use Rattle.walk.specs.Walks.{BlockAt, innerAt}
 use Rattle.judges.specs.Judges.{entriesAt, judged, limit, rowAt, rowEnd}
 use Rattle.book.proofs.word.Reads as word-reads
 use Rattle.blocks.proofs.open_row.Reads as open-row-reads
@@ -74,7 +73,7 @@ row-Inv body w depth listing n start g₀ left₀ i₀ seen₀ g left i seen =
     let b = wordsOf body in
     let s = shapeAt b w in
     let rest = groupsAt b depth left g in
-    GoodRow b depth left g × (seen ≤ limit)
+    IsRow b depth left g × (seen ≤ limit)
     × (judged (rowEnd s (innerAt b depth w) 0) (rowAt b depth w listing n start)
     ≡ judged (rowEnd s rest seen) (judgeGroups listing n rest i))
 
@@ -124,7 +123,7 @@ module _ (t : ℕ) where
   block-Need n = n block-claims block-at block-reads.Post
 
   -- The block was accepted.
-  block-good : (c : block-Need block-lts.Start) → GoodBlock (wordsOf (c .args .body .now)) (c .args .depth) (c .args .w)
+  block-good : (c : block-Need block-lts.Start) → BlockAt (wordsOf (c .args .body .now)) (c .args .depth) (c .args .w)
   block-good c = c .pre .1
 
   block-returns : block-Need block-lts.Need-returns
@@ -189,7 +188,7 @@ module _ (t : ℕ) where
   entries-judge-plain-requires : entries-Need entries-lts.Need-judge-plain-requires
   entries-judge-plain-requires c κs =
       let good = c .before .before .before .before .pre .1 in
-      ((good .stands .block, good .shape), entries-plain c)
+      (good .block, entries-plain c)
 
   entries-returns : entries-Need entries-lts.Need-returns
   entries-returns c =
@@ -257,7 +256,7 @@ module _ (t : ℕ) where
   -- The block inside lies in the body.
   group-fits : (c : group-Need group-lts.Start)
       → groupsFrom (wordsOf (c .args .body .now)) (c .args .w + 2) ≤ length (c .args .body .now) / 2
-  group-fits c = block-fits _ _ (c .pre .1 .stands .block)
+  group-fits c = block-fits _ _ (c .pre .1 .block)
 
   group-returns-3 : group-Need group-lts.Need-returns-3
   group-returns-3 c =
@@ -302,12 +301,12 @@ module _ (t : ℕ) where
   row-loop-holds c =
       let good = c .before .before .before .before .pre .1 in
       rw (c .word .ensures .value, c .before .groups-from .ensures)
-      (record { stands = good .stands .row; groups = good .groups }, omega arith, refl)
+      (good .row, omega arith, refl)
 
   row-judge-group-requires : row-Need row-lts.Need-judge-group-requires
   row-judge-group-requires c κs =
       let opened = c .open-row .ensures in
-      (omega (arith, opened .deep), row-good _ _ _ _ opened (c .before .before .loop .inv .0 .groups) .0)
+      (omega (arith, opened .deep), record { block = opened .block; row = opened .inner })
 
   row-returns : row-Need row-lts.Need-returns
   row-returns c =
@@ -330,7 +329,7 @@ module _ (t : ℕ) where
             (c .skip-row .ensures),
         sum .plus .ensures,
       ) (
-        row-good _ _ _ _ opened (inv .0 .groups) .1,
+        opened .rest,
         omega arith,
         inv .2 ∙ row-next _ _ _ _ _ _ _ _ _ opened _ _ e,
       )
@@ -345,24 +344,23 @@ pub +judge-block+judge-entries+judge-group+judge-groups-spec : {M : Type 1} → 
     close block-μ entries-μ group-μ row-μ
     (λ t.
     block-lts.spec (block-claims t) (block-at t) block-reads.Post
-    (λ c κs. (c .before .before .pre .1 .stands .block, c .before .before .pre .1 .shape))
+    (λ c κs. c .before .before .pre .1 .block)
     (λ c. search needs) (λ c. search needs) (block-returns t)
     (λ c κs. (omega arith, block-good t (c .before .before .before .before .before .before)))
     (λ c. search needs) (λ c. search needs) (block-returns-2 t)
-    (λ c κs. block-good t (c .before .before .before .before .before .before .before .before .before .before) .stands
-    .block)
+    (λ c κs. block-good t (c .before .before .before .before .before .before .before .before .before .before) .block)
     (λ c. search needs) (λ c. search needs) (block-returns-3 t)
     (λ c κs. omega (
       arith,
       block-fits _ _ (block-good t
           (c .before .before .before .before .before .before .before .before .before .before .before .before .before
-          .before) .stands .block),
+          .before) .block),
     ))
     (λ c κs. omega (arith, c .word .ensures .small)) (λ c κs. omega (arith, c .plus .ensures))
     (block-returns-4 t))
     (λ t.
     entries-lts.spec (entries-claims t) (entries-at t) entries-reads.Post entries-Inv entries-μ-loop
-    (λ c κs. c .before .before .pre .1 .stands .block)
+    (λ c κs. c .before .before .pre .1 .block)
     (entries-judge-plain-requires t) (entries-returns t) (λ c. (omega arith, refl))
     (λ c κs. (omega arith, c .before .before .before .before .before .before .pre .1))
     (λ c. search needs) (λ c. search needs) (entries-returns-2 t) (λ c κs. search needs) (λ c. omega arith)
@@ -379,11 +377,11 @@ pub +judge-block+judge-entries+judge-group+judge-groups-spec : {M : Type 1} → 
     (λ c. search needs) (λ c. search needs) (group-returns-3 t) (λ c κs. omega arith) (group-returns-4 t))
     (λ t.
     row-lts.spec (row-claims t) (row-at t) row-reads.Post row-Inv row-μ-loop
-    (λ c κs. c .before .before .pre .1 .stands .block)
-    (λ c. omega (arith, block-fits _ _ (c .before .before .before .pre .1 .stands .block)))
-    (λ c κs. omega (arith, block-fits _ _ (c .before .before .before .pre .1 .stands .block)))
+    (λ c κs. c .before .before .pre .1 .block)
+    (λ c. omega (arith, block-fits _ _ (c .before .before .before .pre .1 .block)))
+    (λ c κs. omega (arith, block-fits _ _ (c .before .before .before .pre .1 .block)))
     (row-loop-holds t)
-    (λ c κs. (c .before .loop .inv .0 .stands, c .loop-test .taken)) (λ c. c .open-row .ensures .deep)
+    (λ c κs. (c .before .loop .inv .0, c .loop-test .taken)) (λ c. c .open-row .ensures .deep)
     (row-judge-group-requires t)
     (λ c. search needs) (λ c. search needs) (row-returns t) (λ c κs. search needs)
     (λ c. omega (arith, block-fits _ _ (c .before .before .before .before .before .open-row .ensures .block)))

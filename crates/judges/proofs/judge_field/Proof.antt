@@ -37,14 +37,12 @@ returns-4 : tie.Need-returns-4
 returns-4 c =
     let optional = c .before .before in
     let short = optional .before in
-    let start = short .before .before .before .before in
     rw (optional .word2 .ensures .value, c .before .word3 .ensures .value) at (c .judge-number .ensures)
-    ∙ sym (field-number _ _ _ _ (rw (short .before .word .ensures .value) at (short .if1 .left)) (start .pre .1))
+    ∙ sym (field-number _ _ _ _ (rw (short .before .word .ensures .value) at (short .if1 .left)))
 
 pub judge-field-spec : {M : Type 1} → statement M
 judge-field-spec =
     tie.close
     (tie.spec (λ c. search needs) (λ c κs. search needs) (λ c κs. search needs) (λ c. search needs) (λ c. search needs)
     returns (λ c κs. search needs) returns-2 returns-3 (λ c. search needs) (λ c κs. search needs) (λ c. search needs)
-    (λ c κs. search needs) (λ c κs. rw (c .word3 .ensures .value)
-    (c .before .before .before .before .before .before .pre .1)) returns-4)
+    (λ c κs. search needs) (λ c κs. search needs) returns-4)

@@ -27,7 +27,7 @@ abbrev μ-loop : tie.MeasureT-loop
 word-requires : tie.Need-word-requires Inv-loop μ-loop
 word-requires c κs =
     let start = c .before .before .before .before .before .before .before .before in
-    omega (arith, block-fits _ _ (start .pre .0 .0))
+    omega (arith, block-fits _ _ (start .pre .0))
 
 returns : tie.Need-returns Inv-loop μ-loop
 returns c =

@@ -8,9 +8,7 @@ use Rattle.number_types.proofs.classify.Statement.{statement}
 use Rattle.number_types.proofs.classify.Tie as tie
 
 returns : tie.Need-returns
-returns c =
-    let start = c .before .before in
-    sym (in-range-number _ (start .pre) _ _ (sym (c .before .in-range .ensures) ∙ c .if1 .taken))
+returns c = sym (in-range-number _ _ _ (sym (c .before .in-range .ensures) ∙ c .if1 .taken))
 
 returns-2 : tie.Need-returns-2
 unfolding classify if_then_else_

@@ -1,19 +1,30 @@
--- Each arm is the table's row of the code that it names; the last one's is 8.
-use mathlib.Core.Path.{refl}
-use Rattle.number_types.proofs.Laws.{last-type}
+-- From 1 to 8 a type is the integer of its width, a power of two, and its sign.
+use mathlib.Core.Path.{_∙_, _≡_, refl}
+use Prim.Native.Nat.{_%_, _*_, _-_, _/_, _<_, _^_, ℕ}
+use native.Mathlib.Nat.{one-mul}
+use native.Mathlib.Omega.{arith}
+use lib.Dec.{lit<}
+use lib.Pow.{shl-exact}
+use Rattle.layout.specs.Types.{widthOf}
+use Rattle.layout.proofs.TypeLaws.{width-at}
+use Rattle.number_types.proofs.Laws.{char-above, char-below, integer-at}
 use Rattle.number_types.proofs.number_type.Statement.{statement}
 use Rattle.number_types.proofs.number_type.Tie as tie
+
+-- One, shifted left.
+doubled : (t : ℕ) → t < 9 → 1 * 2 ^ ((t - 1) / 2) % 2 ^ 64 ≡ widthOf t
+doubled t h = shl-exact {a = 1} 1 ((t - 1) / 2) 64 (lit< tt) (omega arith) ∙ one-mul (widthOf t)
+
+integer-requires : tie.Need-integer-requires
+integer-requires c κs = rw (doubled _ (c .if2 .taken)) (width-at _ (c .if2 .taken) .listed)
+
+returns : tie.Need-returns
+returns c =
+    let test = c .before in
+    rw (c .integer .ensures, doubled _ (test .if2 .taken), integer-at _ (test .before .if1 .left) (test .if2 .taken)) refl
 
 pub number-type-spec : {M : Type 1} → statement M
 number-type-spec =
     tie.close
-    (tie.spec
-    (λ c. rw (c .match .keys1) refl)
-    (λ c. rw (c .match .keys2) refl)
-    (λ c. rw (c .match .keys3) refl)
-    (λ c. rw (c .match .keys4) refl)
-    (λ c. rw (c .match .keys5) refl)
-    (λ c. rw (c .match .keys6) refl)
-    (λ c. rw (c .match .keys7) refl)
-    (λ c. rw (c .match .keys8) refl)
-    (λ c. rw (last-type _ (c .before .pre) (c .match .rest)) refl))
+    (tie.spec (λ c. omega arith) integer-requires returns (λ c. rw (char-below _ (c .if1 .taken)) refl)
+    (λ c. rw (char-above _ (c .if2 .left)) refl))

@@ -1,11 +1,12 @@
--- Each arm reads the type that it names; the last one's is 8.
+-- Each arm reads the type that it names; the last one's is char.
 use mathlib.Core.Path.{_≡_}
-use Rattle.number_types.proofs.Laws.{last-type}
+use Rattle.layout.specs.Types.{typeAt}
+use Rattle.number_types.proofs.Laws.{other-type}
 use Rattle.number_types.proofs.read.Statement.{statement}
 use Rattle.number_types.proofs.read.Tie as tie
 
-last : (c : tie.At-match-rest) → c .before .before .args .t ≡ 8
-last c = last-type _ (c .before .before .pre .0) (c .match .rest)
+other : (c : tie.At-match-rest) → typeAt (c .before .before .args .t) ≡ typeAt 0
+other c = other-type _ (c .match .rest)
 
 pub read-spec : {M : Type 1} → statement M
 read-spec =
@@ -19,7 +20,7 @@ read-spec =
     (λ c κs. rw (c .match .keys6) at (c .before .before .pre))
     (λ c κs. rw (c .match .keys7) at (c .before .before .pre))
     (λ c κs. rw (c .match .keys8) at (c .before .before .pre))
-    (λ c κs. rw (last c) at (c .before .before .pre))
+    (λ c κs. rw (other c) at (c .before .before .pre))
     (λ c. rw (c .before .match .keys1) (c .read-as .ensures))
     (λ c. rw (c .before .match .keys2) (c .read-as2 .ensures))
     (λ c. rw (c .before .match .keys3) (c .read-as3 .ensures))
@@ -28,4 +29,4 @@ read-spec =
     (λ c. rw (c .before .match .keys6) (c .read-as6 .ensures))
     (λ c. rw (c .before .match .keys7) (c .read-as7 .ensures))
     (λ c. rw (c .before .match .keys8) (c .read-as8 .ensures))
-    (λ c. rw (last (c .before)) (c .read-as9 .ensures)))
+    (λ c. rw (other (c .before)) (c .read-as9 .ensures)))

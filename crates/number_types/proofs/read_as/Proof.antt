@@ -7,11 +7,10 @@ use Rattle.number_types.proofs.read_as.Statement.{statement}
 use Rattle.number_types.proofs.read_as.Tie as tie
 
 raw-requires : tie.Need-raw-requires
-raw-requires c κs = (rw (c .width-of .ensures) (is-width _ (c .before .before .pre .0)), omega arith)
+raw-requires c κs = (rw (c .width-of .ensures) (is-width _), omega arith)
 
 value-of-requires : tie.Need-value-of-requires
-value-of-requires c κs =
-    (c .before .before .before .pre .0, rw (c .before .width-of .ensures) at (c .raw .ensures .small))
+value-of-requires c κs = rw (c .before .width-of .ensures) at (c .raw .ensures .small)
 
 returns : tie.Need-returns
 returns c =

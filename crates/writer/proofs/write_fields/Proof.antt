@@ -11,11 +11,10 @@ use Rattle.layout.proofs.Fields.{FieldGood}
 use Rattle.layout.proofs.Results.{and-right}
 use Rattle.templates.specs.Positions.{shapeAt}
 use Rattle.blocks.proofs.Laws.{block-fits}
-use Rattle.judges.proofs.Laws.{good-step}
 use Rattle.store.specs.Prints.{Room, Stored}
 use Rattle.store.proofs.Going.{Going, going-end, going-first, going-none, going-room}
 use Rattle.writer.specs.Parts.{fieldPart, fieldsPart}
-use Rattle.writer.proofs.Laws.{field-ends, field-there, fields-end, fields-step}
+use Rattle.writer.proofs.Laws.{field-ends, field-there, fields-end, fields-step, good-step}
 use Rattle.writer.proofs.Lent.{got-room, got-stored, lent-going, lent-within, part-long, part-put, part-room}
 use Rattle.writer.proofs.Lent.{partOf, stored-long}
 use Rattle.writer.proofs.write_fields.Statement.{statement}
@@ -60,7 +59,7 @@ write-field-requires : tie.Need-write-field-requires Inv-loop μ-loop
 write-field-requires c κs =
     let i = c .before .before in
     rw (c .before .word2 .ensures .value)
-    ((omega (arith, i .before .loop .inv .0), good i .type), part-room _ (i .before .loop .room) _ (next i))
+    (omega (arith, i .before .loop .inv .0), part-room _ (i .before .loop .room) _ (next i))
 
 -- What the field's writer did.
 wrote : (c : tie.After-write-field Inv-loop μ-loop)

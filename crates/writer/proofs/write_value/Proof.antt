@@ -36,13 +36,13 @@ returns c =
     .before .pre .1) _ (long .before .word .ensures .value) (long .if1 .taken) in
     got-stored _ _ _ (o .same) _ _ _ _ (omega (arith, o .long)) (call .put-octets .ensures)
 
--- The width is the type's, and one of the table.
+-- The width is the type's.
 width : (c : tie.After-width-of) → let a = c .before .before .before .before .before .before .before .before .args in
     c .width-of .result ≡ typeAt (fieldAt (wordsOf (a .body .now)) (a .w) .type) .width
 width c = rw (c .before .word2 .ensures .value) at (c .width-of .ensures)
 
 known : (c : tie.After-width-of) → isWidth (c .width-of .result) ≡ true
-known c = rw (width c) (is-width _ (c .before .before .before .before .before .before .before .before .pre .0 .1))
+known c = rw (width c) (is-width _)
 
 null : (c : tie.After-null-of)
     → let a = c .before .before .before .before .before .before .before .before .before .before .before .before .args in
@@ -72,13 +72,13 @@ returns-2 : tie.Need-returns-2
 returns-2 c =
     let call = c .before .before in
     let o = null (call .before) in
-    got-stored _ _ _ (o .same) _ _ _ _ (omega (arith, o .long)) (call .store .ensures)
+    got-stored _ _ _ (o .same) _ _ _ _ (omega (arith, o .long, call .store .ensures .0)) (call .store .ensures .1)
 
 returns-3 : tie.Need-returns-3
 returns-3 c =
     let call = c .before .before in
     let o = number (call .before) in
-    got-stored _ _ _ (o .same) _ _ _ _ (omega (arith, o .long)) (call .store2 .ensures)
+    got-stored _ _ _ (o .same) _ _ _ _ (omega (arith, o .long, call .store2 .ensures .0)) (call .store2 .ensures .1)
 
 pub write-value-spec : {M : Type 1} → statement M
 write-value-spec =
@@ -89,12 +89,11 @@ write-value-spec =
     (λ c. omega (arith, there (c .before .before .before .before .before .before .before))) (λ c. omega
     (arith, there (c .before .before .before .before .before .before .before .before)))
     put-octets-requires (λ c. search needs) returns (λ c. search needs) (λ c κs. search needs)
-    (λ c κs. rw (c .word2 .ensures .value) (c .before .before .before .before .before .before .before .pre .0 .1))
+    (λ c κs. search needs)
     (λ c. omega (arith, there (c .before .before .before .before .before .before .before .before))) (λ c. omega
     (arith, there (c .before .before .before .before .before .before .before .before)))
     (λ c. omega (arith, there (c .before .before .before .before .before .before .before .before .before)))
-    (λ c κs. rw (c .before .before .before .before .word2 .ensures .value)
-    (c .before .before .before .before .before .before .before .before .before .before .before .pre .0 .1))
+    (λ c κs. search needs)
     (λ c κs. (known (c .before .before .before .before), omega (arith, null c .fits))) (λ c. search needs) returns-2
     (λ c. omega (
       arith,

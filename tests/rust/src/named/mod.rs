@@ -9,6 +9,7 @@ mod largest;
 mod longest;
 mod messages;
 mod readings;
+mod types;
 mod unwritten;
 mod writing;
 
@@ -36,7 +37,7 @@ pub enum Expected {
 
 pub fn run(report: &mut Report) {
     let read = [books::cases(), borders::cases(), messages::cases(), readings::cases(), counted::cases()];
-    let written = [writing::cases(), unwritten::cases()];
+    let written = [writing::cases(), unwritten::cases(), types::cases()];
     for case in read.iter().chain(&written).flatten() {
         let outcome = case.ask(&Plain).and_then(|()| case.ask(&Free)).and_then(|()| case.ask(&Stream));
         let input = || format!("{}, book {}, message {}", case.name, hex(&case.book), hex(&case.message));
