@@ -90,16 +90,22 @@ signed t = each-type (λ k. k .signed ≡ true → Signed k) (λ e. absurd (fals
           whole = omega (arith, a .whole);
         }
 
-module _ (k : TypeRow) (x : ℕ) (s : k .signed ≡ true) (a : Signed k) where
-  pub value-high : k .greatest < x → x < 256 ^ k .width → valueOf k x ≡ k .null + (x - k .greatest - 1)
-  unfolding valueOf if_then_else_ _and_
-  value-high h b =
-      rw (s, le-leb (256 ^ k .width / 2) x (omega (arith, a .half)))
-      (omega (arith, a .half, a .even, a .least, a .whole))
+-- n and g are its null and its greatest.
+module _ (k : TypeRow) (x n g : ℕ) (s : k .signed ≡ true) (a : Signed k) (null : n ≡ k .null) (greatest : g ≡ k .greatest)
+  where
+    pub value-high : g < x → x < 256 ^ k .width → valueOf k x ≡ n + (x - g - 1)
+    unfolding valueOf if_then_else_ _and_
+    value-high h b =
+        rw (s, le-leb (256 ^ k .width / 2) x (omega (arith, a .half, greatest)))
+        (omega (arith, a .half, a .even, a .least, a .whole, null, greatest))
 
-  pub value-low : x ≤ k .greatest → valueOf k x ≡ x
-  unfolding valueOf if_then_else_ _and_
-  value-low h = rw (s, lt-leb (256 ^ k .width / 2) x (omega (arith, a .half))) refl
+    pub value-low : x ≤ g → valueOf k x ≡ x
+    unfolding valueOf if_then_else_ _and_
+    value-low h = rw (s, lt-leb (256 ^ k .width / 2) x (omega (arith, a .half, greatest))) refl
+
+    -- The larger number is one of 64 bits.
+    pub value-fits : g < x → x < 256 ^ k .width → n + (x - g - 1) < 2 ^ 64
+    value-fits h b = omega (arith, a .half, a .even, a .least, null, greatest)
 
 -- ---- null and the range
 
