@@ -1,5 +1,5 @@
 -- What the types have in common, in the code's terms.
-use mathlib.Core.Path.{_∙_, _≡_, refl, sym}
+use mathlib.Core.Path.{_≡_, refl, sym}
 use mathlib.Core.Bool.{Bool, false, false≢true, true}
 use Prim.Native.Nat.{_%_, _+_, _-_, _/_, _<_, _^_, _≤_, ℕ}
 use native.Mathlib.Omega.{arith}
@@ -48,87 +48,55 @@ pub char-above : (t : ℕ) → 9 ≤ t → typeAt t ≡ char
 unfolding typeAt if_then_else_ _and_
 char-above t h = rw (le-leb 1 t (omega arith), lt-leb t 8 h) refl
 
-abbrev Other : ℕ → ℕ → Type 0
-Other t k = t ≡ k → ⊥
-
--- What is no integer has the type of 0.
-pub other-type : (t : ℕ)
-    → (((((((Unit {0} × Other t 1) × Other t 2) × Other t 3) × Other t 4) × Other t 5) × Other t 6) × Other t 7)
-    × Other t 8
-    → typeAt t ≡ typeAt 0
-other-type t r = go (leb 1 t) refl
-  where
-    above : 1 ≤ t → 9 ≤ t
-    above h =
-        let low : 5 ≤ t =
-        omega (arith, r .0 .0 .0 .0 .0 .0 .0 .1, r .0 .0 .0 .0 .0 .0 .1, r .0 .0 .0 .0 .0 .1, r .0 .0 .0 .0 .1) in
-        omega (arith, r .0 .0 .0 .1, r .0 .0 .1, r .0 .1, r .1)
-
-    go : (b : Bool) → leb 1 t ≡ b → typeAt t ≡ typeAt 0
-    go true e = char-above t (above (leb-true 1 t e)) ∙ sym (char-below 0 (omega arith))
-    go false e = char-below t (leb-false 1 t e) ∙ sym (char-below 0 (omega arith))
-
 -- ---- values
 
--- Of a signed type: where its numbers turn negative, and its null, which is the least of these.
-pub record Signed (k : TypeRow) : Type 0 where
-  pub half : k .greatest + 1 ≡ 256 ^ k .width / 2
-  pub even : 256 ^ k .width / 2 + 256 ^ k .width / 2 ≡ 256 ^ k .width
-  pub least : k .null + 256 ^ k .width / 2 ≡ 2 ^ 64
-  pub whole : 256 ^ k .width ≤ 2 ^ 64
+-- Of a signed type the numbers above the greatest are its negatives, from the least on, its null: n and g are the two.
+module _ (t x n g : ℕ) (s : typeAt t .signed ≡ true) (e : n ≡ typeAt t .null) (f : g ≡ typeAt t .greatest) where
+  of-signed : (P : TypeRow → Type 0) → ((w : ℕ) → Width w → n ≡ int w .null → g ≡ int w .greatest → P (int w)) → P (typeAt t)
+  of-signed P i =
+      each-type (λ k. k .signed ≡ true → n ≡ k .null → g ≡ k .greatest → P k) (λ s. absurd (false≢true s))
+      (λ w a s e f. i w a e f) (λ w a s. absurd (false≢true s)) t s e f
 
-pub signed : (t : ℕ) → typeAt t .signed ≡ true → Signed (typeAt t)
-signed t = each-type (λ k. k .signed ≡ true → Signed k) (λ e. absurd (false≢true e)) int-signed
-    (λ w a e. absurd (false≢true e)) t
-  where
-    int-signed : (w : ℕ) → Width w → true ≡ true → Signed (int w)
-    int-signed w a e =
-        record {
-          half = omega (arith, a .even, a .many);
-          even = a .even;
-          least = omega (arith, a .even, a .whole);
-          whole = omega (arith, a .whole);
-        }
+  pub value-high : g < x → x < 256 ^ typeAt t .width → valueOf (typeAt t) x ≡ n + (x - g - 1)
+  unfolding valueOf if_then_else_ _and_
+  value-high h =
+      of-signed (λ k. x < 256 ^ k .width → valueOf k x ≡ n + (x - g - 1)) (λ w a e f b.
+      rw (le-leb (256 ^ w / 2) x (omega (arith, f, a .even, a .many))) (omega (arith, e, f, a .even, a .whole, a .many)))
 
--- n and g are its null and its greatest.
-module _ (k : TypeRow) (x n g : ℕ) (s : k .signed ≡ true) (a : Signed k) (null : n ≡ k .null) (greatest : g ≡ k .greatest)
-  where
-    pub value-high : g < x → x < 256 ^ k .width → valueOf k x ≡ n + (x - g - 1)
-    unfolding valueOf if_then_else_ _and_
-    value-high h b =
-        rw (s, le-leb (256 ^ k .width / 2) x (omega (arith, a .half, greatest)))
-        (omega (arith, a .half, a .even, a .least, a .whole, null, greatest))
+  pub value-low : x ≤ g → valueOf (typeAt t) x ≡ x
+  unfolding valueOf if_then_else_ _and_
+  value-low h =
+      of-signed (λ k. valueOf k x ≡ x) (λ w a e f. rw (lt-leb (256 ^ w / 2) x (omega (arith, f, a .even, a .many))) refl)
 
-    pub value-low : x ≤ g → valueOf k x ≡ x
-    unfolding valueOf if_then_else_ _and_
-    value-low h = rw (s, lt-leb (256 ^ k .width / 2) x (omega (arith, a .half, greatest))) refl
-
-    -- The larger number is one of 64 bits.
-    pub value-fits : g < x → x < 256 ^ k .width → n + (x - g - 1) < 2 ^ 64
-    value-fits h b = omega (arith, a .half, a .even, a .least, null, greatest)
+  -- The larger number is one of 64 bits.
+  pub value-fits : g < x → x < 256 ^ typeAt t .width → n + (x - g - 1) < 2 ^ 64
+  value-fits h =
+      of-signed (λ k. x < 256 ^ k .width → n + (x - g - 1) < 2 ^ 64)
+      (λ w a e f b. omega (arith, e, f, a .even, a .whole, a .many))
 
 -- ---- null and the range
 
 -- d and s are how far x and the greatest, g, are from the least, l, counted upwards and around 2 ^ 64.
-module _ (l g x d s : ℕ) (from : (d + l) % 2 ^ 64 ≡ x) (span : (s + l) % 2 ^ 64 ≡ g) (f : d < 2 ^ 64) (h : s < 2 ^ 64) where
+module _ (l g x d s : ℕ) (e : (d + l) % 2 ^ 64 ≡ x) (f : (s + l) % 2 ^ 64 ≡ g) (a : d < 2 ^ 64) (b : s < 2 ^ 64) where
   between : l ≤ g → g < 2 ^ 64 → (leb l x and leb x g) ≡ leb d s
   unfolding _and_
-  between le b = go (leb l x) refl (leb x g) refl
+  between h k = go (leb l x) refl (leb x g) refl
     where
       go : (p : Bool) → leb l x ≡ p → (q : Bool) → leb x g ≡ q → (p and q) ≡ leb d s
-      go true p true q = sym (le-leb d s (omega (arith, leb-true l x p, leb-true x g q, from, span)))
-      go true p false q = sym (lt-leb d s (omega (arith, leb-true l x p, leb-false x g q, from, span)))
-      go false p q r = sym (lt-leb d s (omega (arith, leb-false l x p, from, span)))
+      go true p true q = sym (le-leb d s (omega (arith, leb-true l x p, leb-true x g q, e, f)))
+      go true p false q = sym (lt-leb d s (omega (arith, leb-true l x p, leb-false x g q, e, f)))
+      go false p q r = sym (lt-leb d s (omega (arith, leb-false l x p, e, f)))
 
   around : g < l → l < 2 ^ 64 → (leb x g or leb l x) ≡ leb d s
   unfolding _or_
-  around lt b = go (leb x g) refl (leb l x) refl
+  around h k = go (leb x g) refl (leb l x) refl
     where
       go : (p : Bool) → leb x g ≡ p → (q : Bool) → leb l x ≡ q → (p or q) ≡ leb d s
-      go true p q r = sym (le-leb d s (omega (arith, leb-true x g p, from, span)))
-      go false p true q = sym (le-leb d s (omega (arith, leb-false x g p, leb-true l x q, from, span)))
-      go false p false q = sym (lt-leb d s (omega (arith, leb-false x g p, leb-false l x q, from, span)))
+      go true p q r = sym (le-leb d s (omega (arith, leb-true x g p, e, f)))
+      go false p true q = sym (le-leb d s (omega (arith, leb-false x g p, leb-true l x q, e, f)))
+      go false p false q = sym (lt-leb d s (omega (arith, leb-false x g p, leb-false l x q, e, f)))
 
+-- So a value is in range where it is no farther than the greatest.
 pub in-span : (t x d s : ℕ) → (d + typeAt t .least) % 2 ^ 64 ≡ x → (s + typeAt t .least) % 2 ^ 64 ≡ typeAt t .greatest
     → d < 2 ^ 64 → s < 2 ^ 64 → inRange (typeAt t) x ≡ leb d s
 unfolding inRange if_then_else_
@@ -137,8 +105,9 @@ in-span t x d s =
     (λ k. (d + k .least) % 2 ^ 64 ≡ x → (s + k .least) % 2 ^ 64 ≡ k .greatest → d < 2 ^ 64 → s < 2 ^ 64
     → inRange k x ≡ leb d s)
     (λ e f a b. between 32 126 x d s e f a b (omega arith) (omega arith))
-    (λ w a e f u v. around _ _ x d s e f u v (omega (arith, a .even, a .whole, a .many)) (omega (arith, a .even, a .many)))
-    (λ w a e f u v. between 0 _ x d s e f u v (omega arith) (omega (arith, a .whole)))
+    (λ w k e f a b. around _ _ x d s e f a b (omega (arith, k .even, k .whole, k .many))
+    (omega (arith, k .even, k .many)))
+    (λ w k e f a b. between 0 _ x d s e f a b (omega arith) (omega (arith, k .whole)))
     t
 
 -- What is in range is a number, null or not being asked.

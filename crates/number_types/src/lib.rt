@@ -4,10 +4,8 @@ use std::num::wrapping_sub_u64;
 ghost use mathlib.Core.Path.{_≡_};
 ghost use mathlib.Core.Bool.{true};
 ghost use Prim.Native.Nat.{_+_, _^_, _<_, _≤_};
-ghost use lib.Dec.{eqb};
 ghost use lib.ListN.{length};
 ghost use lib.Seq.{sets};
-ghost use Rattle.layout.specs.Result.{_and_};
 ghost use Rattle.layout.specs.Octets.{octetsOf};
 ghost use Rattle.layout.specs.Types.{rowOf, typeAt, isWidth, valueOf, inRange, classify as classOf};
 ghost use Rattle.octets.specs.Spelt.{Spelt};
@@ -22,6 +20,7 @@ pub struct NumberType {
     pub null: u64,
 }
 
+// The one special case.
 const CHAR: NumberType = NumberType {
     width: 1,
     signed: false,
@@ -57,8 +56,8 @@ fn integer(width: usize, signed: bool) -> NumberType
     }
 }
 
-// The type with code t. 1 to 8 are the integers: the odd ones have a sign, and each pair has twice the octets of the one
-// before it.
+// The type with code t. 1 to 8 are the integers: the odd ones have a sign, and each pair has twice the octets of the
+// one before it.
 pub fn number_type(t: usize) -> NumberType
     ensures { λ r. ⌜ r ≡ kept (typeAt t) ⌝ }
 {
@@ -93,8 +92,8 @@ pub fn raw(s: &[u8], at: usize, w: usize) -> u64
     }
 }
 
-// The w lowest octets of x, stored at `at`: how many they are. Each arm says its own number, so that what is stored next
-// does not wait for w to be worked out.
+// The w lowest octets of x, stored at `at`: how many they are. Each arm says its own number, so that what is stored
+// next does not wait for w to be worked out.
 pub fn store(s: &mut [u8], at: usize, w: usize, x: u64) -> usize
     requires { ⌜ (isWidth w ≡ true) × (at + w ≤ length (now s)) ⌝ }
     ensures { λ r. ⌜ (r ≡ w) × (now (s .exit) ≡ sets (now (s .entry)) at (octetsOf w x)) ⌝ }
@@ -143,12 +142,6 @@ pub fn in_range(t: usize, x: u64) -> bool
     wrapping_sub_u64(x, k.least) <= wrapping_sub_u64(k.greatest, k.least)
 }
 
-fn is_null(t: usize, optional: bool, x: u64) -> bool
-    ensures { λ r. ⌜ r ≡ (optional and eqb x (typeAt t .null)) ⌝ }
-{
-    if optional { x == null_of(t) } else { false }
-}
-
 // What a value is to an optional or a required field: a number, null, or out of range. No null is in its range, so that
 // what is most frequent is asked first.
 pub fn classify(t: usize, optional: bool, x: u64) -> Answer
@@ -157,8 +150,10 @@ pub fn classify(t: usize, optional: bool, x: u64) -> Answer
     if in_range(t, x) {
         return Answer::Number(x);
     }
-    if is_null(t, optional, x) {
-        return Answer::Null;
+    if optional {
+        if x == null_of(t) {
+            return Answer::Null;
+        }
     }
     Answer::OutOfRange(x)
 }
@@ -172,12 +167,13 @@ fn read_as(s: &[u8], at: usize, t: usize, optional: bool) -> Answer
     classify(t, optional, value_of(t, x))
 }
 
-// The same. The compiler works out each arm for its one type.
+// The same. The compiler works out each arm but the last for its one type.
 pub fn read(s: &[u8], at: usize, t: usize, optional: bool) -> Answer
     requires { ⌜ at + typeAt t .width ≤ length (now s) ⌝ }
     ensures { λ r. ⌜ r ≡ classOf (typeAt t) optional (valueAt (now (s .entry)) at t) ⌝ }
 {
     match t {
+        0 => read_as(s, at, 0, optional),
         1 => read_as(s, at, 1, optional),
         2 => read_as(s, at, 2, optional),
         3 => read_as(s, at, 3, optional),
@@ -186,6 +182,6 @@ pub fn read(s: &[u8], at: usize, t: usize, optional: bool) -> Answer
         6 => read_as(s, at, 6, optional),
         7 => read_as(s, at, 7, optional),
         8 => read_as(s, at, 8, optional),
-        _ => read_as(s, at, 0, optional),
+        _ => read_as(s, at, t, optional),
     }
 }

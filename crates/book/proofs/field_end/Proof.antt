@@ -1,6 +1,6 @@
 -- A type's width is at most 8.
 use mathlib.Core.Path.{refl}
-use Prim.Native.Nat.{_*_, _<_}
+use Prim.Native.Nat.{_*_, _<_, _≤_}
 use native.Mathlib.Nat.{mul-le-mul-right}
 use native.Mathlib.Omega.{arith}
 use borrow.Author.Needs.{needs}
@@ -10,8 +10,9 @@ use Rattle.book.proofs.field_end.Tie as tie
 
 small : (c : tie.After-width-of) → c .width-of .result * c .before .args .n < 524288
 small c =
-    let few = mul-le-mul-right {m = c .width-of .result} {n = 8} (c .before .args .n) (rw (c .width-of .ensures) (width-few (c .before .args .t))) in
-    omega (arith, few, c .before .pre .0)
+    let a = c .before .args in
+    let few : c .width-of .result ≤ 8 = rw (c .width-of .ensures) (width-few (a .t)) in
+    omega (arith, mul-le-mul-right (a .n) few, c .before .pre .0)
 
 pub field-end-spec : {M : Type 1} → statement M
 field-end-spec =

@@ -1,7 +1,8 @@
 -- Each return is the definition's case by the tests that led there.
 use mathlib.Core.Path.{_∙_, sym}
 use borrow.Author.Needs.{needs}
-use Rattle.layout.specs.Result.{if_then_else_}
+use borrow.Author.Tests.{eq-eqb, ne-eqb}
+use Rattle.layout.specs.Result.{_and_, if_then_else_}
 use Rattle.layout.specs.Types.{classify}
 use Rattle.number_types.proofs.Laws.{in-range-number}
 use Rattle.number_types.proofs.classify.Statement.{statement}
@@ -11,15 +12,27 @@ returns : tie.Need-returns
 returns c = sym (in-range-number _ _ _ (sym (c .before .in-range .ensures) ∙ c .if1 .taken))
 
 returns-2 : tie.Need-returns-2
-unfolding classify if_then_else_
-returns-2 c = simp (← (c .before .is-null .ensures), c .if2 .taken)
+unfolding classify if_then_else_ _and_
+returns-2 c =
+    let null = c .before in
+    simp (null .before .if2 .taken, eq-eqb _ _ (c .if3 .taken ∙ null .null-of .ensures))
 
 returns-3 : tie.Need-returns-3
-unfolding classify if_then_else_
+unfolding classify if_then_else_ _and_
 returns-3 c =
-    let range = c .before .before in
-    simp (← (c .before .is-null .ensures), c .if2 .left, ← (range .before .in-range .ensures), range .if1 .left)
+    let null = c .before in
+    let range = null .before .before in
+    simp (
+      null .before .if2 .taken,
+      ne-eqb _ _ (λ e. c .if3 .left (e ∙ sym (null .null-of .ensures))),
+      ← (range .before .in-range .ensures),
+      range .if1 .left,
+    )
+
+returns-4 : tie.Need-returns-4
+unfolding classify if_then_else_ _and_
+returns-4 c = simp (c .if2 .left, ← (c .before .before .in-range .ensures), c .before .if1 .left)
 
 pub classify-spec : {M : Type 1} → statement M
 classify-spec =
-    tie.close (tie.spec (λ c κs. search needs) returns (λ c κs. search needs) returns-2 returns-3)
+    tie.close (tie.spec (λ c κs. search needs) returns (λ c κs. search needs) returns-2 returns-3 returns-4)

@@ -9,9 +9,9 @@ use Rattle.number_types.proofs.in_range.Tie as tie
 returns : tie.Need-returns
 returns c =
     let from = c .before in
-    let k = from .before in
-    let e = k .number-type .ensures in
-    sym (in-span _ _ _ _ (rw e at (from .wrapping-sub-u64 .ensures)) (rw e at (c .wrapping-sub-u642 .ensures)) (omega arith) (omega arith))
+    let e = from .before .number-type .ensures in
+    sym (in-span _ _ _ _ (rw e at (from .wrapping-sub-u64 .ensures)) (rw e at (c .wrapping-sub-u642 .ensures))
+    (omega arith) (omega arith))
 
 pub in-range-spec : {M : Type 1} → statement M
 in-range-spec =

@@ -3,7 +3,7 @@ use mathlib.Core.Bool.{false, true}
 use mathlib.Core.Path.{_≡_, refl}
 use Prim.Native.Nat.{_*_, _+_, _-_, _/_, _<_, _^_, _≤_, ℕ}
 use native.Mathlib.Omega.{arith}
-use Rattle.layout.specs.Types.{isWidth, rowOf}
+use Rattle.layout.specs.Types.{rowOf}
 use Rattle.number_types.specs.Value.{kept}
 use Rattle.number_types.proofs.Laws.{each-width}
 use Rattle.number_types.proofs.integer.Statement.{statement}
@@ -13,14 +13,11 @@ use Rattle.number_types.proofs.integer.Tie as tie
 abbrev ones : ℕ → ℕ
 ones w = (2 ^ 64 - 1) / 2 ^ (64 - 8 * w)
 
-abbrev Small : ℕ → Type 0
-Small w = (1 ≤ w) × (w ≤ 8) × (2 ≤ ones w) × (ones w < 2 ^ 64)
-
-small : (c : tie.Start) → Small (c .args .width)
+small : (c : tie.Start) → let w = c .args .width in (1 ≤ w) × (w ≤ 8) × (2 ≤ ones w) × (ones w < 2 ^ 64)
 small c =
-    each-width Small (omega arith, omega arith, omega arith, omega arith)
+    each-width (λ w. (1 ≤ w) × (w ≤ 8) × (2 ≤ ones w) × (ones w < 2 ^ 64))
     (omega arith, omega arith, omega arith, omega arith) (omega arith, omega arith, omega arith, omega arith)
-    (omega arith, omega arith, omega arith, omega arith) _ (c .pre)
+    (omega arith, omega arith, omega arith, omega arith) (omega arith, omega arith, omega arith, omega arith) _ (c .pre)
 
 returns : tie.Need-returns
 returns c =

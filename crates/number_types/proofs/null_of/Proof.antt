@@ -1,11 +1,6 @@
--- The type's own.
-use mathlib.Core.Path.{ap}
 use borrow.Author.Needs.{needs}
-use Rattle.number_types.specs.declared.NumberType.{NumberType}
 use Rattle.number_types.proofs.null_of.Statement.{statement}
 use Rattle.number_types.proofs.null_of.Tie as tie
 
 pub null-of-spec : {M : Type 1} → statement M
-null-of-spec =
-    tie.close
-    (tie.spec (λ c κs. search needs) (λ c. ap (λ (k : NumberType). k .null) (c .number-type .ensures)))
+null-of-spec = tie.close (tie.spec (λ c κs. search needs) (λ c. cc (c .number-type .ensures)))

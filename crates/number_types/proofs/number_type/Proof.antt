@@ -20,8 +20,9 @@ integer-requires c κs = rw (doubled _ (c .if2 .taken)) (width-at _ (c .if2 .tak
 
 returns : tie.Need-returns
 returns c =
-    let test = c .before in
-    rw (c .integer .ensures, doubled _ (test .if2 .taken), integer-at _ (test .before .if1 .left) (test .if2 .taken)) refl
+    let from = c .before .before .if1 .left in
+    let below = c .before .if2 .taken in
+    rw (c .integer .ensures, doubled _ below, integer-at _ from below) refl
 
 pub number-type-spec : {M : Type 1} → statement M
 number-type-spec =

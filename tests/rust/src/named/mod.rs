@@ -37,14 +37,15 @@ pub enum Expected {
 
 pub fn run(report: &mut Report) {
     let read = [books::cases(), borders::cases(), messages::cases(), readings::cases(), counted::cases()];
-    let written = [writing::cases(), unwritten::cases(), types::cases()];
+    let written = [writing::cases(), unwritten::cases()];
     for case in read.iter().chain(&written).flatten() {
-        let outcome = case.ask(&Plain).and_then(|()| case.ask(&Free)).and_then(|()| case.ask(&Stream));
-        let input = || format!("{}, book {}, message {}", case.name, hex(&case.book), hex(&case.message));
-        if report.check(outcome, input) {
+        if case.run(report) {
             println!("ok {}", case.name);
         }
     }
+    let typed = types::cases();
+    let passed = typed.iter().filter(|case| case.run(report)).count();
+    println!("the nine types at their borders: {passed} of {}", typed.len());
     let calls = calls::calls().into_iter().chain(counted::calls()).chain(largest::calls()).chain(longest::calls());
     for (name, call) in calls {
         if report.check(call(), || name.into()) {
@@ -57,6 +58,11 @@ pub fn run(report: &mut Report) {
 const ONES: u8 = 0xff;
 
 impl Case {
+    fn run(&self, report: &mut Report) -> bool {
+        let outcome = self.ask(&Plain).and_then(|()| self.ask(&Free)).and_then(|()| self.ask(&Stream));
+        report.check(outcome, || format!("{}, book {}, message {}", self.name, hex(&self.book), hex(&self.message)))
+    }
+
     fn ask(&self, reader: &dyn Reader) -> Result<(), String> {
         let (book, message, name) = (&self.book[..], &self.message[..], reader.name());
         match &self.expected {
