@@ -167,13 +167,12 @@ fn read_as(s: &[u8], at: usize, t: usize, optional: bool) -> Answer
     classify(t, optional, value_of(t, x))
 }
 
-// The same. The compiler works out each arm but the last for its one type.
+// The same. The compiler works out each arm for its one type.
 pub fn read(s: &[u8], at: usize, t: usize, optional: bool) -> Answer
     requires { ⌜ at + typeAt t .width ≤ length (now s) ⌝ }
     ensures { λ r. ⌜ r ≡ classOf (typeAt t) optional (valueAt (now (s .entry)) at t) ⌝ }
 {
     match t {
-        0 => read_as(s, at, 0, optional),
         1 => read_as(s, at, 1, optional),
         2 => read_as(s, at, 2, optional),
         3 => read_as(s, at, 3, optional),
@@ -182,6 +181,6 @@ pub fn read(s: &[u8], at: usize, t: usize, optional: bool) -> Answer
         6 => read_as(s, at, 6, optional),
         7 => read_as(s, at, 7, optional),
         8 => read_as(s, at, 8, optional),
-        _ => read_as(s, at, t, optional),
+        _ => read_as(s, at, 0, optional),
     }
 }

@@ -7,7 +7,7 @@ use lib.Dec.{lit<}
 use lib.Pow.{shl-exact}
 use Rattle.layout.specs.Types.{widthOf}
 use Rattle.layout.proofs.TypeLaws.{width-at}
-use Rattle.number_types.proofs.Laws.{char-above, char-below, integer-at}
+use Rattle.number_types.proofs.Laws.{char-at, integer-at}
 use Rattle.number_types.proofs.number_type.Statement.{statement}
 use Rattle.number_types.proofs.number_type.Tie as tie
 
@@ -27,5 +27,5 @@ returns c =
 pub number-type-spec : {M : Type 1} → statement M
 number-type-spec =
     tie.close
-    (tie.spec (λ c. omega arith) integer-requires returns (λ c. rw (char-below _ (c .if1 .taken)) refl)
-    (λ c. rw (char-above _ (c .if2 .left)) refl))
+    (tie.spec (λ c. omega arith) integer-requires returns (λ c. rw (char-at (c .before .args .t) (λ h. omega (arith, c .if1 .taken))) refl)
+    (λ c. rw (char-at _ (λ h. c .if2 .left)) refl))

@@ -1,7 +1,12 @@
--- Each arm reads the type that it names.
-use borrow.Author.Needs.{needs}
+-- Each arm reads the type that it names; the last one's is char.
+use mathlib.Core.Path.{_≡_}
+use Rattle.layout.specs.Types.{typeAt}
+use Rattle.number_types.proofs.Laws.{other-type}
 use Rattle.number_types.proofs.read.Statement.{statement}
 use Rattle.number_types.proofs.read.Tie as tie
+
+other : (c : tie.At-match-rest) → typeAt (c .before .before .args .t) ≡ typeAt 0
+other c = other-type _ (c .match .rest)
 
 pub read-spec : {M : Type 1} → statement M
 read-spec =
@@ -15,8 +20,7 @@ read-spec =
     (λ c κs. rw (c .match .keys6) at (c .before .before .pre))
     (λ c κs. rw (c .match .keys7) at (c .before .before .pre))
     (λ c κs. rw (c .match .keys8) at (c .before .before .pre))
-    (λ c κs. rw (c .match .keys9) at (c .before .before .pre))
-    (λ c κs. search needs)
+    (λ c κs. rw (other c) at (c .before .before .pre))
     (λ c. rw (c .before .match .keys1) (c .read-as .ensures))
     (λ c. rw (c .before .match .keys2) (c .read-as2 .ensures))
     (λ c. rw (c .before .match .keys3) (c .read-as3 .ensures))
@@ -25,5 +29,4 @@ read-spec =
     (λ c. rw (c .before .match .keys6) (c .read-as6 .ensures))
     (λ c. rw (c .before .match .keys7) (c .read-as7 .ensures))
     (λ c. rw (c .before .match .keys8) (c .read-as8 .ensures))
-    (λ c. rw (c .before .match .keys9) (c .read-as9 .ensures))
-    (λ c. c .read-as10 .ensures))
+    (λ c. rw (other (c .before)) (c .read-as9 .ensures)))
