@@ -1,5 +1,5 @@
 -- What the types have in common, in the code's terms.
-use mathlib.Core.Path.{_∙_, _≡_, refl, sym}
+use mathlib.Core.Path.{_≡_, refl, sym}
 use mathlib.Core.Bool.{Bool, false, false≢true, true}
 use Prim.Native.Nat.{_%_, _+_, _-_, _/_, _<_, _^_, _≤_, ℕ}
 use native.Mathlib.Omega.{arith}
@@ -47,22 +47,6 @@ char-at t h = go (leb 1 t) refl
     go : (b : Bool) → leb 1 t ≡ b → (if b and leb t 8 then rowOf (widthOf t) (isSigned t) else char) ≡ char
     go true e = rw (lt-leb t 8 (h (leb-true 1 t e))) refl
     go false e = refl
-
-abbrev Other : ℕ → ℕ → Type 0
-Other t k = t ≡ k → ⊥
-
--- What is none of the integers' codes has the type of 0.
-pub other-type : (t : ℕ)
-    → (((((((Unit {0} × Other t 1) × Other t 2) × Other t 3) × Other t 4) × Other t 5) × Other t 6) × Other t 7)
-    × Other t 8
-    → typeAt t ≡ typeAt 0
-other-type t r = char-at t above ∙ sym (char-at 0 (λ h. omega arith))
-  where
-    above : 1 ≤ t → 9 ≤ t
-    above h =
-        let low : 5 ≤ t =
-        omega (arith, r .0 .0 .0 .0 .0 .0 .0 .1, r .0 .0 .0 .0 .0 .0 .1, r .0 .0 .0 .0 .0 .1, r .0 .0 .0 .0 .1) in
-        omega (arith, r .0 .0 .0 .1, r .0 .0 .1, r .0 .1, r .1)
 
 -- ---- values
 

@@ -1,12 +1,19 @@
 -- Each arm reads the type that it names; the last one's is char.
-use mathlib.Core.Path.{_≡_}
+use mathlib.Core.Path.{_∙_, _≡_, sym}
+use Prim.Native.Nat.{_≤_}
+use native.Mathlib.Omega.{arith}
 use Rattle.layout.specs.Types.{typeAt}
-use Rattle.number_types.proofs.Laws.{other-type}
+use Rattle.number_types.proofs.Laws.{char-at}
 use Rattle.number_types.proofs.read.Statement.{statement}
 use Rattle.number_types.proofs.read.Tie as tie
 
 other : (c : tie.At-match-rest) → typeAt (c .before .before .args .t) ≡ typeAt 0
-other c = other-type _ (c .match .rest)
+other c =
+    let t = c .before .before .args .t in
+    let r = c .match .rest in
+    let low : 1 ≤ t → 5 ≤ t = λ h.
+    omega (arith, r .0 .0 .0 .0 .0 .0 .0 .1, r .0 .0 .0 .0 .0 .0 .1, r .0 .0 .0 .0 .0 .1, r .0 .0 .0 .0 .1) in
+    char-at t (λ h. omega (arith, low h, r .0 .0 .0 .1, r .0 .0 .1, r .0 .1, r .1)) ∙ sym (char-at 0 (λ h. omega arith))
 
 pub read-spec : {M : Type 1} → statement M
 read-spec =
