@@ -111,26 +111,12 @@ null-back t =
 
 -- A type's null is not in its range.
 null-outside : (t : ℕ) → inRange (typeAt t) (typeAt t .null) ≡ false
-null-outside t = each-type (λ k. inRange k (k .null) ≡ false) in-char in-int in-uint t
-  where
-    in-char : inRange char 0 ≡ false
-    in-char = unfold inRange if_then_else_ _and_ in refl
-
-    in-int : (w : ℕ) → Width w → inRange (int w) (2 ^ 64 - 256 ^ w / 2) ≡ false
-    in-int w a =
-        let n = 2 ^ 64 - 256 ^ w / 2 in
-        unfold inRange if_then_else_ _or_ in
-        rw (lt-leb n (256 ^ w / 2 - 1) (omega (arith, a .even, a .whole, a .many)), lt-leb (n + 1) n (omega arith))
-        refl
-
-    in-uint : (w : ℕ) → Width w → inRange (uint w) (256 ^ w - 1) ≡ false
-    in-uint w a =
-        unfold inRange if_then_else_ _and_ in
-        rw (
-          le-leb 0 (256 ^ w - 1) (omega arith),
-          lt-leb (256 ^ w - 1) (256 ^ w - 2)
-              (omega (arith, a .even, a .many)),
-        ) refl
+unfolding inRange if_then_else_ _and_ _or_
+null-outside t =
+    each-type (λ k. inRange k (k .null) ≡ false) refl
+    (λ w a. let n = 2 ^ 64 - 256 ^ w / 2 in
+    rw (lt-leb n (256 ^ w / 2 - 1) (omega (arith, a .even, a .whole, a .many)), lt-leb (n + 1) n (omega arith)) refl)
+    (λ w a. rw (le-leb 0 (256 ^ w - 1) (omega arith), lt-leb (256 ^ w - 1) (256 ^ w - 2) (omega (arith, a .many))) refl) t
 
 pub inside-not-null : (t x : ℕ) → inRange (typeAt t) x ≡ true → eqb x (typeAt t .null) ≡ false
 inside-not-null t x r =

@@ -22,12 +22,8 @@ unfolding classify if_then_else_ _and_
 returns-3 c =
     let null = c .before in
     let range = null .before .before in
-    simp (
-      null .before .if2 .taken,
-      ne-eqb _ _ (λ e. c .if3 .left (e ∙ sym (null .null-of .ensures))),
-      ← (range .before .in-range .ensures),
-      range .if1 .left,
-    )
+    let other = ne-eqb _ _ (λ e. c .if3 .left (e ∙ sym (null .null-of .ensures))) in
+    simp (null .before .if2 .taken, other, ← (range .before .in-range .ensures), range .if1 .left)
 
 returns-4 : tie.Need-returns-4
 unfolding classify if_then_else_ _and_
