@@ -41,15 +41,12 @@ width-at t h = doubled ((t - 1) / 2) (omega arith)
 pub each-type : (P : TypeRow → Type 0) → P char → ((w : ℕ) → Width w → P (int w)) → ((w : ℕ) → Width w → P (uint w))
     → (t : ℕ) → P (typeAt t)
 unfolding typeAt if_then_else_
-each-type P c i u t = go (leb 1 t and leb t 8) refl
+each-type P c i u t = go (leb 1 t and leb t 8) refl (isSigned t)
   where
-    either-sign : (s : Bool) → Width (widthOf t) → P (rowOf (widthOf t) s)
-    either-sign true w = i _ w
-    either-sign false w = u _ w
-
-    go : (b : Bool) → (leb 1 t and leb t 8) ≡ b → P (if b then rowOf (widthOf t) (isSigned t) else char)
-    go true e = either-sign (isSigned t) (width-at t (omega (arith, leb-true t 8 (and-right _ _ e))))
-    go false e = c
+    go : (b : Bool) → (leb 1 t and leb t 8) ≡ b → (s : Bool) → P (if b then rowOf (widthOf t) s else char)
+    go true e true = i _ (width-at t (omega (arith, leb-true t 8 (and-right _ _ e))))
+    go true e false = u _ (width-at t (omega (arith, leb-true t 8 (and-right _ _ e))))
+    go false e s = c
 
 pub width-few : (t : ℕ) → typeAt t .width ≤ 8
 width-few t = each-type (λ k. k .width ≤ 8) (omega arith) (λ w a. a .few) (λ w a. a .few) t
@@ -116,7 +113,8 @@ null-outside t =
     each-type (λ k. inRange k (k .null) ≡ false) refl
     (λ w a. let n = 2 ^ 64 - 256 ^ w / 2 in
     rw (lt-leb n (256 ^ w / 2 - 1) (omega (arith, a .even, a .whole, a .many)), lt-leb (n + 1) n (omega arith)) refl)
-    (λ w a. rw (le-leb 0 (256 ^ w - 1) (omega arith), lt-leb (256 ^ w - 1) (256 ^ w - 2) (omega (arith, a .many))) refl) t
+    (λ w a. let n = 256 ^ w in
+    rw (le-leb 0 (n - 1) (omega arith), lt-leb (n - 1) (n - 2) (omega (arith, a .many))) refl) t
 
 pub inside-not-null : (t x : ℕ) → inRange (typeAt t) x ≡ true → eqb x (typeAt t .null) ≡ false
 inside-not-null t x r =

@@ -52,7 +52,8 @@ char-at t h = go (leb 1 t) refl
 
 -- Of a signed type the numbers above the greatest are its negatives, from the least on, its null: n and g are the two.
 module _ (t x n g : ℕ) (s : typeAt t .signed ≡ true) (e : n ≡ typeAt t .null) (f : g ≡ typeAt t .greatest) where
-  of-signed : (P : TypeRow → Type 0) → ((w : ℕ) → Width w → n ≡ int w .null → g ≡ int w .greatest → P (int w)) → P (typeAt t)
+  of-signed : (P : TypeRow → Type 0) → ((w : ℕ) → Width w → n ≡ int w .null → g ≡ int w .greatest → P (int w))
+      → P (typeAt t)
   of-signed P i =
       each-type (λ k. k .signed ≡ true → n ≡ k .null → g ≡ k .greatest → P k) (λ s. absurd (false≢true s))
       (λ w a s e f. i w a e f) (λ w a s. absurd (false≢true s)) t s e f
@@ -60,13 +61,15 @@ module _ (t x n g : ℕ) (s : typeAt t .signed ≡ true) (e : n ≡ typeAt t .nu
   pub value-high : g < x → x < 256 ^ typeAt t .width → valueOf (typeAt t) x ≡ n + (x - g - 1)
   unfolding valueOf if_then_else_ _and_
   value-high h =
-      of-signed (λ k. x < 256 ^ k .width → valueOf k x ≡ n + (x - g - 1)) (λ w a e f b.
-      rw (le-leb (256 ^ w / 2) x (omega (arith, f, a .even, a .many))) (omega (arith, e, f, a .even, a .whole, a .many)))
+      of-signed (λ k. x < 256 ^ k .width → valueOf k x ≡ n + (x - g - 1))
+      (λ w a e f b. rw (le-leb (256 ^ w / 2) x (omega (arith, f, a .even, a .many)))
+      (omega (arith, e, f, a .even, a .whole, a .many)))
 
   pub value-low : x ≤ g → valueOf (typeAt t) x ≡ x
   unfolding valueOf if_then_else_ _and_
   value-low h =
-      of-signed (λ k. valueOf k x ≡ x) (λ w a e f. rw (lt-leb (256 ^ w / 2) x (omega (arith, f, a .even, a .many))) refl)
+      of-signed (λ k. valueOf k x ≡ x)
+      (λ w a e f. rw (lt-leb (256 ^ w / 2) x (omega (arith, f, a .even, a .many))) refl)
 
   -- The larger number is one of 64 bits.
   pub value-fits : g < x → x < 256 ^ typeAt t .width → n + (x - g - 1) < 2 ^ 64

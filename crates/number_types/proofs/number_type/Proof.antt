@@ -27,5 +27,6 @@ returns c =
 pub number-type-spec : {M : Type 1} → statement M
 number-type-spec =
     tie.close
-    (tie.spec (λ c. omega arith) integer-requires returns (λ c. rw (char-at (c .before .args .t) (λ h. omega (arith, c .if1 .taken))) refl)
+    (tie.spec (λ c. omega arith) integer-requires returns
+    (λ c. rw (char-at (c .before .args .t) (λ h. omega (arith, c .if1 .taken))) refl)
     (λ c. rw (char-at _ (λ h. c .if2 .left)) refl))
