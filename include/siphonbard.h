@@ -78,7 +78,10 @@ extern "C" {
 /* When an entry is not below its group's count. Place: 0. */
 #define SIPHONBARD_REFUSED_ENTRY_MISSING 31
 
-/* When the room is below three numbers per record. Place: the number of records. */
+/*
+ * When the room is below three numbers per record, or below a prepared book's numbers. Place: the number of records,
+ * or of a prepared book's numbers.
+ */
 #define SIPHONBARD_REFUSED_ROOM_TOO_SMALL 40
 
 /* When the book has no such template to write. Place: 0. */
@@ -120,14 +123,17 @@ extern "C" {
 #define SIPHONBARD_ASK_GROUP 1
 #define SIPHONBARD_ASK_DATA 2
 
+/* Room for any prepared book: none has more numbers. */
+#define SIPHONBARD_PREPARED_MOST 8259
+
 /* The verdict of a check. `number` is 0: accepted, and `place` is 0. Else the refusal's number and its place. */
 typedef struct {
     uint64_t number, place;
 } siphonbard_checked;
 
 /*
- * A number of records, or of a written message's octets. `number` is 0: `place` is 0, and `count` holds. Else the
- * refusal's number and its place, and `count` is 0.
+ * A number of records, of a written message's octets, or of a prepared book's numbers. `number` is 0: `place` is 0, and
+ * `count` holds. Else the refusal's number and its place, and `count` is 0.
  */
 typedef struct {
     uint64_t number, place, count;
@@ -141,7 +147,11 @@ typedef struct {
     uint64_t number, place, first, second, third;
 } siphonbard_found;
 
-/* ---- Calls that take any octets whatever ---- */
+/*
+ * ---- Calls that take any octets whatever ----
+ *
+ * All but the first check and prepare the book at each call, in 66 kB of the stack (8,259 numbers).
+ */
 
 /* Whether the octets are a schema book: accepted, or 1 to 6. */
 siphonbard_checked siphonbard_check_book(const uint8_t *book, size_t book_len);
@@ -194,28 +204,43 @@ siphonbard_counted siphonbard_write(const uint8_t *book, size_t book_len, uint64
 /*
  * ---- Calls for streams: many messages by one book ----
  *
- * The same answers, without checking the book again at each message.
+ * siphonbard_prepare takes any octets whatever and makes a list of numbers of the book, once. The other calls take
+ * these numbers: the same answers, without checking and preparing the book again at each message.
  *
- * YOUR DUTY: `book` and `book_len` are what siphonbard_check_book accepted, and no octet of it has been altered
- * since. Nothing checks this. With any other book the behaviour is undefined: the call may read or write outside its
- * buffers or not return. The message, the steps, the listing and the rest may be anything.
+ * YOUR DUTY: `prepared` and `prepared_len` are the numbers that siphonbard_prepare stored, all of them (`prepared_len`
+ * is its count), and none has been altered since. Nothing checks this. With any other numbers the behaviour is
+ * undefined: the call may read or write outside its buffers or not return. The message, the steps, the listing and the
+ * rest may be anything.
+ *
+ * The book's octets are not needed any more. The numbers may be copied elsewhere, all of them; they are not for another
+ * version of the library.
  */
 
+/*
+ * Checks the book, stores its prepared numbers from the room's start, and gives how many they are; or 1 to 6 as
+ * siphonbard_check_book, or 40. Numbers of the room past them are left as they were; after a refusal all of them are.
+ *
+ * The place of SIPHONBARD_REFUSED_ROOM_TOO_SMALL is how many numbers there are, whatever the room. To ask for that
+ * alone, prepare into an empty room (`room_len` is 0, and `room` may be null). SIPHONBARD_PREPARED_MOST are enough for
+ * any book.
+ */
+siphonbard_counted siphonbard_prepare(const uint8_t *book, size_t book_len, uint64_t *room, size_t room_len);
+
 /* Whether the message is one of the book's: accepted, or 10 to 20. */
-siphonbard_checked siphonbard_stream_check(const uint8_t *book, size_t book_len, const uint8_t *message,
+siphonbard_checked siphonbard_stream_check(const uint64_t *prepared, size_t prepared_len, const uint8_t *message,
                                            size_t message_len);
 
 /* Lists the message into the room, or 10 to 40. The room and the place of 40 are as siphonbard_list has them. */
-siphonbard_counted siphonbard_stream_list(const uint8_t *book, size_t book_len, const uint8_t *message,
+siphonbard_counted siphonbard_stream_list(const uint64_t *prepared, size_t prepared_len, const uint8_t *message,
                                           size_t message_len, uint64_t *room, size_t room_len);
 
 /* What stands at one place of the message, as siphonbard_place says it, or 10 to 31. */
-siphonbard_found siphonbard_stream_place(const uint8_t *book, size_t book_len, const uint8_t *message,
+siphonbard_found siphonbard_stream_place(const uint64_t *prepared, size_t prepared_len, const uint8_t *message,
                                          size_t message_len, const uint64_t *steps, size_t steps_len, uint64_t ask,
                                          uint64_t element);
 
 /* Writes a message of the template, as siphonbard_write does, or 50 to 55. What is left in the room is alike. */
-siphonbard_counted siphonbard_stream_write(const uint8_t *book, size_t book_len, uint64_t template_id,
+siphonbard_counted siphonbard_stream_write(const uint64_t *prepared, size_t prepared_len, uint64_t template_id,
                                            const uint64_t *listing, size_t listing_len, const uint8_t *pool,
                                            size_t pool_len, uint8_t *room, size_t room_len);
 

@@ -1,6 +1,7 @@
 #!/usr/bin/env python3
 """texts.py: whether the header, the README, the Rust crate, the Python wrapper and the example in C say what
-docs/FORMAT.md says of refusals, of kinds of records and of what a place asks for: numbers, names and words.
+docs/FORMAT.md says of refusals, of kinds of records and of what a place asks for: numbers, names and words. And whether
+crate and wrapper have the header's room for a prepared book.
 
 Each row of docs/FORMAT.md is a test of each text that is to have it, and so is each row that docs/FORMAT.md lacks.
 Prints how they differ. The last line is 'texts: N passed, M failed'."""
@@ -12,32 +13,39 @@ import sys
 ROOT = os.path.join(os.path.dirname(os.path.abspath(__file__)), "..")
 FORMAT, README, HEADER = "docs/FORMAT.md", "README.md", "include/siphonbard.h"
 RUST_REFUSAL, RUST_ANSWER = "bindings/rust/src/refusal.rs", "bindings/rust/src/answer.rs"
+RUST_EXPORTS = "bindings/rust/src/ffi.rs"
 PYTHON, C_EXAMPLE = "examples/python/siphonbard.py", "examples/c/read_fill.c"
 
-# The columns of the three tables. A row is a tuple of these, or of the first of them where a text has no more.
+# The columns of the tables. A row is a tuple of these, or of the first of them where a text has no more.
 REFUSAL = "Name", "No.", "When", "Place"
 KIND = "Name", "Kind", "Second number", "Third number"
 ASKED = "Name", "Number"
+PREPARED = "Name", "Numbers"
 
 
 def main():
-    results = compared(REFUSAL, page_table(FORMAT, REFUSAL), [
+    results = compared(REFUSAL, FORMAT, page_table(FORMAT, REFUSAL), [
         (README, 4, page_table(README, REFUSAL)),
         (HEADER, 4, header_refusals()),
         (RUST_REFUSAL, 4, rust_refusals()),
         (PYTHON, 4, python_enum("Refusal")),
         (C_EXAMPLE, 3, c_refusals()),
     ])
-    results += compared(KIND, page_table(FORMAT, KIND), [
+    results += compared(KIND, FORMAT, page_table(FORMAT, KIND), [
         (README, 4, page_table(README, KIND)),
         (HEADER, 4, header_kinds()),
         (RUST_ANSWER, 2, rust_constants("Answer")),
         (PYTHON, 2, python_enum("Kind")),
     ])
-    results += compared(ASKED, format_asked(), [
+    results += compared(ASKED, FORMAT, format_asked(), [
         (HEADER, 2, header_numbers("ASK")),
         (RUST_ANSWER, 2, rust_constants("Element")),
         (PYTHON, 2, python_enum("Element")),
+    ])
+    results += compared(PREPARED, HEADER, header_numbers("PREPARED"), [
+        (RUST_EXPORTS, 2, assigned(RUST_EXPORTS, r"pub const PREPARED_(\w+): usize = (\w+);")),
+        (PYTHON, 2, assigned(PYTHON, r"(?m)^PREPARED_(\w+) = (\w+)")),
+        (README, 2, [("MOST", number.replace(",", "")) for number in assigned(README, r"\(([\d,]+) numbers\)")]),
     ])
     failed = [result for result in results if result]
     for result in failed:
@@ -48,18 +56,18 @@ def main():
 
 # ---- Comparing ----
 
-def compared(columns, home, texts):
+def compared(columns, home, home_rows, texts):
     """A result for each row that a text has or is to have: nothing, or how it differs from the home's. A text comes
     with the number of columns that it has."""
-    names = [row[0] for row in home]
-    if not home or len(set(names)) < len(names):
-        return ["%s: there is no table of %s, or a name stands in it twice" % (FORMAT, ", ".join(columns))]
+    names = [row[0] for row in home_rows]
+    if not home_rows or len(set(names)) < len(names):
+        return ["%s: there is no table of %s, or a name stands in it twice" % (home, ", ".join(columns))]
     results = []
     for path, width, rows in texts:
-        for row in home:
+        for row in home_rows:
             found = [other for other in rows if other[0] == row[0]]
             results.append(differing(path, columns, row[:width], found))
-        results += ["%s: %s is not in %s" % (path, other[0], FORMAT) for other in rows if other[0] not in names]
+        results += ["%s: %s is not in %s" % (path, other[0], home) for other in rows if other[0] not in names]
     return results
 
 
@@ -148,6 +156,11 @@ def python_enum(name):
                 number, *texts = value if isinstance(value, tuple) else (value,)
                 rows.append((member.targets[0].id, str(number), *texts))
     return rows
+
+
+def assigned(path, pattern):
+    """What the groups of the pattern are, wherever the text has it."""
+    return re.findall(pattern, text_of(path))
 
 
 def text_of(path):

@@ -1,6 +1,7 @@
 #!/usr/bin/env python3
 """wrapper.py: tries examples/python/siphonbard.py over the shared object that SIPHONBARD_SO names: listings of none to
-many records, a place, a message that is written back, and refusals with their words.
+many records, a place, a message that is written back, a book whose octets are gone, the largest book, and refusals with
+their words.
 
 Prints what is wrong. The last line is 'wrapper: N passed, 0 failed'."""
 import struct
@@ -42,6 +43,26 @@ def writes_back():
     return by.write(1, records, message), message
 
 
+def outlives_its_octets():
+    """The octets are altered once the book is there."""
+    octets, (_, message, records) = bytearray(ENTRIES), of_records(9)
+    by = Book(octets)
+    octets[:] = bytes(len(octets))
+    return by.list(message), records
+
+
+def prepares_the_largest():
+    """8,192 octets: ten templates of 64 fields, one of 28 and one of none."""
+    templates = {id: block(64, octet_fields(64)) for id in range(10)}
+    octets = book(7, 0, {**templates, 10: block(28, octet_fields(28)), 11: block(0)})
+    message = struct.pack("<6H", 28, 10, 7, 0, 0, 0) + bytes(range(28))
+    return (len(octets), Book(octets).list(message)), (8192, [(Kind.NUMBER, value, 0) for value in range(28)])
+
+
+def octet_fields(count):
+    return [field(1, "uint8", offset=offset) for offset in range(count)]
+
+
 def refuses(call, *arguments):
     """Number, place and words of a refusal."""
     try:
@@ -54,19 +75,26 @@ def refuses_a_book():
     return refuses(Book, b"no book"), (1, 0, "refused 1: the book's octets are odd, under 8 or over 8,192")
 
 
+def refuses_a_template():
+    octets = book(7, 0, {1: block(0), 2: block(0, octet_fields(1))})
+    words = "refused 5 in template 1: a block length, type, length, presence or offset breaks its rule"
+    return refuses(Book, octets), (5, 1, words)
+
+
 def refuses_a_message():
     by, message, _ = of_records(FIRST + 1)
     return refuses(by.list, message[:-1]), (16, 142, "refused 16 at octet 142: an element runs past the message's end")
 
 
 def refuses_a_room():
-    words = "refused 40 for 6 records: the room is below three numbers per record"
+    words = "refused 40 for 6 records: the room is below three numbers per record, or below a prepared book's numbers"
     return str(Refused(40, 6)), words
 
 
 COUNTS = [0, 1, FIRST - 1, FIRST, FIRST + 1, 2 * FIRST, 5000]
 TESTS = [(lists, count) for count in COUNTS] + [
-    (places,), (writes_back,), (refuses_a_book,), (refuses_a_message,), (refuses_a_room,),
+    (places,), (writes_back,), (outlives_its_octets,), (prepares_the_largest,), (refuses_a_book,),
+    (refuses_a_template,), (refuses_a_message,), (refuses_a_room,),
 ]
 
 

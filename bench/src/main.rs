@@ -3,7 +3,9 @@
 
 mod agree;
 mod lean;
+mod preparing;
 mod rivals;
+mod sized;
 mod tables;
 mod timing;
 mod workloads;
@@ -11,15 +13,16 @@ mod workloads;
 use rivals::Rival;
 use tables::Compared;
 use timing::{medians, Contender};
-use workloads::{Entry, Workload, ALL, SIZES};
+use workloads::{Entry, Workload, ALL, SIZED, SIZES};
 
 const ROUNDS: usize = 151;
 /// A round of the stream is long by itself: it has one of so many rounds, but five at least.
 const FEWER: usize = 10;
 const FEWEST: usize = 5;
 
-/// The name by which the growth is chosen.
+/// The names by which the growth and the cost of preparing are chosen.
 const GROWTH: &str = "growth";
+const PREPARE: &str = "prepare";
 
 #[derive(Clone, Copy, PartialEq)]
 pub enum Operation {
@@ -52,7 +55,9 @@ fn main() {
     let only = words.next();
     let chosen = |name: &str| only.as_deref().map_or(true, |only| only == name);
     let entries: Vec<&Entry> = ALL.iter().filter(|(name, ..)| chosen(name)).collect();
-    assert!(!entries.is_empty() || chosen(GROWTH), "no such workload");
+    let pairs: Vec<&[Entry; 2]> = SIZED.iter().filter(|[_, (name, ..)]| chosen(name)).collect();
+    let others = chosen(GROWTH) || chosen(PREPARE);
+    assert!(!entries.is_empty() || !pairs.is_empty() || others, "no such workload");
     tables::head(rounds, fewer(rounds));
     if !entries.is_empty() {
         let compared: Vec<Compared> = entries.into_iter().map(|entry| compare(entry, rounds)).collect();
@@ -61,6 +66,13 @@ fn main() {
     }
     if chosen(GROWTH) {
         growth(rounds);
+    }
+    if !pairs.is_empty() {
+        tables::sized(&pairs.into_iter().map(|pair| sized::time(pair, rounds)).collect::<Vec<_>>());
+    }
+    if chosen(PREPARE) {
+        let all = ALL.iter().chain(SIZED.iter().flatten());
+        tables::prepared(&all.map(|entry| preparing::time(entry, rounds)).collect::<Vec<_>>());
     }
 }
 

@@ -41,7 +41,7 @@ pub trait Rival {
     fn numbers(all: Self::All) -> Vec<u64>;
 }
 
-impl Rival for siphonbard::Book<'_> {
+impl Rival for siphonbard::Book {
     type Refused = siphonbard::Refusal;
     type Found = Answer;
     type All = Vec<Answer>;

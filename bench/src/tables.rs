@@ -1,5 +1,7 @@
 //! The tables, in Markdown.
 
+use crate::preparing::Prepared;
+use crate::sized::{self, Measured};
 use crate::workloads::{Counts, Workload, SIZES};
 use crate::Operation;
 
@@ -80,4 +82,42 @@ pub fn growth(workloads: &[Workload], columns: &[Vec<f64>]) {
     let ratios: Vec<String> =
         columns.iter().map(|column| digits(per_octet(column, last) / per_octet(column, 0))).collect();
     println!("| {} KiB / {} KiB, per octet | | {} |", SIZES[last], SIZES[0], ratios.join(" | "));
+    println!();
+}
+
+/// The library's nanoseconds per octet of one message by a small and by a large book, and their ratios.
+pub fn sized(pairs: &[[Measured; 2]]) {
+    let names: Vec<&str> = sized::OPERATIONS.iter().map(|operation| operation.name()).collect();
+    let length = pairs[0][0].length;
+    println!(
+        "The book's size: the library on a message of {length} octets by two books each, nanoseconds per octet of it."
+    );
+    println!();
+    println!("| Book | Octets | Numbers | {} | What it is |", names.join(" | "));
+    println!("|---|--:|--:|{}---|", "--:|".repeat(names.len()));
+    for [small, large] in pairs {
+        for Measured { name, what, octets, numbers, times, .. } in [small, large] {
+            println!("| {name} | {octets} | {numbers} | {} | {what} |", row(times.iter().copied()));
+        }
+        let ratios = large.times.iter().zip(&small.times).map(|(large, small)| large / small);
+        println!("| {} / {} | | | {} | |", large.name, small.name, row(ratios));
+    }
+    println!();
+}
+
+fn row(numbers: impl Iterator<Item = f64>) -> String {
+    numbers.map(digits).collect::<Vec<_>>().join(" | ")
+}
+
+/// Nanoseconds of preparing a book, and of checking a message by it.
+pub fn prepared(all: &[Prepared]) {
+    println!("Preparing: nanoseconds per book, and per message of a check by the book's octets and by its numbers.");
+    println!();
+    println!("| Workload | Octets | Numbers | prepare | check by octets | check by numbers | It pays from message |");
+    println!("|---|--:|--:|--:|--:|--:|--:|");
+    for book in all {
+        let times = row([book.prepare, book.by_octets, book.by_numbers].into_iter());
+        let pays = book.pays_from().map_or("never".into(), |messages| messages.to_string());
+        println!("| {} | {} | {} | {times} | {pays} |", book.name, book.octets, book.numbers);
+    }
 }

@@ -29,6 +29,12 @@ typedef struct {
     uint8_t octets[LONGEST];
 } file;
 
+/* A book that is checked and prepared once, for the calls for streams. Nothing alters its numbers. */
+typedef struct {
+    size_t len;
+    uint64_t numbers[SIPHONBARD_PREPARED_MOST];
+} prepared;
+
 /* What each refusal means: the header's words. */
 static const char *const MEANING[] = {
     [SIPHONBARD_REFUSED_BOOK_SIZE] = "the book's octets are odd, under 8 or over 8,192",
@@ -54,7 +60,8 @@ static const char *const MEANING[] = {
     [SIPHONBARD_REFUSED_OCTETS_LEFT_OVER] = "octets are left over",
     [SIPHONBARD_REFUSED_PLACE_UNKNOWN] = "the place has over four steps, or a number that the book lacks",
     [SIPHONBARD_REFUSED_ENTRY_MISSING] = "an entry is not below its group's count",
-    [SIPHONBARD_REFUSED_ROOM_TOO_SMALL] = "the room is below three numbers per record",
+    [SIPHONBARD_REFUSED_ROOM_TOO_SMALL] =
+        "the room is below three numbers per record, or below a prepared book's numbers",
     [SIPHONBARD_REFUSED_WRITE_TEMPLATE_UNKNOWN] = "the book has no such template to write",
     [SIPHONBARD_REFUSED_RECORD_WRONG] =
         "a record is missing, left over, partial or of the wrong kind, or an unused number is not 0",
@@ -129,11 +136,11 @@ static void show(size_t fields, const uint64_t *listing, size_t count, const fil
 }
 
 /* Writes a message of the book's own version from the listing: is it the message that was read? */
-static void write_back(const file *book, const uint64_t *listing, size_t count, const file *message)
+static void write_back(const prepared *book, const uint64_t *listing, size_t count, const file *message)
 {
     static uint8_t room[LONGEST];
-    siphonbard_counted written = siphonbard_write(book->octets, book->len, FILL, listing, 3 * count, message->octets,
-                                                  message->len, room, sizeof room);
+    siphonbard_counted written = siphonbard_stream_write(book->numbers, book->len, FILL, listing, 3 * count,
+                                                         message->octets, message->len, room, sizeof room);
     printf("written back: ");
     if (written.number) {
         show_refusal(written.number, written.place);
@@ -144,10 +151,10 @@ static void write_back(const file *book, const uint64_t *listing, size_t count, 
 }
 
 /* What the fill says, by the listing that it was read into. */
-static void show_fill(const file *book, const uint64_t *listing, size_t count, const file *message)
+static void show_fill(const prepared *book, const uint64_t *listing, size_t count, const file *message)
 {
-    siphonbard_found quantity = siphonbard_place(book->octets, book->len, message->octets, message->len, NULL, 0,
-                                                 SIPHONBARD_ASK_FIELD, QUANTITY);
+    siphonbard_found quantity = siphonbard_stream_place(book->numbers, book->len, message->octets, message->len, NULL,
+                                                        0, SIPHONBARD_ASK_FIELD, QUANTITY);
     int known = quantity.number != SIPHONBARD_REFUSED_PLACE_UNKNOWN;
 
     show(known ? QUANTITY + 1 : QUANTITY, listing, count, message);
@@ -160,25 +167,25 @@ static void show_fill(const file *book, const uint64_t *listing, size_t count, c
 }
 
 /* A fill that has more records than there was room for: the refusal's place was how many. */
-static int read_long_fill(const file *book, const file *message, uint64_t records)
+static int read_long_fill(const prepared *book, const file *message, uint64_t records)
 {
     uint64_t *listing = calloc(records, 3 * sizeof *listing);
     if (!listing) {
         perror("no room for the listing");
         return 2;
     }
-    /* Book and message were accepted and there is room now: this is not refused. */
-    siphonbard_list(book->octets, book->len, message->octets, message->len, listing, 3 * records);
+    /* The message was accepted and there is room now: this is not refused. */
+    siphonbard_stream_list(book->numbers, book->len, message->octets, message->len, listing, 3 * records);
     show_fill(book, listing, records, message);
     free(listing);
     return 0;
 }
 
-static int read_fill(const file *book, const file *message)
+static int read_fill(const prepared *book, const file *message)
 {
     uint64_t listing[3 * FIRST];
     siphonbard_counted listed =
-        siphonbard_list(book->octets, book->len, message->octets, message->len, listing, 3 * FIRST);
+        siphonbard_stream_list(book->numbers, book->len, message->octets, message->len, listing, 3 * FIRST);
     if (listed.number == SIPHONBARD_REFUSED_ROOM_TOO_SMALL)
         return read_long_fill(book, message, listed.place);
     if (listed.number) {
@@ -187,6 +194,17 @@ static int read_fill(const file *book, const file *message)
     }
     show_fill(book, listing, listed.count, message);
     return 0;
+}
+
+/* Checks the book and prepares it. There is room for any, so that only the book itself can be refused. */
+static int prepare(const file *octets, prepared *book)
+{
+    siphonbard_counted counted =
+        siphonbard_prepare(octets->octets, octets->len, book->numbers, SIPHONBARD_PREPARED_MOST);
+    if (counted.number)
+        show_refusal(counted.number, counted.place);
+    book->len = counted.count;
+    return counted.number == 0;
 }
 
 static void open_file(const char *path, file *into)
@@ -202,12 +220,13 @@ static void open_file(const char *path, file *into)
 
 int main(int argc, char **argv)
 {
-    static file book, message;
+    static file octets, message;
+    static prepared book;
     if (argc != 3) {
         fprintf(stderr, "usage: read_fill BOOK MESSAGE\n");
         return 2;
     }
-    open_file(argv[1], &book);
+    open_file(argv[1], &octets);
     open_file(argv[2], &message);
-    return read_fill(&book, &message);
+    return prepare(&octets, &book) ? read_fill(&book, &message) : 1;
 }

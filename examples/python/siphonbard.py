@@ -31,13 +31,14 @@ class Element(enum.IntEnum):
 
 
 class Book:
-    """A book that is checked once, for many messages. Book, message and pool are bytes, which nobody can alter: so the
-    calls for streams, which do not check the book again, get what was checked. A record is a tuple of three numbers, of
-    which the first is a Kind."""
+    """A book that is checked and prepared once, for many messages. It owns the prepared numbers, which nothing here
+    alters: so the calls for streams get what was stored for them. Message and pool are bytes. A record is a tuple of
+    three numbers, of which the first is a Kind."""
 
     def __init__(self, octets):
-        self._book = bytes(octets), len(octets)
-        check_book(*self._book)
+        room = (Number * PREPARED_MOST)()
+        prepared = prepare(bytes(octets), len(octets), room, len(room))
+        self._book = (Number * prepared.count).from_buffer_copy(room), prepared.count
 
     def list(self, message):
         """The records of the message. Where there are more than FIRST, the refusal's place is how many."""
@@ -119,7 +120,11 @@ class Refusal(enum.IntEnum):
     OCTETS_LEFT_OVER = 20, "octets are left over", "the first of them"
     PLACE_UNKNOWN = 30, "the place has over four steps, or a number that the book lacks", "0"
     ENTRY_MISSING = 31, "an entry is not below its group's count", "0"
-    ROOM_TOO_SMALL = 40, "the room is below three numbers per record", "the number of records"
+    ROOM_TOO_SMALL = (
+        40,
+        "the room is below three numbers per record, or below a prepared book's numbers",
+        "the number of records, or of a prepared book's numbers",
+    )
     WRITE_TEMPLATE_UNKNOWN = 50, "the book has no such template to write", "0"
     RECORD_WRONG = (
         51,
@@ -136,7 +141,8 @@ class Refusal(enum.IntEnum):
     MESSAGE_TOO_LONG = 55, "the message is longer than the room or than 65,535 octets", "0"
 
 
-# The first and the last of the refusals whose place counts templates, octets or records.
+# The first and the last of the refusals whose place counts templates, octets or records. There is always room for a
+# prepared book, so that 40 is a listing's.
 COUNTED = [
     (Refusal.BOOK_BLOCK, Refusal.BOOK_SINCE, " in template %d"),
     (Refusal.MESSAGE_SIZE, Refusal.OCTETS_LEFT_OVER, " at octet %d"),
@@ -147,15 +153,12 @@ COUNTED = [
 # ---- The calls themselves ----
 
 LONGEST = 65535  # octets of a message
+PREPARED_MOST = 8259  # numbers of a prepared book: no book has more
 FIRST = 64  # records that a listing has room for at first: more than most messages have
 
 Number = ctypes.c_uint64
 Lent = [ctypes.c_char_p, ctypes.c_size_t]  # octets: bytes are lent as they stand, zeros and all
 LentNumbers = [ctypes.POINTER(Number), ctypes.c_size_t]
-
-
-class Checked(ctypes.Structure):
-    _fields_ = [("number", Number), ("place", Number)]
 
 
 class Counted(ctypes.Structure):
@@ -188,7 +191,7 @@ def call(name, reply, *arguments):
 FOLDER = os.path.dirname(os.path.abspath(__file__))
 LIBRARY = ctypes.CDLL(os.environ.get("SIPHONBARD_SO") or FOLDER + "/../../target/examples/libsiphonbard.so")
 
-check_book = call("check_book", Checked, *Lent)
-list_into = call("stream_list", Counted, *Lent, *Lent, *LentNumbers)
-answer_at = call("stream_place", Found, *Lent, *Lent, *LentNumbers, Number, Number)
-write = call("stream_write", Counted, *Lent, Number, *LentNumbers, *Lent, *Lent)
+prepare = call("prepare", Counted, *Lent, *LentNumbers)
+list_into = call("stream_list", Counted, *LentNumbers, *Lent, *LentNumbers)
+answer_at = call("stream_place", Found, *LentNumbers, *Lent, *LentNumbers, Number, Number)
+write = call("stream_write", Counted, *LentNumbers, Number, *LentNumbers, *Lent, *Lent)

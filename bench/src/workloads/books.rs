@@ -86,6 +86,34 @@ pub fn market() -> Book {
     book(vec![Block { groups: vec![group(block(&price, 3))], ..root }])
 }
 
+/// Of one uint8.
+fn octet() -> Block {
+    block(&[one(UINT8)], 0)
+}
+
+/// A group of a uint8, and in it one of this block.
+fn two_deep(version: u16, inner: Block) -> Book {
+    let outer = Block { groups: vec![group(inner)], ..octet() };
+    Book { version, ..book(vec![Block { groups: vec![group(outer)], ..Block::default() }]) }
+}
+
+/// Two groups, one in the other.
+pub fn narrow() -> Book {
+    two_deep(0, octet())
+}
+
+/// The inner one has 16 groups, and each of these 16.
+pub fn wide() -> Book {
+    let with_groups = |block| Block { groups: vec![group(block); 16], ..octet() };
+    two_deep(0, with_groups(with_groups(octet())))
+}
+
+/// The inner one has got a field at each of so many versions.
+pub fn younger(versions: u16) -> Book {
+    let fields: Vec<Field> = (0..=versions).map(|since| Field { since, ..one(UINT8) }).collect();
+    two_deep(versions, block(&fields, 0))
+}
+
 /// Eight templates, as a session of trading has them.
 pub fn session() -> Book {
     book(vec![

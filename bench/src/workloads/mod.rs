@@ -2,6 +2,7 @@
 
 mod books;
 mod fill;
+mod sized;
 mod stream;
 
 use crate::rivals::Asked;
@@ -10,10 +11,12 @@ use fill::Fill;
 use plain::{Book, Draft, Message, Rng};
 use siphonbard::Element;
 
+pub use sized::SIZED;
+
 /// A workload's name, what it is, and how it is made.
 pub type Entry = (&'static str, &'static str, fn() -> Workload);
 
-/// All but those of the growth.
+/// All but those of the growth and of the book's size.
 pub const ALL: [Entry; 7] = [
     ("m", "message M under book A", m),
     ("flat", "an order of ten fields", flat),

@@ -6,32 +6,52 @@ const LONGEST: usize = 65535;
 /// For how many records `list_all` has room at first: more than most messages have.
 const FIRST: usize = 64;
 
-/// A schema book that was checked: for many messages by one book.
+/// A schema book that was checked and prepared: for many messages by one book.
 ///
-/// The octets stay borrowed, so that they are what was checked, and no message pays for the book again. The methods
-/// answer as the functions of the same name do.
+/// It owns the numbers that it was prepared to, so that no message pays for the book again, its octets are not needed
+/// any more, and any threads may use it at the same time. The methods answer as the functions of the same name do.
 ///
-/// ```compile_fail
-/// let mut octets = vec![0; 74];
-/// let book = siphonbard::Book::checked(&octets).unwrap();
-/// octets[0] = 1; // borrowed by the book
-/// book.check(b"").unwrap_err();
 /// ```
-#[derive(Clone, Copy, Debug)]
-pub struct Book<'a> {
-    octets: &'a [u8],
+/// use siphonbard::Book;
+///
+/// # let words: [u16; 37] = [
+/// #     7, 0, 1, 37, 1, 7, 30, 8, 2, 1, 1, 38, 6, 1, 0, 0, 0, 44, 3, 1, 4, 1, 0, 58, 0, 453, 0, 2, 1, 0, 0, 452, 2,
+/// #     1, 0, 0, 0,
+/// # ];
+/// # let octets: Vec<u8> = words.iter().flat_map(|word| word.to_le_bytes()).collect();
+/// # let message = b"\x08\0\x01\0\x07\0\0\0\x01\0\x01\0\xe8\x03\0\0\xfb\xff\0\0\x02\0\x02\0\x01\0\x03\0\x02\0ab";
+/// // The book and the message of the crate's page.
+/// let book = Book::checked(&octets)?;
+/// drop(octets);
+///
+/// std::thread::scope(|threads| {
+///     for _ in 0..2 {
+///         threads.spawn(|| book.check(message).unwrap());
+///     }
+/// });
+///
+/// fn any_thread_may_have<T: Send + Sync + 'static>(_: T) {}
+/// any_thread_may_have(book);
+/// # Ok::<(), siphonbard::Refusal>(())
+/// ```
+#[derive(Clone, Debug)]
+pub struct Book {
+    /// All that `ffi::prepare` stored, and nothing else. Nothing alters them.
+    numbers: Box<[u64]>,
 }
 
-impl<'a> Book<'a> {
+impl Book {
     /// The book, or 1 to 6.
-    pub fn checked(octets: &'a [u8]) -> Result<Book<'a>, Refusal> {
-        ffi::check_book(octets)?;
-        Ok(Book { octets })
+    pub fn checked(octets: &[u8]) -> Result<Book, Refusal> {
+        let mut room = vec![0; ffi::PREPARED_MOST];
+        let count = ffi::prepare(octets, &mut room)?;
+        room.truncate(count);
+        Ok(Book { numbers: room.into_boxed_slice() })
     }
 
-    /// The octets that were checked.
-    pub fn octets(&self) -> &'a [u8] {
-        self.octets
+    /// The numbers that the book was prepared to: for the `siphonbard_stream_` calls of [`ffi`].
+    pub fn numbers(&self) -> &[u64] {
+        &self.numbers
     }
 
     /// Whether the message is one of the book's; else 10 to 20.

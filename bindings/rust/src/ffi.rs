@@ -7,13 +7,17 @@
 //!
 //! Of every call: a pointer whose length is above 0 has that many elements, aligned and readable; those of a room are
 //! writable, and apart from the other buffers. With length 0 any pointer will do. Of the `siphonbard_stream_` calls:
-//! the book is what [`siphonbard_check_book`] accepted, not altered since. Nothing checks that, and with any other book
-//! the behaviour is undefined.
+//! the numbers are those that [`siphonbard_prepare`] stored, all of them and not altered since, such as
+//! [`Book::numbers`](crate::Book::numbers) are. Nothing checks that, and with any other numbers the behaviour is
+//! undefined.
 
 mod safe;
 
-pub(crate) use safe::{check, check_book, list, place, write};
+pub(crate) use safe::{check, check_book, list, place, prepare, write};
 pub(crate) use safe::{stream_check, stream_list, stream_place, stream_write};
+
+/// Room for any prepared book: none has more numbers.
+pub const PREPARED_MOST: usize = 8259;
 
 /// The verdict of a check.
 #[repr(C)]
@@ -25,7 +29,7 @@ pub struct Checked {
     pub place: u64,
 }
 
-/// A number of records, or of a written message's octets.
+/// A number of records, of a written message's octets, or of a prepared book's numbers.
 #[repr(C)]
 #[derive(Clone, Copy, Debug, PartialEq, Eq, Hash)]
 pub struct Counted {
@@ -93,22 +97,29 @@ extern "C" {
         room: *mut u8,
         room_len: usize,
     ) -> Counted;
-    /// [`siphonbard_check`] by a book that was accepted before: accepted, or 10 to 20.
-    pub fn siphonbard_stream_check(book: *const u8, book_len: usize, message: *const u8, message_len: usize)
-        -> Checked;
-    /// [`siphonbard_list`] by a book that was accepted before, or 10 to 40.
+    /// Checks the book and stores its prepared numbers in the room, or 1 to 6 or 40; the place of 40 is how many they
+    /// are.
+    pub fn siphonbard_prepare(book: *const u8, book_len: usize, room: *mut u64, room_len: usize) -> Counted;
+    /// [`siphonbard_check`] by a prepared book: accepted, or 10 to 20.
+    pub fn siphonbard_stream_check(
+        prepared: *const u64,
+        prepared_len: usize,
+        message: *const u8,
+        message_len: usize,
+    ) -> Checked;
+    /// [`siphonbard_list`] by a prepared book, or 10 to 40.
     pub fn siphonbard_stream_list(
-        book: *const u8,
-        book_len: usize,
+        prepared: *const u64,
+        prepared_len: usize,
         message: *const u8,
         message_len: usize,
         room: *mut u64,
         room_len: usize,
     ) -> Counted;
-    /// [`siphonbard_place`] by a book that was accepted before, or 10 to 31.
+    /// [`siphonbard_place`] by a prepared book, or 10 to 31.
     pub fn siphonbard_stream_place(
-        book: *const u8,
-        book_len: usize,
+        prepared: *const u64,
+        prepared_len: usize,
         message: *const u8,
         message_len: usize,
         steps: *const u64,
@@ -116,10 +127,10 @@ extern "C" {
         ask: u64,
         element: u64,
     ) -> Found;
-    /// [`siphonbard_write`] by a book that was accepted before, or 50 to 55.
+    /// [`siphonbard_write`] by a prepared book, or 50 to 55.
     pub fn siphonbard_stream_write(
-        book: *const u8,
-        book_len: usize,
+        prepared: *const u64,
+        prepared_len: usize,
         template_id: u64,
         listing: *const u64,
         listing_len: usize,

@@ -27,7 +27,8 @@
 //!
 //! A message is written from a listing; [`Listing`] makes one, and has an example.
 //!
-//! The functions below check the book at each call; a [`Book`] is checked once.
+//! The functions below check the book at each call. Those that read or write a message prepare it, too, in 66 kB of the
+//! stack ([`list_all`] and [`write_all`]: of the heap). A [`Book`] is checked and prepared once.
 //! [`ffi`] has the exports themselves, for what these cannot say.
 
 #![deny(missing_docs)]

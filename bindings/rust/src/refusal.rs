@@ -6,7 +6,7 @@ use std::fmt;
 /// 1 to 6 are the book's (the place is 0, or a template's number from 4 on), 10 to 20 the message's (the place is
 /// an offset in it), 30 and 31 those of a place asked for, 40 that of a listing's room (the place is the number of
 /// records), 50 to 55 those of writing (the place is 0, or a record's number from 51 to 54). A refused call altered
-/// nothing.
+/// nothing. A [`Book`](crate::Book) makes its own room, so that 40 is never that of preparing.
 ///
 /// ```
 /// use siphonbard::{check_book, Refusal};
@@ -77,7 +77,8 @@ refusals! {
     OCTETS_LEFT_OVER = 20, "octets are left over", "the first of them";
     PLACE_UNKNOWN = 30, "the place has over four steps, or a number that the book lacks", "0";
     ENTRY_MISSING = 31, "an entry is not below its group's count", "0";
-    ROOM_TOO_SMALL = 40, "the room is below three numbers per record", "the number of records";
+    ROOM_TOO_SMALL = 40, "the room is below three numbers per record, or below a prepared book's numbers",
+        "the number of records, or of a prepared book's numbers";
     WRITE_TEMPLATE_UNKNOWN = 50, "the book has no such template to write", "0";
     RECORD_WRONG = 51, "a record is missing, left over, partial or of the wrong kind, or an unused number is not 0",
         "the record's number";

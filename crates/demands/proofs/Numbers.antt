@@ -14,7 +14,7 @@ use Rattle.layout.specs.BookRules.{ContentsRow, bookOf, eachMust, parseBodies}
 use Rattle.layout.specs.Values.{Step, Values, answerAt, elementIn, entry, group, measure, nil}
 use Rattle.layout.specs.Message.{Entry, checkHeader, headerNumbers, headerWhole, readBlock, readData, readDatas}
 use Rattle.layout.specs.Message.{readDimension, readEntries, readGroup, readGroups, readMessage, readRoot, skipDatas}
-use Rattle.layout.specs.Message.{skipGroups}
+use Rattle.layout.specs.Message.{readWhole, skipGroups, surplusOf}
 use Rattle.layout.specs.Reading.{checkOf, listOf, placeIn, placeOf}
 use Rattle.layout.specs.Writing.{judgeBlock, judgeDatas, judgeEntries, judgeFields, judgeGroups, judgeListing}
 use Rattle.layout.specs.Writing.{judgeNumber, judgeOctets, writeOf}
@@ -163,11 +163,11 @@ module _ (m : List ℕ) where
         refuses-bind 10 20 _ _ (groups-refuse rest n (x .2)) λ y. refuses-done 10 20 _
 
   root-refuses : (version : ℕ) (t : Template) → Refuses 10 20 (readRoot version t m)
-  unfolding readRoot
+  unfolding readRoot surplusOf readWhole
   root-refuses version t =
-      refuses-unless 10 20 _ 14 0 _ (omega arith) λ _.
+      refuses-bind 10 20 _ _ (refuses-unless 10 20 _ 14 0 _ (omega arith) λ _.
       refuses-unless 10 20 _ 15 8 _ (omega arith) λ _.
-      refuses-unless 10 20 _ 15 10 _ (omega arith) λ _.
+      refuses-unless 10 20 _ 15 10 _ (omega arith) λ _. refuses-done 10 20 _) λ _.
       refuses-bind 10 20 _ _ (block-refuses _ (t .shape) _ _ _ _ (groups-refuse _ (t .groups) _)) λ x.
       refuses-unless 10 20 _ 20 _ _ (omega arith) λ _. refuses-done 10 20 _
 

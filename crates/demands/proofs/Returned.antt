@@ -15,7 +15,8 @@ use Rattle.layout.specs.Book.{Book, Data, Template, dataSinces, findTemplate, g
 use Rattle.layout.specs.BookRules.{bookOf}
 use Rattle.layout.specs.Values.{Values, entry, listing, nil}
 use Rattle.layout.specs.Message.{Entry, blockLength, checkHeader, countGood, dataCount, groupCount, headerSize}
-use Rattle.layout.specs.Message.{readBlock, readGroups, readMessage, readRoot, schemaId, templateId, versionOf}
+use Rattle.layout.specs.Message.{readBlock, readGroups, readMessage, readRoot, readWhole, schemaId, surplusOf}
+use Rattle.layout.specs.Message.{templateId, versionOf}
 use Rattle.layout.specs.Writing.{headerOf, judgeListing, messageOctets, rowOctets, writeOf}
 use Rattle.layout.specs.Demands.{AsWritten, OwnBlocks, ValuesInRange}
 use Rattle.demands.proofs.Judged.{listing-judged}
@@ -44,14 +45,16 @@ count-is v ss n u e = eqb-true n (present v ss) (rw (le-leb v v (le-refl v)) at 
 root-read : (b : Book) (t : Template) (m : List ℕ) (r : Values) → Writable b t → versionOf m ≡ b .version
     → blockLength m ≡ t .shape .length
     → readRoot (b .version) t m ≡ done r → RootRead b t m r
-unfolding readRoot
+unfolding readRoot surplusOf readWhole
 root-read b t m r w ve le e =
     let v = b .version in
     let gs = groupSinces (t .groups) in
     let ds = dataSinces (t .shape .datas) in
-    let p₂ = inv-bind _ _ _ (inv-bind _ _ _ (rw (ve, le) at e) .next) in
+    let p₁ = inv-bind _ _ _ (rw (ve, le) at e) in
+    let p₂ = inv-bind _ _ _ (inv-bind _ _ _ (p₁ .first) .next) in
     let p₃ = inv-bind _ _ _ (p₂ .next) in
-    let p₄ = inv-bind _ _ _ (p₃ .next) in
+    let left = done-inj (p₃ .next) in
+    let p₄ = inv-bind _ _ _ (rw (sym left, ve, le) at (p₁ .next)) in
     let p₅ = inv-bind _ _ _ (p₄ .next) in
     let g = count-is v gs (groupCount m) (w .groupsIn) (inv-must _ _ _ _ (p₂ .first)) in
     let d = count-is v ds (dataCount m) (w .shape .datasIn) (inv-must _ _ _ _ (p₃ .first)) in

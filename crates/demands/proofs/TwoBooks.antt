@@ -14,7 +14,8 @@ use Rattle.layout.specs.Book.{Book, Data, Field, Groups, Shape, Template, dataS
 use Rattle.layout.specs.Book.{none, present}
 use Rattle.layout.specs.BookRules.{bookOf, layoutGood}
 use Rattle.layout.specs.Values.{Step, Values, entry, nil}
-use Rattle.layout.specs.Message.{blockLength, countGood, readMessage, readRoot, templateId, versionOf}
+use Rattle.layout.specs.Message.{blockLength, countGood, readMessage, readRoot, readWhole, surplusOf, templateId}
+use Rattle.layout.specs.Message.{versionOf}
 use Rattle.layout.specs.Reading.{checkOf, groupHas, hasElement, hasPlace, placeIn, placeOf}
 use Rattle.layout.specs.Extension.{AddsDatas, Extends, ExtendsGroups, ExtendsShape, StandsIn}
 use Rattle.demands.proofs.Beside.{keptBlock, present-groups, sees-block, sees-groups}
@@ -72,13 +73,27 @@ present-datas v limit old new a = rw (a .first, map-append old (a .added))
     map-append [] ys = refl
     map-append (x ∷ xs) ys = ap (λ (r : List ℕ). x .since ∷ r) (map-append xs ys)
 
+sees-equal : {A B : Type 0} (strict : Bool) (f : A → B) {x x′ : Result B} {y y′ : Result A} → x ≡ x′ → y ≡ y′
+    → Sees strict f x y → Sees strict f x′ y′
+sees-equal strict f ex ey s = rw (sym ex, sym ey) s
+
+-- Three tests, a value, and what comes of it.
+three-tests : {A B : Type 0} (a b c : Bool) (n₁ p₁ n₂ p₂ n₃ p₃ : ℕ) (x : A) (k : A → Result B)
+    → (must a n₁ p₁ >>= λ _. must b n₂ p₂ >>= λ _. must c n₃ p₃ >>= λ _. k x)
+    ≡ ((must a n₁ p₁ >>= λ _. must b n₂ p₂ >>= λ _. must c n₃ p₃ >>= λ _. done x) >>= k)
+unfolding must _>>=_
+three-tests false b c n₁ p₁ n₂ p₂ n₃ p₃ x k = refl
+three-tests true false c n₁ p₁ n₂ p₂ n₃ p₃ x k = refl
+three-tests true true false n₁ p₁ n₂ p₂ n₃ p₃ x k = refl
+three-tests true true true n₁ p₁ n₂ p₂ n₃ p₃ x k = refl
+
 module _ (vo vn : ℕ) (old : Template) (news : List Template) (m : List ℕ) (strict : Bool) (newer : vo < vn)
     (x : StandsIn vo old news) (layout : layoutGood (x .newer) ≡ true)
     (datasIn : UpTo vo (dataSinces (old .shape .datas)))
     (groupsIn : UpTo vo (groupSinces (old .groups)))
     (early : strict ≡ true → versionOf m ≤ vo) where
   sees-root : Sees strict (kept (old .shape) (old .groups)) (readRoot vo old m) (readRoot vn (x .newer) m)
-  unfolding readRoot kept
+  unfolding readRoot surplusOf readWhole kept
   sees-root =
       let v = versionOf m in
       let new = x .newer in
@@ -90,7 +105,9 @@ module _ (vo vn : ℕ) (old : Template) (news : List Template) (m : List ℕ) (s
       omega (arith, d) in
       let de : v ≤ vo → present v (dataSinces (old .shape .datas)) ≡ present v (dataSinces (new .shape .datas)) =
       λ h. omega (arith, d, present-absent v vo (dataSinces (datas .added)) (datas .young) h) in
-      sees-bind strict (λ (u : Unit {0}). u) _ _ _ _ _
+      sees-equal strict _ (three-tests _ _ _ 14 0 15 8 15 10 _ (readWhole old m))
+      (three-tests _ _ _ 14 0 15 8 15 10 _ (readWhole new m))
+      (sees-bind strict (λ (u : Unit {0}). u) _ _ _ _ _
       (sees-leb strict _ _ _ 14 0 (need-adds strict v vo (new .shape .length) (old .shape .fields)
       (new .shape .fields) fields (and-right _ _ (and-left _ _ layout)) early)) λ _.
       sees-then strict (λ (u : Unit {0}). u) _ _ _ _ _
@@ -116,7 +133,7 @@ module _ (vo vn : ℕ) (old : Template) (news : List Template) (m : List ℕ) (s
             (groupSinces (new .groups)) newer groupsIn (g .0) (g .1) (number16 m 8) (inv-must _ _ _ _ cg),
       ))) λ b.
       sees-bind strict (λ (u : Unit {0}). u) _ _ _ _ _ (sees-same strict _) λ _.
-      sees-done strict _ (entry (b .0) (b .1) (b .2) nil) _ refl
+      sees-done strict _ (entry (b .0) (b .1) (b .2) nil) _ refl)
 
 -- ---- every place that the older book has, the newer has
 

@@ -14,7 +14,7 @@ use Rattle.layout.specs.Book.{Book, Data, Template, dataSinces, findTemplate, g
 use Rattle.layout.specs.BookRules.{bookOf}
 use Rattle.layout.specs.Values.{Values, entry, listing, measure, nil}
 use Rattle.layout.specs.Message.{Entry, checkHeader, countGood, headerSize, headerWhole, readBlock, readGroups}
-use Rattle.layout.specs.Message.{readMessage, readRoot, schemaId}
+use Rattle.layout.specs.Message.{readMessage, readRoot, readWhole, schemaId, surplusOf}
 use Rattle.layout.specs.Reading.{listOf}
 use Rattle.layout.specs.Writing.{headerOf, judgeBlock, judgeGroups, judgeListing, messageOctets, numbers16, rowOctets}
 use Rattle.layout.specs.Writing.{writeOf}
@@ -76,14 +76,14 @@ root-reads : (b : Book) (t : Template) (m : List ℕ) (fs : List Answer) (g : Va
     → readBlock m v (t .shape) (readGroups m v (t .groups) 0) 0 (t .shape .length) headerSize
     ≡ done (fs, g, ds, length m)
     → readRoot v t m ≡ done (entry fs g ds nil)
-unfolding readRoot must _>>=_ countGood if_then_else_ AreAt
+unfolding readRoot surplusOf readWhole must _>>=_ countGood if_then_else_ AreAt
 root-reads b t m fs g ds a w e =
     let v = b .version in
     let n = length (groupSinces (t .groups)) in
     let k = length (t .shape .datas) in
     let c : length (dataSinces (t .shape .datas)) ≡ k = length-map (t .shape .datas) (λ (d : Data). d .since) in
     let no-surplus : (x : ℕ) → x - x ≡ 0 = λ x. omega arith in
-    rw (
+    let none-left : surplusOf v t m ≡ done (0, 0) = rw (
       a .0,
       a .1 .1 .1 .0,
       a .1 .1 .1 .1 .0,
@@ -97,9 +97,10 @@ root-reads b t m fs g ds a w e =
       eq-eqb k k refl,
       no-surplus n,
       no-surplus k,
-      e,
-      eq-eqb (length m) (length m) refl,
-    ) refl
+    ) refl in
+    let reads : readWhole t m (0, 0) ≡ done (entry fs g ds nil) =
+    rw (a .0, a .1 .1 .1 .0, e, eq-eqb (length m) (length m) refl) refl in
+    rw none-left reads
 
 -- ---- the message
 

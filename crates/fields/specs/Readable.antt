@@ -9,7 +9,7 @@ pub record Fits (m : List ℕ) (v at : ℕ) (f : Field) : Type 0 where
   pub some : 1 ≤ f .length
   pub inside : f .since ≤ v → at + end f ≤ length m
 
--- The field at word w of a body's words b.
-pub record Readable (b : List ℕ) (w : ℕ) (m : List ℕ) (v at : ℕ) : Type 0 where
-  pub whole : w + 6 ≤ length b
-  pub fits : Fits m v at (fieldAt b w)
+-- The field at place x of the prepared numbers p.
+pub record Readable (p : List ℕ) (x : ℕ) (m : List ℕ) (v at : ℕ) : Type 0 where
+  pub whole : x + 6 ≤ length p
+  pub fits : Fits m v at (fieldAt p x)

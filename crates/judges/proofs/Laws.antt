@@ -1,36 +1,36 @@
 -- One law for each way that a function of the judging pass ends or goes on, in the code's terms.
-use mathlib.Core.Path.{_≡_, refl, sym, ap, _∙_}
+use mathlib.Core.Path.{_≡_, refl, subst, sym, ap, _∙_}
 use mathlib.Core.List.{List, [], _∷_}
 use mathlib.Core.Bool.{Bool, false, not, true}
-use Prim.Native.Nat.{ℕ, zero, suc, _+_, _-_, _*_, _/_, _≤_, _<_}
+use Prim.Native.Nat.{ℕ, zero, suc, _+_, _-_, _*_, _/_, _%_, _^_, _≤_, _<_}
 use native.Mathlib.Omega.{arith}
-use lib.Dec.{eqb, leb, ltb}
+use lib.Dec.{eqb, leb}
 use lib.ListN.{length}
 use borrow.Author.Tests.{eq-eqb, le-leb, le-ltb, leb-true, lt-leb, lt-ltb, ne-eqb}
+use borrow.Fn.Enter.{pair≡}
 use Rattle.layout.specs.Result.{Result, done, refused, must, if_then_else_, _and_, _>>=_}
 use Rattle.layout.specs.Octets.{null16}
 use Rattle.layout.specs.Types.{inRange, typeAt}
-use Rattle.layout.specs.Book.{Field, Groups, Shape, Template, isOptional, more, none}
+use Rattle.layout.specs.Book.{Field, Groups, Shape, Template, more, none}
 use Rattle.layout.specs.BookRules.{fieldAt, parseDatas, parseFields, word}
 use Rattle.layout.specs.Contracts.{refusal}
 use Rattle.layout.specs.Values.{Values, entry, group, nil}
-use Rattle.layout.specs.Message.{Entry}
 use Rattle.layout.specs.Writing.{datasLength, first, isGroup, isNumber, isOctets, isThere, judgeBlock, judgeData}
-use Rattle.layout.specs.Writing.{judgeDatas}
-use Rattle.layout.specs.Writing.{judgeEntries, judgeField, judgeFields, judgeGroups, judgeListing, judgeNumber}
-use Rattle.layout.specs.Writing.{judgeOctets, rowLength, second, spanOf, third}
+use Rattle.layout.specs.Writing.{judgeDatas, judgeEntries, judgeField, judgeFields, judgeGroups, judgeListing}
+use Rattle.layout.specs.Writing.{judgeNumber, judgeOctets, numberFits, rowLength, second, spanOf, third}
 use Rattle.layout.specs.declared.Answer.{Answer}
 use Rattle.layout.specs.declared.Answer.the-variants.{Group, Octets}
 use Rattle.layout.specs.declared.Refusal.{Refusal}
-use Rattle.layout.proofs.Results.{and-left, bind-done}
+use Rattle.layout.proofs.Results.{and-left, bind-assoc, bind-done}
 use Rattle.layout.proofs.Said.{octets-said}
-use Rattle.layout.proofs.TypeLaws.{inside-not-null}
-use Rattle.templates.specs.Positions.{Plain, Opened, dataCount, groupCount, groupsAt, groupsEnd, groupsFrom, shapeAt}
-use Rattle.templates.specs.Positions.{datasFrom as datasStart}
-use Rattle.templates.proofs.Open.{no-groups-at}
-use Rattle.walk.specs.Walks.{innerAt}
-use Rattle.judges.specs.Judges.{blockAt, capped, dataEnd, datasEnd, entriesAt, entryEnd, fieldEnd, fieldsEnd}
-use Rattle.judges.specs.Judges.{groupAt, groupEnd, judgeGroup, judged, listingEnd, numberAt, octetsEnd, rowEnd}
+use Rattle.layout.proofs.TypeLaws.{each-type, inside-not-null}
+use Rattle.number_types.proofs.Laws.{in-span}
+use Rattle.prepared.specs.Numbers.{spread}
+use Rattle.prepared.specs.Positions.{Derived, IsBlock, dataCount, datasFrom, fieldCount, fieldsFrom, groupCount}
+use Rattle.prepared.specs.Positions.{groupsFrom, innerAt, shapeAt, tableFrom}
+use Rattle.prepared.proofs.Open.{no-groups-at}
+use Rattle.judges.specs.Judges.{IsField, capped, datasEnd, entriesAt, fieldEnd, fieldsEnd, judged, listingEnd}
+use Rattle.judges.specs.Judges.{limit, octetsEnd, rowEnd}
 use Rattle.judges.specs.declared.Judged.{Judged}
 use Rattle.judges.specs.declared.Judged.the-variants.{To, Refused}
 
@@ -92,9 +92,6 @@ there-is l i t h = omega (arith, leb-true (3 * i + 3) (length l) (and-left _ _ h
 
 pub number-there : (l : List ℕ) (i : ℕ) → isNumber l i ≡ true → i < length l / 3
 number-there l i h = there-is l i _ h
-
-pub octets-there : (l : List ℕ) (i : ℕ) → isOctets l i ≡ true → i < length l / 3
-octets-there l i h = there-is l i _ h
 
 pub group-there : (l : List ℕ) (i : ℕ) → isGroup l i ≡ true → i < length l / 3
 group-there l i h = there-is l i _ h
@@ -166,25 +163,28 @@ module _ (l : List ℕ) (n i : ℕ) where
           rw (octets-fit fits, goes-on q, t length-said)
           (reached g (q .value) (ap (λ (v : ℕ × ℕ). v .0) w ∙ q .next) (ap (λ (v : ℕ × ℕ). v .1) w))
 
-module _ (l : List ℕ) (t : ℕ) (optional : Bool) (i : ℕ) where
+module _ (l : List ℕ) (f : Field) (i : ℕ) where
   abbrev numberIs : Result Answer
-  numberIs = numberAt l t optional i
-
-  abbrev numberFits : Bool
-  numberFits = if eqb (first l i) 1 then optional else inRange (typeAt t) (second l i)
+  numberIs = judgeNumber l 0 f i
 
   pub number-other : isNumber l i ≡ false → judged (fieldEnd i) numberIs ≡ Refused (refusal 51 i)
-  unfolding numberAt judged must _>>=_
+  unfolding judgeNumber judged must _>>=_
   number-other h = rw h refl
 
   module _ (h : isNumber l i ≡ true) where
-    pub number-outside : numberFits ≡ false → judged (fieldEnd i) numberIs ≡ Refused (refusal 52 i)
-    unfolding numberAt judged must _>>=_
+    pub number-outside : numberFits l f i ≡ false → judged (fieldEnd i) numberIs ≡ Refused (refusal 52 i)
+    unfolding judgeNumber judged must _>>=_
     number-outside k = rw (h, k) refl
 
-    pub number-whole : numberFits ≡ true → judged (fieldEnd i) numberIs ≡ To (i + 1) 0
-    unfolding numberAt judged must _>>=_
+    pub number-whole : numberFits l f i ≡ true → judged (fieldEnd i) numberIs ≡ To (i + 1) 0
+    unfolding judgeNumber judged must _>>=_
     number-whole k = rw (h, k) refl
+
+-- The greatest of a type is its spread above the least.
+spread-to : (t : ℕ) → (spread (typeAt t) + typeAt t .least) % 2 ^ 64 ≡ typeAt t .greatest
+spread-to t =
+    each-type (λ k. (spread k + k .least) % 2 ^ 64 ≡ k .greatest) refl
+    (λ w a. omega (arith, a .even, a .whole, a .many)) (λ w a. omega (arith, a .whole, a .many)) t
 
 -- What is in range is not null.
 inside-only : (t x : ℕ) → (inRange (typeAt t) x and not (eqb x (typeAt t .null))) ≡ inRange (typeAt t) x
@@ -194,6 +194,12 @@ inside-only t x = go (inRange (typeAt t) x) refl
     go : (b : Bool) → inRange (typeAt t) x ≡ b → (b and not (eqb x (typeAt t .null))) ≡ b
     go false e = refl
     go true e = rw (inside-not-null t x e) refl
+
+-- A number d above the least of a type fits it where d is no more than the spread.
+pub within : (t x d least far : ℕ) → d < 2 ^ 64 → (d + least) % 2 ^ 64 ≡ x → least ≡ typeAt t .least
+    → far ≡ spread (typeAt t) → (inRange (typeAt t) x and not (eqb x (typeAt t .null))) ≡ leb d far
+within t x d least far small e p q =
+    rw (inside-only t x, q) (in-span t x d _ (rw p at e) (spread-to t) small (omega arith))
 
 -- ---- fields
 
@@ -205,287 +211,284 @@ module _ (l : List ℕ) (n : ℕ) (f : Field) (i : ℕ) where
   field-array h = rw (lt-ltb 1 (f .length) h) refl
 
   pub field-number : f .length ≤ 1
-      → judged (fieldEnd i) (judgeField l n f i) ≡ judged (fieldEnd i) (numberAt l (f .type) (isOptional f) i)
-  unfolding if_then_else_ judgeNumber numberAt
-  field-number h = rw (le-ltb 1 (f .length) h, inside-only (f .type) (second l i)) refl
+      → judged (fieldEnd i) (judgeField l n f i) ≡ judged (fieldEnd i) (judgeNumber l 0 f i)
+  unfolding if_then_else_ judgeNumber
+  field-number h = rw (le-ltb 1 (f .length) h) refl
 
-module _ (l : List ℕ) (n : ℕ) (b : List ℕ) where
-  abbrev pub fieldsFrom : ℕ → ℕ → ℕ → Result (List Answer × ℕ)
-  fieldsFrom k w i = judgeFields l n (parseFields b k w) i
+-- The first of the fields that are left, which stand at f and whose table is at t.
+pub field-here : (p : List ℕ) (a left f t : ℕ) → IsBlock p a → 0 < left → left ≤ fieldCount p a
+    → f + 6 * left ≡ fieldsFrom p a + 6 * fieldCount p a → t + 5 * left ≡ tableFrom p a + 5 * fieldCount p a
+    → IsField p f t
+field-here p a left f t b some few at table =
+    let j = fieldCount p a - left in
+    let x : fieldsFrom p a + 6 * j ≡ f = omega arith in
+    let y : tableFrom p a + 5 * j ≡ t = omega arith in
+    record {
+      fits = omega (arith, b .fieldsFit);
+      tableFits = omega (arith, b .tableFits);
+      derived =
+          subst (λ (u : ℕ). Derived p u (fieldAt p f)) y
+          (subst (λ (u : ℕ). Derived p (tableFrom p a + 5 * j) (fieldAt p u)) x (b .derived j (omega arith)));
+    }
 
-  pub fields-step : (k w i : ℕ) → 0 < k → fieldsFrom k w i
-      ≡ (judgeField l n (fieldAt b w) i >>= λ a. fieldsFrom (k - 1) (w + 6) (i + 1) >>= λ r. done (a ∷ r .0, r .1))
+module _ (l : List ℕ) (n : ℕ) (p : List ℕ) where
+  abbrev pub fieldsIs : ℕ → ℕ → ℕ → Result (List Answer × ℕ)
+  fieldsIs k f i = judgeFields l n (parseFields p k f) i
+
+  fields-step : (k f i : ℕ) → 0 < k → fieldsIs k f i
+      ≡ (judgeField l n (fieldAt p f) i >>= λ a. fieldsIs (k - 1) (f + 6) (i + 1) >>= λ r. done (a ∷ r .0, r .1))
   unfolding judgeFields parseFields
-  fields-step zero w i h = absurd (omega arith)
-  fields-step (suc k) w i h =
+  fields-step zero f i h = absurd (omega arith)
+  fields-step (suc k) f i h =
       let q : suc k - 1 ≡ k = omega arith in
-      let p : i + 1 ≡ suc i = omega arith in
-      rw (q, p) refl
+      let e : i + 1 ≡ suc i = omega arith in
+      rw (q, e) refl
 
-  module _ (k w i : ℕ) where
-    pub fields-end : k ≤ 0 → judged fieldsEnd (fieldsFrom k w i) ≡ To i 0
+  module _ (k f i : ℕ) where
+    pub fields-end : k ≤ 0 → judged fieldsEnd (fieldsIs k f i) ≡ To i 0
     fields-end h = go k h
       where
-        go : (k : ℕ) → k ≤ 0 → judged fieldsEnd (fieldsFrom k w i) ≡ To i 0
+        go : (k : ℕ) → k ≤ 0 → judged fieldsEnd (fieldsIs k f i) ≡ To i 0
         go zero h = unfold judged judgeFields parseFields in refl
         go (suc k) h = absurd (omega arith)
 
     module _ (h : 0 < k) where
-      pub fields-refused : (z : Refusal) → Refused z ≡ judged (fieldEnd i) (judgeField l n (fieldAt b w) i)
-          → judged fieldsEnd (fieldsFrom k w i) ≡ Refused z
-      fields-refused z e = rw (fields-step k w i h) (stops (fieldEnd i) _ _ _ z e)
+      pub fields-refused : (z : Refusal) → Refused z ≡ judged (fieldEnd i) (judgeField l n (fieldAt p f) i)
+          → judged fieldsEnd (fieldsIs k f i) ≡ Refused z
+      fields-refused z e = rw (fields-step k f i h) (stops (fieldEnd i) _ _ _ z e)
 
-      pub fields-next : (x y : ℕ) → To x y ≡ judged (fieldEnd i) (judgeField l n (fieldAt b w) i)
-          → judged fieldsEnd (fieldsFrom k w i) ≡ judged fieldsEnd (fieldsFrom (k - 1) (w + 6) x)
+      pub fields-next : (x y : ℕ) → To x y ≡ judged (fieldEnd i) (judgeField l n (fieldAt p f) i)
+          → judged fieldsEnd (fieldsIs k f i) ≡ judged fieldsEnd (fieldsIs (k - 1) (f + 6) x)
       fields-next x y e =
           let q = inv-to (fieldEnd i) _ x y e in
-          rw (fields-step k w i h, goes-on q, q .next) (ends-as _ _ _ _ λ r. refl)
+          rw (fields-step k f i h, goes-on q, q .next) (ends-as _ _ _ _ λ r. refl)
 
 -- ---- data
 
-module _ (l : List ℕ) (n : ℕ) (b : List ℕ) where
-  abbrev pub datasFrom : ℕ → ℕ → ℕ → Result (List Answer × ℕ)
-  datasFrom k d i = judgeDatas l n (parseDatas b k d) i
+module _ (l : List ℕ) (n : ℕ) (p : List ℕ) where
+  abbrev pub datasIs : ℕ → ℕ → ℕ → Result (List Answer × ℕ)
+  datasIs k d i = judgeDatas l n (parseDatas p k d) i
 
-  pub datas-step : (k d i : ℕ) → 0 < k → datasFrom k d i
-      ≡ (judgeData l n i >>= λ a. datasFrom (k - 1) (d + 2) (i + 1) >>= λ r. done (a ∷ r .0, r .1))
+  datas-step : (k d i : ℕ) → 0 < k → datasIs k d i
+      ≡ (judgeData l n i >>= λ a. datasIs (k - 1) (d + 2) (i + 1) >>= λ r. done (a ∷ r .0, r .1))
   unfolding judgeDatas parseDatas
   datas-step zero d i h = absurd (omega arith)
   datas-step (suc k) d i h =
       let q : suc k - 1 ≡ k = omega arith in
-      let p : i + 1 ≡ suc i = omega arith in
-      rw (q, p) refl
+      let e : i + 1 ≡ suc i = omega arith in
+      rw (q, e) refl
 
   module _ (seen k d i : ℕ) where
-    pub datas-end : seen ≤ 65536 → k ≤ 0 → judged (datasEnd seen) (datasFrom k d i) ≡ To i seen
+    pub datas-end : seen ≤ limit → k ≤ 0 → judged (datasEnd seen) (datasIs k d i) ≡ To i seen
     datas-end s h = go k h
       where
-        go : (k : ℕ) → k ≤ 0 → judged (datasEnd seen) (datasFrom k d i) ≡ To i seen
+        go : (k : ℕ) → k ≤ 0 → judged (datasEnd seen) (datasIs k d i) ≡ To i seen
         go zero h = unfold judgeDatas parseDatas datasLength in reached (datasEnd seen) ([], i) refl (omega arith)
         go (suc k) h = absurd (omega arith)
 
     module _ (h : 0 < k) where
-      pub datas-refused : (z : Refusal) → Refused z ≡ judged (dataEnd i) (judgeData l n i)
-          → judged (datasEnd seen) (datasFrom k d i) ≡ Refused z
-      datas-refused z e = rw (datas-step k d i h) (stops (dataEnd i) _ _ _ z e)
+      pub datas-refused : (z : Refusal) → Refused z ≡ judged (octetsEnd i) (judgeOctets l n true i)
+          → judged (datasEnd seen) (datasIs k d i) ≡ Refused z
+      datas-refused z e =
+          rw (datas-step k d i h) (stops (octetsEnd i) _ _ _ z (sym (fit-refused l n i (octetsEnd i) _ z e)))
 
-      pub datas-next : (x y : ℕ) → To x y ≡ judged (dataEnd i) (judgeData l n i)
-          → judged (datasEnd seen) (datasFrom k d i)
-          ≡ judged (datasEnd (capped (seen + y))) (datasFrom (k - 1) (d + 2) x)
-      unfolding datasLength
-      datas-next x y e =
-          let q = inv-to (dataEnd i) _ x y e in
-          rw (datas-step k d i h, goes-on q, q .next)
-          (ends-as _ _ _ _ λ r. ap (λ (o : ℕ). (r .1, o)) (omega (arith, q .octets)))
+      module _ (x y : ℕ) (e : To x y ≡ judged (octetsEnd i) (judgeOctets l n true i)) where
+        pub datas-long : null16 ≤ y → judged (datasEnd seen) (datasIs k d i) ≡ Refused (refusal 53 i)
+        datas-long long =
+            rw (datas-step k d i h) (stops (octetsEnd i) _ _ _ (refusal 53 i)
+            (sym (fit-not l n i x y e (octetsEnd i) _ (λ q. le-ltb _ null16 (rw q at long)))))
 
--- ---- blocks
+        data-reached : y < null16 → Reached (octetsEnd i) (judgeData l n i) x y
+        data-reached short =
+            inv-to (octetsEnd i) _ x y (sym (fit-whole l n i x y e (octetsEnd i) _
+            (λ q. lt-ltb _ null16 (rw q at short)) y (λ a q. pair≡ refl q)))
 
-module _ (l : List ℕ) (n : ℕ) (s : Shape) (gs : Groups) (f : ℕ → Result (Values × ℕ)) (i : ℕ) where
-  abbrev blockIs : Result Entry
-  blockIs = judgeBlock l n s f i
-
-  pub block-fields : (z : Refusal) → Refused z ≡ judged fieldsEnd (judgeFields l n (s .fields) i)
-      → judged (entryEnd s gs) blockIs ≡ Refused z
-  unfolding judgeBlock
-  block-fields z e = stops fieldsEnd _ _ _ z e
-
-  module _ (x u : ℕ) (p : To x u ≡ judged fieldsEnd (judgeFields l n (s .fields) i)) where
-    pub block-groups : (z : Refusal) → Refused z ≡ judged (rowEnd s gs 0) (f x)
-        → judged (entryEnd s gs) blockIs ≡ Refused z
-    unfolding judgeBlock
-    block-groups z e =
-        let a = inv-to fieldsEnd _ x u p in
-        rw (goes-on a, a .next) (stops (rowEnd s gs 0) _ _ _ z e)
-
-    module _ (y k : ℕ) (q : To y k ≡ judged (rowEnd s gs 0) (f x)) where
-      pub block-datas : (z : Refusal) → Refused z ≡ judged (datasEnd 0) (judgeDatas l n (s .datas) y)
-          → judged (entryEnd s gs) blockIs ≡ Refused z
-      unfolding judgeBlock
-      block-datas z e =
-          let a = inv-to fieldsEnd _ x u p in
-          let b = inv-to (rowEnd s gs 0) _ y k q in
-          rw (goes-on a, a .next, goes-on b, b .next) (stops (datasEnd 0) _ _ _ z e)
-
-      pub block-whole : (z m j o : ℕ) → To z m ≡ judged (datasEnd 0) (judgeDatas l n (s .datas) y)
-          → j ≡ capped (s .length + k) → o ≡ capped (j + m) → judged (entryEnd s gs) blockIs ≡ To z o
-      unfolding judgeBlock rowLength
-      block-whole z m j o e h w =
-          let a = inv-to fieldsEnd _ x u p in
-          let b = inv-to (rowEnd s gs 0) _ y k q in
-          let c = inv-to (datasEnd 0) _ z m e in
-          rw (goes-on a, a .next, goes-on b, b .next, goes-on c)
-          (reached (entryEnd s gs) _ (c .next) (omega (arith, b .octets, c .octets, h, w)))
+        pub datas-next : y < null16
+            → judged (datasEnd seen) (datasIs k d i)
+            ≡ judged (datasEnd (capped (seen + (2 + y)))) (datasIs (k - 1) (d + 2) x)
+        unfolding datasLength
+        datas-next short =
+            rw (datas-step k d i h, goes-on (data-reached short), data-reached short .next)
+            (ends-as _ _ _ _ λ r. ap (λ (o : ℕ). (r .1, o)) (omega (arith, data-reached short .octets)))
 
 -- ---- entries
 
-pub entries-step : (l : List ℕ) (n : ℕ) (f : ℕ → Result Entry) (k i : ℕ) → 0 < k → judgeEntries l n k f i
-    ≡ (f i >>= λ e. judgeEntries l n (k - 1) f (e .3) >>= λ r. done (entry (e .0) (e .1) (e .2) (r .0), r .1))
-unfolding judgeEntries
-entries-step l n f zero i h = absurd (omega arith)
-entries-step l n f (suc k) i h = let q : suc k - 1 ≡ k = omega arith in rw q refl
+-- Octets are counted one after the other, or all at once.
+capped-plus : (a b : ℕ) → capped (capped a + b) ≡ capped (a + b)
+capped-plus a b = omega arith
 
-pub no-entries : (l : List ℕ) (n : ℕ) (f : ℕ → Result Entry) (k i : ℕ) → k ≤ 0 → judgeEntries l n k f i ≡ done (nil, i)
-unfolding judgeEntries
-no-entries l n f zero i h = refl
-no-entries l n f (suc k) i h = absurd (omega arith)
+counts : (a c u : ℕ) → capped (0 + c) ≡ u → capped (capped a + u) ≡ capped (a + c)
+counts a c u e = omega (arith, e)
 
-module _ (l : List ℕ) (n : ℕ) (s : Shape) (gs : Groups) (f : ℕ → Result Entry) (seen k i : ℕ) where
-  pub entries-end : seen ≤ 65536 → k ≤ 0 → judged (rowEnd s gs seen) (judgeEntries l n k f i) ≡ To i seen
-  unfolding rowLength
-  entries-end b h = rw (no-entries l n f k i h) (reached (rowEnd s gs seen) (nil, i) refl (omega arith))
+entry-counts : (seen l g d rest o m : ℕ) → capped (0 + g) ≡ o → capped (0 + d) ≡ m
+    → capped (seen + (l + (g + (d + rest)))) ≡ capped (capped (capped (capped (seen + l) + o) + m) + rest)
+entry-counts seen l g d rest o m p q =
+    let sum : seen + (l + (g + (d + rest))) ≡ seen + l + g + d + rest = omega arith in
+    rw (counts (seen + l) g o p, counts (seen + l + g) d m q, sum) (sym (capped-plus (seen + l + g + d) rest))
 
-  module _ (h : 0 < k) where
-    pub entries-refused : (z : Refusal) → Refused z ≡ judged (entryEnd s gs) (f i)
-        → judged (rowEnd s gs seen) (judgeEntries l n k f i) ≡ Refused z
-    entries-refused z e = rw (entries-step l n f k i h) (stops (entryEnd s gs) _ _ _ z e)
+-- k entries of the block s with the groups gs.
+module _ (l : List ℕ) (n : ℕ) (s : Shape) (gs : Groups) where
+  abbrev pub entriesIs : ℕ → ℕ → Result (Values × ℕ)
+  entriesIs k i = judgeEntries l n k (judgeBlock l n s (judgeGroups l n gs)) i
 
-    pub entries-next : (x y : ℕ) → To x y ≡ judged (entryEnd s gs) (f i)
-        → judged (rowEnd s gs seen) (judgeEntries l n k f i)
-        ≡ judged (rowEnd s gs (capped (seen + y))) (judgeEntries l n (k - 1) f x)
-    unfolding rowLength
-    entries-next x y e =
-        let q = inv-to (entryEnd s gs) _ x y e in
-        rw (entries-step l n f k i h, goes-on q, q .next)
-        (ends-as _ _ _ _ λ r. ap (λ (o : ℕ). (r .1, o)) (omega (arith, q .octets)))
+  entries-step : (k i : ℕ) → 0 < k → entriesIs k i
+      ≡ (judgeBlock l n s (judgeGroups l n gs) i >>= λ e. entriesIs (k - 1) (e .3)
+      >>= λ r. done (entry (e .0) (e .1) (e .2) (r .0), r .1))
+  unfolding judgeEntries
+  entries-step zero i h = absurd (omega arith)
+  entries-step (suc k) i h = let q : suc k - 1 ≡ k = omega arith in rw q refl
 
--- ---- a group
+  module _ (seen k i : ℕ) where
+    pub entries-end : seen ≤ limit → k ≤ 0 → judged (rowEnd s gs seen) (entriesIs k i) ≡ To i seen
+    entries-end b h = go k h
+      where
+        go : (k : ℕ) → k ≤ 0 → judged (rowEnd s gs seen) (entriesIs k i) ≡ To i seen
+        go zero h = unfold judgeEntries rowLength in reached (rowEnd s gs seen) (nil, i) refl (omega arith)
+        go (suc k) h = absurd (omega arith)
 
--- s is its block, f judges an entry's groups.
-module _ (l : List ℕ) (n : ℕ) (s : Shape) (gs : Groups) (f : ℕ → Result (Values × ℕ)) (i : ℕ) where
-  abbrev groupIs : Result (Answer × Values × ℕ)
-  groupIs = judgeGroup l n s f i
+    module _ (h : 0 < k) where
+      pub entry-fields : (z : Refusal) → Refused z ≡ judged fieldsEnd (judgeFields l n (s .fields) i)
+          → judged (rowEnd s gs seen) (entriesIs k i) ≡ Refused z
+      unfolding judgeBlock judged _>>=_
+      entry-fields z e = rw (entries-step k i h, inv-refused fieldsEnd (judgeFields l n (s .fields) i) z e) refl
 
-  pub group-other : isGroup l i ≡ false → judged (groupEnd s gs) groupIs ≡ Refused (refusal 51 i)
-  unfolding judgeGroup judged must _>>=_
-  group-other h = rw h refl
+      module _ (x u : ℕ) (f : To x u ≡ judged fieldsEnd (judgeFields l n (s .fields) i)) where
+        fielded : Reached fieldsEnd (judgeFields l n (s .fields) i) x u
+        fielded = inv-to fieldsEnd _ x u f
 
-  module _ (h : isGroup l i ≡ true) where
-    pub group-many : null16 ≤ second l i → judged (groupEnd s gs) groupIs ≡ Refused (refusal 54 i)
-    unfolding judgeGroup judged must _>>=_
-    group-many k = rw (h, le-ltb (second l i) null16 k) refl
+        pub entry-row : (z : Refusal) → Refused z ≡ judged (rowEnd s gs 0) (judgeGroups l n gs x)
+            → judged (rowEnd s gs seen) (entriesIs k i) ≡ Refused z
+        unfolding judgeBlock judged _>>=_
+        entry-row z e =
+            let r = inv-refused (rowEnd s gs 0) (judgeGroups l n gs x) z e in
+            rw (entries-step k i h, goes-on fielded, fielded .next, r) refl
 
-    module _ (k : second l i < null16) where
-      abbrev entriesIs : Result (Values × ℕ)
-      entriesIs = judgeEntries l n (second l i) (judgeBlock l n s f) (i + 1)
+        module _ (y o : ℕ) (g : To y o ≡ judged (rowEnd s gs 0) (judgeGroups l n gs x)) where
+          grouped : Reached (rowEnd s gs 0) (judgeGroups l n gs x) y o
+          grouped = inv-to (rowEnd s gs 0) _ y o g
 
-      pub group-is : groupIs ≡ (entriesIs >>= λ r. done (Group (second l i), r .0, r .1))
-      unfolding judgeGroup must _>>=_
-      group-is = rw (h, lt-ltb (second l i) null16 k) refl
+          pub entry-datas : (z : Refusal) → Refused z ≡ judged (datasEnd 0) (judgeDatas l n (s .datas) y)
+              → judged (rowEnd s gs seen) (entriesIs k i) ≡ Refused z
+          unfolding judgeBlock judged _>>=_
+          entry-datas z e =
+              let r = inv-refused (datasEnd 0) (judgeDatas l n (s .datas) y) z e in
+              rw (entries-step k i h, goes-on fielded, fielded .next, goes-on grouped, grouped .next, r) refl
 
-      pub group-entries : (z : Refusal) → Refused z ≡ judged (rowEnd s gs 0) entriesIs
-          → judged (groupEnd s gs) groupIs ≡ Refused z
-      group-entries z e = rw group-is (stops (rowEnd s gs 0) _ _ _ z e)
+          pub entry-next : (z m : ℕ) → To z m ≡ judged (datasEnd 0) (judgeDatas l n (s .datas) y)
+              → judged (rowEnd s gs seen) (entriesIs k i)
+              ≡ judged (rowEnd s gs (capped (capped (capped (seen + s .length) + o) + m))) (entriesIs (k - 1) z)
+          unfolding judgeBlock rowLength
+          entry-next z m e =
+              let q = inv-to (datasEnd 0) _ z m e in
+              rw (
+                entries-step k i h,
+                goes-on fielded,
+                fielded .next,
+                goes-on grouped,
+                grouped .next,
+                goes-on q,
+                bind-done,
+                q .next,
+              )
+              (ends-as _ _ _ _ λ r.
+              ap (λ (v : ℕ). (r .1, v)) (entry-counts _ _ _ _ _ _ _ (grouped .octets) (q .octets)))
 
-      pub group-whole : (x y o : ℕ) → To x y ≡ judged (rowEnd s gs 0) entriesIs → o ≡ capped (4 + y)
-          → judged (groupEnd s gs) groupIs ≡ To x o
-      group-whole x y o e w =
-          let q = inv-to (rowEnd s gs 0) _ x y e in
-          rw (group-is, goes-on q) (reached (groupEnd s gs) _ (q .next) (omega (arith, q .octets, w)))
+        -- A block with neither groups nor data is its fields, and the octets that it declares.
+        entry-plain : gs ≡ none → s .datas ≡ [] → judged (rowEnd s gs seen) (entriesIs k i)
+            ≡ judged (rowEnd s gs (capped (seen + s .length))) (entriesIs (k - 1) x)
+        unfolding judgeGroups judgeDatas judged rowLength datasLength
+        entry-plain a b =
+            let q : capped (capped (capped (seen + s .length) + 0) + 0) ≡ capped (seen + s .length) = omega arith in
+            rw q at (entry-next x 0 (rw a refl) x 0 (rw b refl))
 
 -- ---- groups in a row
 
-follows : {A B C : Type 0} (a b : Bool) (i : ℕ) (r : Result A) (j : A → B) (k : B → Result C)
-    → (must a 51 i >>= λ _. must b 54 i >>= λ _. r >>= λ x. k (j x))
-    ≡ ((must a 51 i >>= λ _. must b 54 i >>= λ _. r >>= λ x. done (j x)) >>= k)
-unfolding must _>>=_
-follows false b i r j k = refl
-follows true false i r j k = refl
-follows true true i (done x) j k = refl
-follows true true i (refused n p) j k = refl
-
--- A group, and the groups after it.
-pub groups-step : (l : List ℕ) (n id since : ℕ) (s : Shape) (inner rest : Groups) (i : ℕ)
-    → judgeGroups l n (more id since s inner rest) i
-    ≡ (judgeGroup l n s (judgeGroups l n inner) i >>= λ g. judgeGroups l n rest (g .2)
-    >>= λ r. done (group (g .0) (g .1) (r .0), r .1))
-unfolding judgeGroups judgeGroup
-groups-step l n id since s inner rest i =
-    let p : i + 1 ≡ suc i = omega arith in
-    rw p (follows (isGroup l i) (ltb (second l i) null16) i _ (λ r. (Group (second l i), r .0, r .1))
-    (λ g. judgeGroups l n rest (g .2) >>= λ r. done (group (g .0) (g .1) (r .0), r .1)))
-
-module _ (l : List ℕ) (n : ℕ) (s : Shape) (b : List ℕ) (depth seen k w i : ℕ) where
-  abbrev pub rowIs : Result (Values × ℕ)
-  rowIs = judgeGroups l n (groupsAt b depth k w) i
-
-  abbrev pub rowJudged : Judged
-  rowJudged = judged (rowEnd s (groupsAt b depth k w) seen) rowIs
-
-  pub row-end : seen ≤ 65536 → k ≤ 0 → rowJudged ≡ To i seen
+module _ (l : List ℕ) (n : ℕ) (s : Shape) (seen : ℕ) where
+  pub row-end : (gs : Groups) (i : ℕ) → gs ≡ none → seen ≤ limit
+      → judged (rowEnd s gs seen) (judgeGroups l n gs i) ≡ To i seen
   unfolding judgeGroups rowLength
-  row-end m h =
-      rw (no-groups-at b depth k w h) (reached (rowEnd s none seen) (nil, i) refl (omega arith))
+  row-end gs i e b = rw e (reached (rowEnd s none seen) (nil, i) refl (omega arith))
 
-  module _ (o : Opened b depth k w) where
-    abbrev pub restFrom : ℕ
-    restFrom = groupsEnd b (depth - 1) (groupCount b (w + 2)) (groupsFrom b (w + 2))
+  -- gs is a group with the block b and the groups `inner`, and then `rest`.
+  module _ (gs : Groups) (id since : ℕ) (b : Shape) (inner rest : Groups) (is : gs ≡ more id since b inner rest)
+      (i : ℕ) where
+    pub row-other : isGroup l i ≡ false → judged (rowEnd s gs seen) (judgeGroups l n gs i) ≡ Refused (refusal 51 i)
+    unfolding judgeGroups judged must _>>=_
+    row-other h = rw (is, h) refl
 
-    abbrev groupJudged : Judged
-    groupJudged = judged (groupEnd (shapeAt b (w + 2)) (innerAt b (depth - 1) (w + 2))) (groupAt b (depth - 1) w l n i)
+    module _ (h : isGroup l i ≡ true) (k : ℕ) (e : k ≡ second l i) where
+      pub row-many : null16 ≤ k → judged (rowEnd s gs seen) (judgeGroups l n gs i) ≡ Refused (refusal 54 i)
+      unfolding judgeGroups judged must _>>=_
+      row-many m = rw (is, h, le-ltb (second l i) null16 (rw e at m)) refl
 
-    pub row-refused : (z : Refusal) → Refused z ≡ groupJudged → rowJudged ≡ Refused z
-    row-refused z e = rw (o .tree, groups-step) (stops _ _ _ _ z e)
+      module _ (m : k < null16) where
+        row-step : judgeGroups l n gs i ≡ (entriesIs l n b inner k (i + 1) >>= λ r. judgeGroups l n rest (r .1)
+            >>= λ g. done (group (Group k) (r .0) (g .0), g .1))
+        unfolding judgeGroups must
+        row-step =
+            let q : i + 1 ≡ suc i = omega arith in
+            rw (is, h, q, lt-ltb (second l i) null16 (rw e at m), bind-done, bind-done, e) refl
 
-    pub row-next : (x y : ℕ) → To x y ≡ groupJudged
-        → rowJudged ≡ judged (rowEnd s (groupsAt b depth (k - 1) restFrom) (capped (seen + y)))
-        (judgeGroups l n (groupsAt b depth (k - 1) restFrom) x)
-    unfolding rowLength
-    row-next x y e =
-        let q = inv-to _ _ x y e in
-        rw (o .tree, groups-step, goes-on q, q .next)
-        (ends-as _ _ _ _ λ r. ap (λ (m : ℕ). (r .1, m)) (omega (arith, q .octets)))
+        pub row-entries : (z : Refusal) → Refused z ≡ judged (rowEnd b inner 0) (entriesIs l n b inner k (i + 1))
+            → judged (rowEnd s gs seen) (judgeGroups l n gs i) ≡ Refused z
+        row-entries z q = rw row-step (stops (rowEnd b inner 0) _ _ _ z q)
 
--- ---- plain blocks
+        pub row-next : (x y : ℕ) → To x y ≡ judged (rowEnd b inner 0) (entriesIs l n b inner k (i + 1))
+            → judged (rowEnd s gs seen) (judgeGroups l n gs i)
+            ≡ judged (rowEnd s rest (capped (seen + capped (4 + y)))) (judgeGroups l n rest x)
+        unfolding rowLength
+        row-next x y q =
+            let r = inv-to (rowEnd b inner 0) _ x y q in
+            rw (row-step, goes-on r, r .next, is)
+            (ends-as _ _ _ _ λ g. ap (λ (v : ℕ). (g .1, v)) (omega (arith, r .octets)))
 
--- Where there are no groups it is all one how many levels are left.
-pub plain-level : (b : List ℕ) (depth w : ℕ) → Plain b w → innerAt b depth w ≡ innerAt b 0 w
-plain-level b depth w p =
-    no-groups-at b depth (groupCount b w) (groupsFrom b w) (omega (arith, p .noGroups))
-    ∙ sym (no-groups-at b 0 (groupCount b w) (groupsFrom b w) (omega (arith, p .noGroups)))
+-- ---- at places of the prepared book
 
-module _ (l : List ℕ) (n : ℕ) (b : List ℕ) (depth w : ℕ) where
-  abbrev entriesFrom : ℕ → ℕ → ℕ → Judged
-  entriesFrom seen k i = judged (rowEnd (shapeAt b w) (innerAt b depth w) seen) (entriesAt b depth w l n k i)
+no-datas-at : (p : List ℕ) (n d : ℕ) → n ≤ 0 → parseDatas p n d ≡ []
+unfolding parseDatas
+no-datas-at p zero d h = refl
+no-datas-at p (suc n) d h = absurd (omega arith)
 
-  module _ (p : Plain b w) (few : word b w < 65536) (i x u : ℕ)
-      (e : To x u ≡ judged fieldsEnd (judgeFields l n (shapeAt b w .fields) i)) where
-    -- A plain block is its fields, and the octets that it declares.
-    plain-whole : To x (word b w) ≡ judged (entryEnd (shapeAt b w) (innerAt b depth w)) (blockAt b depth w l n i)
-    plain-whole =
-        let groups = row-end l n (shapeAt b w) b depth 0 (groupCount b w) (groupsFrom b w) x (omega arith)
-        (omega (arith, p .noGroups)) in
-        let datas = datas-end l n b 0 (dataCount b w) (datasStart b w) x (omega arith) (omega (arith, p .noDatas)) in
-        sym (block-whole l n (shapeAt b w) (innerAt b depth w) _ i x u e x 0 (sym groups) x 0 (word b w) (word b w)
-        (sym datas) (omega arith) (omega arith))
-
-    -- Plain entries are the first one's fields, its declared octets being counted, and the other entries.
-    pub plain-next : (seen k : ℕ) → 0 < k → entriesFrom seen k i ≡ entriesFrom (capped (seen + word b w)) (k - 1) x
-    plain-next seen k h = entries-next l n (shapeAt b w) (innerAt b depth w) _ seen k i h x (word b w) plain-whole
+-- An entry of a block that nothing follows.
+pub plain-next : (p : List ℕ) (depth a : ℕ) (l : List ℕ) (n seen k i x u follow : ℕ) → IsBlock p a
+    → follow ≡ word p (a + 7) → follow ≡ 0 → 0 < k
+    → To x u ≡ judged fieldsEnd (judgeFields l n (shapeAt p a .fields) i)
+    → judged (rowEnd (shapeAt p a) (innerAt p depth a) seen) (entriesAt p depth a l n k i)
+    ≡ judged (rowEnd (shapeAt p a) (innerAt p depth a) (capped (seen + word p (a + 2))))
+    (entriesAt p depth a l n (k - 1) x)
+plain-next p depth a l n seen k i x u follow b w z h e =
+    entry-plain l n (shapeAt p a) (innerAt p depth a) seen k i h x u e
+    (no-groups-at p depth (groupCount p a) (groupsFrom p a) (omega (arith, b .follow, w, z)))
+    (no-datas-at p (dataCount p a) (datasFrom p a) (omega (arith, b .follow, w, z)))
 
 -- ---- a whole listing
 
 module _ (l : List ℕ) (n : ℕ) (t : Template) where
-  abbrev rootIs : Result Entry
-  rootIs = judgeBlock l n (t .shape) (judgeGroups l n (t .groups)) 0
+  abbrev rootIs : Result (Values × ℕ)
+  rootIs = entriesIs l n (t .shape) (t .groups) 1 0
 
   abbrev listingJudged : Judged
   listingJudged = judged (listingEnd (t .shape) (t .groups) l) (judgeListing l n t)
 
-  pub listing-refused : (z : Refusal) → Refused z ≡ judged (entryEnd (t .shape) (t .groups)) rootIs
-      → listingJudged ≡ Refused z
-  unfolding judgeListing
-  listing-refused z e = stops (entryEnd (t .shape) (t .groups)) _ _ _ z e
+  -- The root is one entry.
+  root-step : judgeListing l n t ≡ (rootIs >>= λ r. must (eqb (3 * r .1) (length l)) 51 (r .1) >>= λ _. done (r .0))
+  unfolding judgeListing judgeEntries _>>=_
+  root-step = sym (bind-assoc (judgeBlock l n (t .shape) (judgeGroups l n (t .groups)) 0) _ _)
 
-  module _ (x k : ℕ) (e : To x k ≡ judged (entryEnd (t .shape) (t .groups)) rootIs) where
-    rooted : Reached (entryEnd (t .shape) (t .groups)) rootIs x k
-    rooted = inv-to (entryEnd (t .shape) (t .groups)) rootIs x k e
+  pub listing-refused : (z : Refusal) → Refused z ≡ judged (rowEnd (t .shape) (t .groups) 0) rootIs
+      → listingJudged ≡ Refused z
+  listing-refused z e = rw root-step (stops (rowEnd (t .shape) (t .groups) 0) _ _ _ z e)
+
+  module _ (x k : ℕ) (e : To x k ≡ judged (rowEnd (t .shape) (t .groups) 0) rootIs) where
+    rooted : Reached (rowEnd (t .shape) (t .groups) 0) rootIs x k
+    rooted = inv-to (rowEnd (t .shape) (t .groups) 0) rootIs x k e
 
     pub listing-left : (3 * x ≡ length l → ⊥) → listingJudged ≡ Refused (refusal 51 x)
-    unfolding judgeListing judged must _>>=_
-    listing-left h = rw (goes-on rooted, rooted .next, ne-eqb (3 * x) (length l) h) refl
+    unfolding judged must _>>=_
+    listing-left h = rw (root-step, goes-on rooted, rooted .next, ne-eqb (3 * x) (length l) h) refl
 
     pub listing-whole : 3 * x ≡ length l → listingJudged ≡ To x k
-    unfolding judgeListing must _>>=_
+    unfolding must _>>=_
     listing-whole h =
-        rw (goes-on rooted, rooted .next, eq-eqb (3 * x) (length l) h)
-        (reached (listingEnd (t .shape) (t .groups) l) _ (omega arith) (rooted .octets))
+        rw (root-step, goes-on rooted, rooted .next, eq-eqb (3 * x) (length l) h)
+        (reached (listingEnd (t .shape) (t .groups) l) _ (omega arith) (omega (arith, rooted .octets)))

@@ -1,23 +1,21 @@
-// Judges a listing by an accepted body, record by record: the octets of the message that it gives, or the refusal 51 to
+// Judges a listing by a prepared book, record by record: the octets of the message that it gives, or the refusal 51 to
 // 54 at the first record at fault.
 use layout::Refusal;
+use prepared::number;
+use prepared::value;
+use std::num::wrapping_sub_u64;
 ghost use mathlib.Core.Path.{_≡_};
 ghost use mathlib.Core.Bool.{true};
-ghost use Prim.Native.Nat.{_+_, _/_, _<_, _≤_};
-ghost use lib.Dec.{eqb};
+ghost use Prim.Native.Nat.{_+_, _*_, _^_, _<_, _≤_};
 ghost use lib.ListN.{length};
-ghost use Rattle.layout.specs.Result.{if_then_else_};
-ghost use Rattle.layout.specs.Octets.{wordsOf};
-ghost use Rattle.layout.specs.Types.{inRange, typeAt};
 ghost use Rattle.layout.specs.BookRules.{fieldAt};
 ghost use Rattle.layout.specs.Contracts.{refusal};
-ghost use Rattle.layout.specs.Writing.{isGroup, isNumber, judgeData, judgeDatas, judgeField, judgeFields};
-ghost use Rattle.layout.specs.Writing.{judgeListing, judgeOctets};
-ghost use Rattle.templates.specs.Positions.{IsBlock, Plain, shapeAt};
-ghost use Rattle.walk.specs.Walks.{BlockAt, innerAt};
-ghost use Rattle.judges.specs.Judges.{blockAt, capped, dataEnd, datasEnd, entriesAt, entryEnd, fieldEnd};
-ghost use Rattle.judges.specs.Judges.{fieldsEnd, groupAt, groupEnd, judged, limit, listingEnd, numberAt};
-ghost use Rattle.judges.specs.Judges.{octetsEnd, rootAt, rowAt, rowEnd};
+ghost use Rattle.layout.specs.Writing.{isGroup, isNumber, judgeDatas, judgeField, judgeFields, judgeGroups};
+ghost use Rattle.layout.specs.Writing.{judgeListing, judgeNumber, judgeOctets, numberFits, second};
+ghost use Rattle.prepared.specs.Books.{templateAt};
+ghost use Rattle.prepared.specs.Positions.{BlockAt, IsBlock, innerAt, shapeAt};
+ghost use Rattle.judges.specs.Judges.{IsField, capped, datasEnd, entriesAt, fieldEnd, fieldsEnd, judged};
+ghost use Rattle.judges.specs.Judges.{limit, listingEnd, octetsEnd, rowEnd};
 
 // What judging comes to: the number of the next record and the octets of what was judged, which stop at LIMIT.
 pub enum Judged {
@@ -89,24 +87,27 @@ fn is_number(listing: &[u64], i: usize) -> bool
     false
 }
 
-// Whether a number or null fits a field of type t.
-fn number_fits(t: usize, optional: bool, kind: u64, x: u64) -> bool
-    ensures { λ r. ⌜ r ≡ (if eqb kind 1 then optional else inRange (typeAt t) x) ⌝ }
+// Whether the number or null that record i is fits the field at f, whose table is at t: null an optional field, and a
+// number one whose least it is no farther from than the greatest is.
+fn number_fits(p: &[u64], f: usize, t: usize, listing: &[u64], i: usize) -> bool
+    requires { ⌜ IsField (now p) f t × (3 * i + 3 ≤ length (now listing)) ⌝ }
+    ensures { λ r. ⌜ r ≡ numberFits (now (listing .entry)) (fieldAt (now (p .entry)) f) i ⌝ }
 {
-    if kind == 1 {
-        return optional;
+    if listing[3 * i] == 1 {
+        return number(p, f + 4) == 1;
     }
-    number_types::in_range(t, x)
+    wrapping_sub_u64(listing[3 * i + 1], value(p, t + 1)) <= value(p, t + 2)
 }
 
-// A number or null for a field of type t.
-fn judge_number(listing: &[u64], t: usize, optional: bool, i: usize) -> Judged
-    ensures { λ r. ⌜ r ≡ judged (fieldEnd i) (numberAt (now (listing .entry)) t optional i) ⌝ }
+// A number or null for the field at f, whose table is at t.
+fn judge_number(p: &[u64], f: usize, t: usize, listing: &[u64], i: usize) -> Judged
+    requires { ⌜ IsField (now p) f t ⌝ }
+    ensures { λ r. ⌜ r ≡ judged (fieldEnd i) (judgeNumber (now (listing .entry)) 0 (fieldAt (now (p .entry)) f) i) ⌝ }
 {
     if !is_number(listing, i) {
         return refuse(51, i);
     }
-    if !number_fits(t, optional, listing[3 * i], listing[3 * i + 1]) {
+    if !number_fits(p, f, t, listing, i) {
         return refuse(52, i);
     }
     Judged::To {
@@ -115,13 +116,13 @@ fn judge_number(listing: &[u64], t: usize, optional: bool, i: usize) -> Judged
     }
 }
 
-// The field at word w of the body. Its octets are the block's.
-fn judge_field(body: &[u8], w: usize, listing: &[u64], n: usize, i: usize) -> Judged
-    requires { ⌜ w + 6 ≤ length (now body) / 2 ⌝ }
-    ensures { λ r. ⌜ r ≡ judged (fieldEnd i) (judgeField (now (listing .entry)) n (fieldAt (wordsOf
-        (now (body .entry))) w) i) ⌝ }
+// The field at f, whose table is at t. Its octets are the block's.
+fn judge_field(p: &[u64], f: usize, t: usize, listing: &[u64], n: usize, i: usize) -> Judged
+    requires { ⌜ IsField (now p) f t ⌝ }
+    ensures { λ r. ⌜ r ≡ judged (fieldEnd i) (judgeField (now (listing .entry)) n (fieldAt (now (p .entry)) f)
+        i) ⌝ }
 {
-    let len = book::word(body, w + 2);
+    let len = number(p, f + 2);
     if 1 < len {
         let octets = judge_octets(listing, n, i);
         let Judged::To { next, length } = octets else {
@@ -132,154 +133,52 @@ fn judge_field(body: &[u8], w: usize, listing: &[u64], n: usize, i: usize) -> Ju
         }
         return Judged::To { next, length: 0 };
     }
-    let optional = book::word(body, w + 4) == 1;
-    judge_number(listing, book::word(body, w + 1), optional, i)
+    judge_number(p, f, t, listing, i)
 }
 
-// The fields of the block at word w.
-fn judge_fields(body: &[u8], w: usize, listing: &[u64], n: usize, start: usize) -> Judged
-    requires { ⌜ IsBlock (wordsOf (now body)) w ⌝ }
-    ensures { λ r. ⌜ r ≡ judged fieldsEnd (judgeFields (now (listing .entry)) n (shapeAt (wordsOf
-        (now (body .entry))) w .fields) start) ⌝ }
+// The fields of the block at a.
+fn judge_fields(p: &[u64], a: usize, listing: &[u64], n: usize, start: usize) -> Judged
+    requires { ⌜ IsBlock (now p) a ⌝ }
+    ensures { λ r. ⌜ r ≡ judged fieldsEnd (judgeFields (now (listing .entry)) n (shapeAt (now (p .entry)) a .fields)
+        start) ⌝ }
 {
-    let mut left = book::word(body, w + 1);
-    let mut f = w + 4;
+    let mut left = number(p, a + 3);
+    let mut f = a + 12;
+    let mut t = number(p, a + 11);
     let mut i = start;
     while 0 < left {
-        let field = judge_field(body, f, listing, n, i);
+        let field = judge_field(p, f, t, listing, n, i);
         let Judged::To { next, .. } = field else {
             return field;
         };
         i = next;
         f = f + 6;
+        t = t + 5;
         left = left - 1;
     }
     Judged::To { next: i, length: 0 }
 }
 
-// One data: its length and its octets.
-fn judge_data(listing: &[u64], n: usize, i: usize) -> Judged
-    ensures { λ r. ⌜ r ≡ judged (dataEnd i) (judgeData (now (listing .entry)) n i) ⌝ }
+// As many data as the block at a has.
+fn judge_datas(p: &[u64], a: usize, listing: &[u64], n: usize, start: usize) -> Judged
+    requires { ⌜ IsBlock (now p) a ⌝ }
+    ensures { λ r. ⌜ r ≡ judged (datasEnd 0) (judgeDatas (now (listing .entry)) n (shapeAt (now (p .entry)) a .datas)
+        start) ⌝ }
 {
-    let octets = judge_octets(listing, n, i);
-    let Judged::To { next, length } = octets else {
-        return octets;
-    };
-    if 65535 <= length {
-        return refuse(53, i);
-    }
-    Judged::To {
-        next,
-        length: 2 + length,
-    }
-}
-
-// As many data as the block at word w has.
-fn judge_datas(body: &[u8], w: usize, listing: &[u64], n: usize, start: usize) -> Judged
-    requires { ⌜ IsBlock (wordsOf (now body)) w ⌝ }
-    ensures { λ r. ⌜ r ≡ judged (datasEnd 0) (judgeDatas (now (listing .entry)) n (shapeAt (wordsOf
-        (now (body .entry))) w .datas) start) ⌝ }
-{
-    let mut left = book::word(body, w + 3);
+    let mut left = number(p, a + 5);
     let mut i = start;
     let mut seen = 0;
     while 0 < left {
-        let data = judge_data(listing, n, i);
+        let data = judge_octets(listing, n, i);
         let Judged::To { next, length } = data else {
             return data;
         };
+        if 65535 <= length {
+            return refuse(53, i);
+        }
         i = next;
-        seen = plus(seen, length);
+        seen = plus(seen, 2 + length);
         left = left - 1;
-    }
-    Judged::To {
-        next: i,
-        length: seen,
-    }
-}
-
-// The block at word w, `depth` more levels being left: its fields, its groups, its data.
-fn judge_block(body: &[u8], w: usize, depth: usize, listing: &[u64], n: usize, i: usize) -> Judged
-    requires { ⌜ BlockAt (wordsOf (now body)) depth w ⌝ }
-    ensures { λ r. ⌜ r ≡ judged (entryEnd (shapeAt (wordsOf (now (body .entry))) w) (innerAt (wordsOf
-        (now (body .entry))) depth w)) (blockAt (wordsOf (now (body .entry))) depth w (now (listing .entry)) n i) ⌝ }
-{
-    let fields = judge_fields(body, w, listing, n, i);
-    let Judged::To { next, .. } = fields else {
-        return fields;
-    };
-    let groups = judge_groups(body, w, depth, listing, n, next);
-    let Judged::To { next: on, length } = groups else {
-        return groups;
-    };
-    let datas = judge_datas(body, w, listing, n, on);
-    let Judged::To {
-        next: end,
-        length: more,
-    } = datas
-    else {
-        return datas;
-    };
-    Judged::To {
-        next: end,
-        length: plus(plus(book::word(body, w), length), more),
-    }
-}
-
-// k entries of the block at word w, which has neither groups nor data.
-fn judge_plain(body: &[u8], w: usize, listing: &[u64], n: usize, k: u64, start: usize) -> Judged
-    requires { ⌜ IsBlock (wordsOf (now body)) w × Plain (wordsOf (now body)) w ⌝ }
-    ensures { λ r. ⌜ r ≡ judged (rowEnd (shapeAt (wordsOf (now (body .entry))) w) (innerAt (wordsOf
-        (now (body .entry))) 0 w) 0) (entriesAt (wordsOf (now (body .entry))) 0 w (now (listing .entry)) n k
-        start) ⌝ }
-{
-    let mut left = k;
-    let mut i = start;
-    let mut seen = 0;
-    while 0 < left {
-        let entry = judge_fields(body, w, listing, n, i);
-        let Judged::To { next, .. } = entry else {
-            return entry;
-        };
-        i = next;
-        seen = plus(seen, book::word(body, w));
-        left = left - 1;
-    }
-    Judged::To {
-        next: i,
-        length: seen,
-    }
-}
-
-// k entries of the block at word w.
-fn judge_entries(
-    body: &[u8],
-    w: usize,
-    depth: usize,
-    listing: &[u64],
-    n: usize,
-    k: u64,
-    start: usize,
-) -> Judged
-    requires { ⌜ BlockAt (wordsOf (now body)) depth w ⌝ }
-    ensures { λ r. ⌜ r ≡ judged (rowEnd (shapeAt (wordsOf (now (body .entry))) w) (innerAt (wordsOf
-        (now (body .entry))) depth w) 0) (entriesAt (wordsOf (now (body .entry))) depth w (now (listing .entry)) n k
-        start) ⌝ }
-{
-    if blocks::is_plain(body, w) {
-        return judge_plain(body, w, listing, n, k, start);
-    }
-    let mut due = k;
-    let mut i = start;
-    let mut seen = 0;
-    while 0 < due {
-        let entry = judge_block(body, w, depth, listing, n, i);
-        let Judged::To { next, length } = entry else {
-            return entry;
-        };
-        i = next;
-        seen = plus(seen, length);
-        due = due - 1;
     }
     Judged::To {
         next: i,
@@ -300,59 +199,59 @@ fn is_group(listing: &[u64], i: usize) -> bool
     false
 }
 
-// The group at word w, `depth` more levels being left inside it: its dimension and its entries.
-fn judge_group(body: &[u8], w: usize, depth: usize, listing: &[u64], n: usize, i: usize) -> Judged
-    requires { ⌜ BlockAt (wordsOf (now body)) depth (w + 2) ⌝ }
-    ensures { λ r. ⌜ r ≡ judged (groupEnd (shapeAt (wordsOf (now (body .entry))) (w + 2)) (innerAt (wordsOf
-        (now (body .entry))) depth (w + 2))) (groupAt (wordsOf (now (body .entry))) depth w (now (listing .entry)) n
-        i) ⌝ }
+// The entries of the group that record i is. The record after it has a number too.
+fn entries_in(listing: &[u64], i: usize) -> u64
+    requires { ⌜ isGroup (now listing) i ≡ true ⌝ }
+    ensures { λ r. ⌜ (r ≡ second (now (listing .entry)) i) × (i + 1 < 2 ^ 64) ⌝ }
 {
-    if !is_group(listing, i) {
-        return refuse(51, i);
-    }
-    let k = listing[3 * i + 1];
-    if 65535 <= k {
-        return refuse(54, i);
-    }
-    let entries = judge_entries(body, w + 2, depth, listing, n, k, i + 1);
-    let Judged::To { next, length } = entries else {
-        return entries;
-    };
-    Judged::To {
-        next,
-        length: plus(4, length),
-    }
+    listing[3 * i + 1]
 }
 
-// The groups of the block at word w, `depth` more levels being left.
-fn judge_groups(
-    body: &[u8],
-    w: usize,
+// k entries of the block at a, `depth` more levels being left: of each its fields, its groups, its data.
+fn judge_entries(
+    p: &&[u64],
+    a: usize,
     depth: usize,
-    listing: &[u64],
+    listing: &&[u64],
     n: usize,
+    k: u64,
     start: usize,
 ) -> Judged
-    requires { ⌜ BlockAt (wordsOf (now body)) depth w ⌝ }
-    ensures { λ r. ⌜ r ≡ judged (rowEnd (shapeAt (wordsOf (now (body .entry))) w) (innerAt (wordsOf
-        (now (body .entry))) depth w) 0) (rowAt (wordsOf (now (body .entry))) depth w (now (listing .entry)) n
-        start) ⌝ }
+    requires { ⌜ BlockAt (now (now p)) depth a ⌝ }
+    ensures { λ r. ⌜ r ≡ judged (rowEnd (shapeAt (now (now (p .entry))) a) (innerAt (now (now (p .entry))) depth a) 0)
+        (entriesAt (now (now (p .entry))) depth a (now (now (listing .entry))) n k start) ⌝ }
 {
-    let mut g = blocks::groups_from(body, w);
-    let mut left = book::word(body, w + 2);
+    let s = *p;
+    let t = *listing;
+    let mut due = k;
     let mut i = start;
     let mut seen = 0;
-    while 0 < left {
-        blocks::open_row(body, g, left, depth);
-        let group = judge_group(body, g, depth - 1, listing, n, i);
-        let Judged::To { next, length } = group else {
-            return group;
+    while 0 < due {
+        due = due - 1;
+        let fields = judge_fields(s, a, t, n, i);
+        let Judged::To { next, .. } = fields else {
+            return fields;
         };
-        i = next;
+        seen = plus(seen, number(s, a + 2));
+        if number(s, a + 7) == 0 {
+            i = next;
+            continue;
+        }
+        let row = judge_row(p, a, depth, listing, n, next);
+        let Judged::To { next: on, length } = row else {
+            return row;
+        };
         seen = plus(seen, length);
-        let inner = blocks::groups_from(body, g + 2);
-        g = blocks::skip_row(body, inner, book::word(body, g + 4), depth - 1);
-        left = left - 1;
+        let datas = judge_datas(s, a, t, n, on);
+        let Judged::To {
+            next: end,
+            length: more,
+        } = datas
+        else {
+            return datas;
+        };
+        i = end;
+        seen = plus(seen, more);
     }
     Judged::To {
         next: i,
@@ -360,21 +259,58 @@ fn judge_groups(
     }
 }
 
-// A whole listing by its template's body: the octets of the message without its header.
-pub fn judge_listing(body: &[u8], listing: &[u64], n: usize) -> Judged
-    requires { ⌜ BlockAt (wordsOf (now body)) 4 0 ⌝ }
-    ensures { λ r. ⌜ r ≡ judged (listingEnd (shapeAt (wordsOf (now (body .entry))) 0) (innerAt (wordsOf
-        (now (body .entry))) 4 0) (now (listing .entry))) (judgeListing (now (listing .entry)) n (rootAt (wordsOf
-        (now (body .entry))))) ⌝ }
+// The groups of the block at a, `depth` more levels being left: of each its dimension and its entries.
+fn judge_row(p: &&[u64], a: usize, depth: usize, listing: &&[u64], n: usize, start: usize) -> Judged
+    requires { ⌜ BlockAt (now (now p)) depth a ⌝ }
+    ensures { λ r. ⌜ r ≡ judged (rowEnd (shapeAt (now (now (p .entry))) a) (innerAt (now (now (p .entry))) depth a) 0)
+        (judgeGroups (now (now (listing .entry))) n (innerAt (now (now (p .entry))) depth a) start) ⌝ }
 {
-    let root = judge_block(body, 0, 4, listing, n, 0);
+    let s = *p;
+    let t = *listing;
+    let mut g = number(s, a + 9);
+    let mut left = number(s, a + 4);
+    let mut i = start;
+    let mut seen = 0;
+    while 0 < left {
+        prepared::open_row(s, g, left, depth);
+        left = left - 1;
+        if !is_group(t, i) {
+            return refuse(51, i);
+        }
+        let k = entries_in(t, i);
+        if 65535 <= k {
+            return refuse(54, i);
+        }
+        let entries = judge_entries(p, g, depth - 1, listing, n, k, i + 1);
+        let Judged::To { next, length } = entries else {
+            return entries;
+        };
+        i = next;
+        seen = plus(seen, plus(4, length));
+        g = number(s, g + 8);
+    }
+    Judged::To {
+        next: i,
+        length: seen,
+    }
+}
+
+// A whole listing by the template whose block stands at a: the octets of the message without its header.
+pub fn judge_listing(p: &&[u64], a: usize, listing: &&[u64], n: usize) -> Judged
+    requires { ⌜ BlockAt (now (now p)) 4 a ⌝ }
+    ensures { λ r. ⌜ r ≡ judged (listingEnd (shapeAt (now (now (p .entry))) a) (innerAt (now (now (p .entry))) 4 a)
+        (now (now (listing .entry)))) (judgeListing (now (now (listing .entry))) n (templateAt (now (now (p .entry)))
+        a)) ⌝ }
+{
+    let t = *listing;
+    let root = judge_entries(p, a, 4, listing, n, 1, 0);
     let Judged::To { next, .. } = root else {
         return root;
     };
-    if listing.len() / 3 != next {
+    if t.len() / 3 != next {
         return refuse(51, next);
     }
-    if listing.len() % 3 != 0 {
+    if t.len() % 3 != 0 {
         return refuse(51, next);
     }
     root

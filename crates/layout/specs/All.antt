@@ -10,7 +10,7 @@ use Rattle.layout.specs.Values.{recordOf, recordsOf, listing, measure, g
 use Rattle.layout.specs.Values.{groupsIn, elementOf, elementIn, answerAt}
 use Rattle.layout.specs.Message.{readData, skipDatas, readDimension, skipGroups, readEntries, readField}
 use Rattle.layout.specs.Message.{readDatas, readBlock, readGroup, readGroups, headerWhole, checkHeader}
-use Rattle.layout.specs.Message.{countGood, readRoot, readMessage}
+use Rattle.layout.specs.Message.{countGood, surplusOf, readWhole, readRoot, readMessage}
 use Rattle.layout.specs.Reading.{checkOf, listOf, hasElement, groupHas, hasPlace, placeIn, placeOf}
 use Rattle.layout.specs.Writing.{judgeOctets, judgeNumber, judgeFields, judgeDatas, judgeEntries, judgeBlock}
 use Rattle.layout.specs.Writing.{judgeGroups, judgeListing, numbers16, spanOf, entriesIn, fieldOctets}
@@ -27,7 +27,7 @@ unfolding
     groupsSince parseContents contentsGood parseBodies eachMust bookOf
     recordOf recordsOf listing measure groupOf entriesOf entriesFrom groupsIn elementOf elementIn answerAt
     readData skipDatas readDimension skipGroups readEntries readField readDatas readBlock readGroup readGroups
-    headerWhole checkHeader countGood readRoot readMessage
+    headerWhole checkHeader countGood surplusOf readWhole readRoot readMessage
     checkOf listOf hasElement groupHas hasPlace placeIn placeOf
     judgeOctets judgeNumber judgeFields judgeDatas judgeEntries judgeBlock judgeGroups judgeListing
     numbers16 spanOf entriesIn fieldOctets blockOctets dataOctets rowOctets messageOctets datasLength rowLength writeOf

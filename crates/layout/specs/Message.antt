@@ -171,21 +171,29 @@ templateOf b m = orRefuse (findTemplate (templateId m) (b .templates)) 13 2
 unfoldable pub countGood : ℕ → ℕ → List ℕ → ℕ → Bool
 countGood version v ss n = if leb v version then eqb n (present v ss) else leb (length ss) n
 
--- 14 to 20, by the message's template and the book's version.
-unfoldable pub readRoot : ℕ → Template → List ℕ → Result Values
-readRoot version t m = do
+-- 14 and 15, by the message's template and the book's version: how many groups and data of the root the header counts
+-- beyond those that are present.
+unfoldable pub surplusOf : ℕ → Template → List ℕ → Result (ℕ × ℕ)
+surplusOf version t m = do
   let v = versionOf m
   let groups = groupSinces (t .groups)
   let datas = dataSinces (t .shape .datas)
   _ ← must (leb (need v (t .shape)) (blockLength m)) 14 0
   _ ← must (countGood version v groups (groupCount m)) 15 8
   _ ← must (countGood version v datas (dataCount m)) 15 10
-  let surplusGroups = groupCount m - present v groups
-  let surplusDatas = dataCount m - present v datas
-  let root = readGroups m v (t .groups) surplusGroups
-  (fs, gs, ds, e) ← readBlock m v (t .shape) root surplusDatas (blockLength m) headerSize
+  done (groupCount m - present v groups, dataCount m - present v datas)
+
+-- 16 to 20: the root block and what follows it, up to the message's end.
+unfoldable pub readWhole : Template → List ℕ → ℕ × ℕ → Result Values
+readWhole t m (groups, datas) = do
+  let v = versionOf m
+  let root = readGroups m v (t .groups) groups
+  (fs, gs, ds, e) ← readBlock m v (t .shape) root datas (blockLength m) headerSize
   _ ← must (eqb e (length m)) 20 e
   done (entry fs gs ds nil)
+
+unfoldable pub readRoot : ℕ → Template → List ℕ → Result Values
+readRoot version t m = surplusOf version t m >>= readWhole t m
 
 -- "Message: 10 to 15 in order, then the walk in wire order, first fault only."
 unfoldable pub readMessage : Book → List ℕ → Result Values

@@ -200,11 +200,13 @@ writtenLength t r = headerSize + rowLength (t .shape) (t .groups) r
 
 -- "Writing: 50; then 51 to 54 at the first record at fault, 51 first within it; left-over records next; 55 last."
 -- `room` is how many octets there is room for.
-unfoldable pub writeOf : List ℕ → ℕ → List ℕ → List ℕ → ℕ → Result (List ℕ)
-writeOf book id l pool room = do
-  b ← bookOf book
+abbrev pub writeIn : Book → ℕ → List ℕ → List ℕ → ℕ → Result (List ℕ)
+writeIn b id l pool room = do
   t ← orRefuse (findTemplate id (b .templates)) 50 0
   r ← judgeListing l (length pool) t
   let m = messageOctets b t pool r
   _ ← must (leb (length m) room and leb (length m) 65535) 55 0
   done m
+
+unfoldable pub writeOf : List ℕ → ℕ → List ℕ → List ℕ → ℕ → Result (List ℕ)
+writeOf book id l pool room = bookOf book >>= λ b. writeIn b id l pool room

@@ -7,6 +7,7 @@ use libc::STDOUT_FILENO;
 ghost use mathlib.Core.Path.{_≡_};
 ghost use Prim.Native.Nat.{_+_, _≤_};
 ghost use lib.ListN.{length};
+ghost use Rattle.prepared.specs.Books.{IsPrepared};
 
 const SPACE: u8 = 32;
 
@@ -90,14 +91,26 @@ fn read_count() -> usize {
     octets::get2(&count, 0) as usize
 }
 
-// Lists the message that is the rest of the input.
-fn list_rest(book: &[u8]) {
+// Lists the message that is the rest of the input by a prepared book.
+fn list_rest(p: &[u64])
+    requires { ⌜ IsPrepared (now p) ⌝ }
+{
     // One octet more than a message may have, so that the library sees one that is too long.
     let mut message = io::large_buffer();
     let size = io::read_full(STDIN_FILENO, &mut message);
     let mut room = [0u64; 6000];
-    match reader::list(book, &message[..size], &mut room) {
+    match stream::list(p, &message[..size], &mut room) {
         Counted::Count(count) => show_records(&room, count),
+        Counted::Refused(refusal) => show_refusal(refusal),
+    }
+}
+
+// Lists the message by a book, which may be any octets.
+fn list_by(book: &[u8]) {
+    // As many numbers as the prepared form of any book has at most.
+    let mut numbers = [0u64; 8259];
+    match prepare::prepare_octets(book, &mut numbers) {
+        Counted::Count(n) => list_rest(&numbers[..n]),
         Counted::Refused(refusal) => show_refusal(refusal),
     }
 }
@@ -113,7 +126,7 @@ fn list_input(room: &mut [u8]) {
         return;
     }
     let came = io::read_full(STDIN_FILENO, &mut room[0..size]);
-    list_rest(&room[0..came]);
+    list_by(&room[0..came]);
 }
 
 fn main() {

@@ -1,20 +1,18 @@
-// Walks a whole message by an accepted book: how many records it has, or the refusal 10 to 20.
+// Opens a message by a prepared book: what its root block is, or the refusal 10 to 15.
 use layout::Refusal;
-use templates::Place;
-use walk::OnWire;
+use prepared::Place;
+use prepared::number;
+use prepared::value;
 use wire::Walked;
 ghost use mathlib.Core.Path.{_≡_};
-ghost use Prim.Native.Nat.{_≤_};
-ghost use lib.Dec.{ltb};
-ghost use Rattle.layout.specs.Octets.{wordsOf};
-ghost use Rattle.layout.specs.Book.{dataSinces, groupSinces, need};
-ghost use Rattle.layout.specs.Message.{groupCount, dataCount};
-ghost use Rattle.templates.specs.Lookup.{IsBook};
-ghost use Rattle.templates.specs.Positions.{shapeAt};
-ghost use Rattle.wire.specs.Walks.{walked};
-ghost use Rattle.walk.specs.Walks.{BlockAt, GoodBlock, Lent, innerAt};
-ghost use Rattle.messages.specs.Whole.{Within, bodyAt, bodyFound, leftOver, messageOf, rootAt, rootEnd};
-ghost use Rattle.messages.specs.Whole.{rooted, surplusOf, wholeAt, wireAt};
+ghost use Prim.Native.Nat.{_<_, _≤_};
+ghost use Rattle.layout.specs.Book.{dataSinces, groupSinces, present};
+ghost use Rattle.layout.specs.Contracts.{refusal};
+ghost use Rattle.layout.specs.Message.{surplusOf};
+ghost use Rattle.prepared.specs.Positions.{BlockAt, IsBlock, innerAt, shapeAt, versionAt};
+ghost use Rattle.prepared.specs.Books.{HoldsBook, templateAt};
+ghost use Rattle.walk.specs.Walks.{Lent};
+ghost use Rattle.messages.specs.Openings.{Long, isOwn, knownAt, leftOver, openAt, opened, openedBy};
 
 // How many groups or data the wire has more than are present, or that the header's count of them is wrong.
 enum Surplus {
@@ -22,13 +20,13 @@ enum Surplus {
     Wrong,
 }
 
-// Of `all` elements `present` are present, and the header counts n.
-fn left_over(version: usize, v: usize, all: usize, present: usize, n: usize) -> Surplus
-    requires { ⌜ present ≤ all ⌝ }
-    ensures { λ r. ⌜ r ≡ leftOver version v all present n ⌝ }
+// Of `all` elements `here` are present, and the header counts n.
+fn left_over(version: usize, v: usize, all: usize, here: usize, n: usize) -> Surplus
+    requires { ⌜ here ≤ all ⌝ }
+    ensures { λ r. ⌜ r ≡ leftOver version v all here n ⌝ }
 {
     if v <= version {
-        if n == present {
+        if n == here {
             return Surplus::Is(0);
         }
         return Surplus::Wrong;
@@ -36,151 +34,190 @@ fn left_over(version: usize, v: usize, all: usize, present: usize, n: usize) -> 
     if n < all {
         return Surplus::Wrong;
     }
-    Surplus::Is(n - present)
+    Surplus::Is(n - here)
 }
 
-fn surplus_groups(body: &[u8], version: usize, v: usize, m: &[u8]) -> Surplus
-    requires { ⌜ BlockAt (wordsOf (now body)) 4 0 × Lent (now m) 12 ⌝ }
-    requires { ⌜ Within (wordsOf (now body)) version ⌝ }
-    ensures { λ r. ⌜ r ≡ surplusOf version v (groupSinces (innerAt (wordsOf (now (body .entry))) 4 0)) (groupCount
-        (now (m .entry))) ⌝ }
+// How many data of the block at a are present at version v. All are at the book's version and later.
+fn datas_here(p: &[u64], a: usize, v: usize) -> usize
+    requires { ⌜ IsBlock (now p) a ⌝ }
+    ensures { λ r. ⌜ r ≡ present v (dataSinces (shapeAt (now (p .entry)) a .datas)) ⌝ }
 {
-    let all = book::word(body, 2);
-    let n = octets::get2(m, 8) as usize;
-    if version <= v {
-        return left_over(version, v, all, all, n);
+    let all = number(p, a + 5);
+    if number(p, 1) <= v {
+        return all;
     }
-    let present = blocks::present_groups(body, blocks::groups_from(body, 0), all, 4, v);
-    left_over(version, v, all, present, n)
+    let mut left = all;
+    let mut d = number(p, a + 10);
+    let mut seen = 0;
+    while 0 < left {
+        if number(p, d + 1) <= v {
+            seen = seen + 1;
+        }
+        d = d + 2;
+        left = left - 1;
+    }
+    seen
 }
 
-fn surplus_datas(body: &[u8], version: usize, v: usize, m: &[u8]) -> Surplus
-    requires { ⌜ BlockAt (wordsOf (now body)) 4 0 × Lent (now m) 12 ⌝ }
-    requires { ⌜ Within (wordsOf (now body)) version ⌝ }
-    ensures { λ r. ⌜ r ≡ surplusOf version v (dataSinces (shapeAt (wordsOf (now (body .entry))) 0 .datas))
-        (dataCount (now (m .entry))) ⌝ }
+// How many groups of the template's block at a are present at version v.
+fn groups_here(p: &[u64], a: usize, v: usize) -> usize
+    requires { ⌜ BlockAt (now p) 4 a ⌝ }
+    ensures { λ r. ⌜ r ≡ present v (groupSinces (innerAt (now (p .entry)) 4 a)) ⌝ }
 {
-    let all = book::word(body, 3);
-    let n = octets::get2(m, 10) as usize;
-    if version <= v {
-        return left_over(version, v, all, all, n);
+    let all = number(p, a + 4);
+    if number(p, 1) <= v {
+        return all;
     }
-    let present = blocks::present_datas(body, 4 + 6 * book::word(body, 1), all, v);
-    left_over(version, v, all, present, n)
+    let mut left = all;
+    let mut g = number(p, a + 9);
+    let mut seen = 0;
+    while 0 < left {
+        prepared::open_row(p, g, left, 4);
+        if number(p, g + 1) <= v {
+            seen = seen + 1;
+        }
+        g = number(p, g + 8);
+        left = left - 1;
+    }
+    seen
 }
 
-// What the root block is on the wire, or the refusal 14 or 15.
-pub enum Root {
-    On(OnWire),
+// The root block of a message: where its template's block stands, the message's version, the root's octets, and how many
+// surplus groups and data follow its own; or the refusal.
+pub enum Opened {
+    At {
+        block: usize,
+        version: usize,
+        length: usize,
+        groups: usize,
+        datas: usize,
+    },
     Refused(Refusal),
 }
 
-// Whether l octets are under the root block's need at version v. The declared length is enough at every version.
-fn is_short(body: &[u8], v: usize, l: usize) -> bool
-    requires { ⌜ GoodBlock (wordsOf (now body)) 4 0 ⌝ }
-    ensures { λ r. ⌜ r ≡ ltb l (need v (shapeAt (wordsOf (now (body .entry))) 0)) ⌝ }
+fn refuse(number: u8, place: usize) -> Opened
+    ensures { λ r. ⌜ r ≡ Opened.Refused (refusal number place) ⌝ }
 {
-    if book::word(body, 0) <= l {
-        return false;
-    }
-    l < blocks::need(body, 0, v)
+    Opened::Refused(Refusal { number, place })
 }
 
-// The header's numbers against the template's body, in a book of this version.
-pub fn on_wire(body: &[u8], version: usize, m: &[u8]) -> Root
-    requires { ⌜ GoodBlock (wordsOf (now body)) 4 0 × Lent (now m) 12 ⌝ }
-    requires { ⌜ Within (wordsOf (now body)) version ⌝ }
-    ensures { λ r. ⌜ r ≡ rooted (wireAt (wordsOf (now (body .entry))) (now (m .entry)) version) ⌝ }
+// By the template's block at a: 14 and 15.
+fn open_by(p: &[u64], a: usize, m: &[u8]) -> Opened
+    requires { ⌜ BlockAt (now p) 4 a × Long (now m) ⌝ }
+    ensures { λ r. ⌜ r ≡ openedBy a (now (m .entry)) (surplusOf (versionAt (now (p .entry))) (templateAt
+        (now (p .entry)) a) (now (m .entry))) ⌝ }
 {
-    let v = octets::get2(m, 6) as usize;
+    let own = number(p, 1);
+    let version = octets::get2(m, 6) as usize;
     let length = octets::get2(m, 0) as usize;
-    if is_short(body, v, length) {
-        return Root::Refused(Refusal {
-            number: 14,
-            place: 0,
-        });
+    if length < prepared::need(p, a, version) {
+        return refuse(14, 0);
     }
-    let Surplus::Is(groups) = surplus_groups(body, version, v, m) else {
-        return Root::Refused(Refusal {
-            number: 15,
-            place: 8,
-        });
+    let n = octets::get2(m, 8) as usize;
+    let Surplus::Is(groups) = left_over(
+        own,
+        version,
+        number(p, a + 4),
+        groups_here(p, a, version),
+        n,
+    ) else {
+        return refuse(15, 8);
     };
-    let Surplus::Is(datas) = surplus_datas(body, version, v, m) else {
-        return Root::Refused(Refusal {
-            number: 15,
-            place: 10,
-        });
+    let k = octets::get2(m, 10) as usize;
+    let Surplus::Is(datas) = left_over(own, version, number(p, a + 5), datas_here(p, a, version), k)
+    else {
+        return refuse(15, 10);
     };
-    Root::On(OnWire {
+    Opened::At {
+        block: a,
+        version,
         length,
         groups,
         datas,
-    })
+    }
 }
 
-// The root block and what follows it, up to the message's end.
-pub fn walk_whole(body: &[u8], m: &[u8], v: usize, wire: OnWire) -> Walked
-    requires { ⌜ BlockAt (wordsOf (now body)) 4 0 × Lent (now m) 12 ⌝ }
-    ensures { λ r. ⌜ r ≡ walked (rootEnd (now (m .entry))) (wholeAt (wordsOf (now (body .entry))) (now (m .entry)) v
-        wire) ⌝ }
+// By the template's id, the header being good so far: 13 to 15.
+fn open_known(p: &[u64], m: &[u8]) -> Opened
+    requires { ⌜ HoldsBook (now p) × Long (now m) ⌝ }
+    ensures { λ r. ⌜ r ≡ opened (now (m .entry)) (knownAt (now (p .entry)) (now (m .entry))) ⌝ }
 {
-    let root = walk::pass_block(body, 0, 4, m, v, wire, 12);
-    let Walked::To { next, records } = root else {
-        return root;
+    let Place::At(a) = prepared::find(p, octets::get2(m, 2) as usize) else {
+        return refuse(13, 2);
     };
-    if next == m.len() {
-        return Walked::To { next, records };
-    }
-    wire::refuse(20, next)
+    open_by(p, a, m)
 }
 
-// A message by its template's body, in a book of this version: 14 to 20.
-pub fn walk_root(body: &[u8], version: usize, m: &[u8]) -> Walked
-    requires { ⌜ GoodBlock (wordsOf (now body)) 4 0 × Lent (now m) 12 ⌝ }
-    requires { ⌜ Within (wordsOf (now body)) version ⌝ }
-    ensures { λ r. ⌜ r ≡ walked (rootEnd (now (m .entry))) (rootAt (wordsOf (now (body .entry))) (now (m .entry))
-        version) ⌝ }
+// Test by test, in their order.
+fn open_any(p: &[u64], m: &[u8]) -> Opened
+    requires { ⌜ HoldsBook (now p) ⌝ }
+    ensures { λ r. ⌜ r ≡ opened (now (m .entry)) (openAt (now (p .entry)) (now (m .entry))) ⌝ }
 {
-    match on_wire(body, version, m) {
-        Root::On(wire) => walk_whole(body, m, octets::get2(m, 6) as usize, wire),
-        Root::Refused(refusal) => Walked::Refused(refusal),
-    }
+    let Walked::Refused(refusal) = wire::read_header(m, number(p, 0)) else {
+        return open_known(p, m);
+    };
+    Opened::Refused(refusal)
 }
 
-// Where the body of a message's template lies in the book, its first word and its words; or the refusal 10 to 13.
-pub enum Body {
-    At { first: usize, words: usize },
-    Refused(Refusal),
-}
-
-// The header, and then the template's row in the book's contents.
-pub fn find_body(book: &[u8], m: &[u8]) -> Body
-    requires { ⌜ IsBook (now book) ⌝ }
-    ensures { λ r. ⌜ r ≡ bodyFound (bodyAt (now (book .entry)) (now (m .entry))) ⌝ }
+// Whether a block stands at a, and the header is as a writer by this book has it for that template; its block may be longer.
+fn is_own(p: &[u64], a: usize, m: &[u8]) -> bool
+    requires { ⌜ (0 < a → IsBlock (now p) a) × Long (now m) ⌝ }
+    ensures { λ r. ⌜ r ≡ isOwn (now (p .entry)) a (now (m .entry)) ⌝ }
 {
-    if let Walked::Refused(refusal) = wire::read_header(m, book::word(book, 0)) {
-        return Body::Refused(refusal);
+    if a == 0 {
+        return false;
     }
-    match templates::find(book, octets::get2(m, 2) as usize) {
-        Place::At { first, words } => Body::At { first, words },
-        Place::Unknown => Body::Refused(Refusal {
-            number: 13,
-            place: 2,
-        }),
+    if octets::get2(m, 2) != value(p, a) {
+        return false;
+    }
+    if octets::get2(m, 4) != value(p, 0) {
+        return false;
+    }
+    if octets::get2(m, 6) != value(p, 1) {
+        return false;
+    }
+    if octets::get2(m, 8) != value(p, a + 4) {
+        return false;
+    }
+    if octets::get2(m, 10) != value(p, a + 5) {
+        return false;
+    }
+    let length = octets::get2(m, 0);
+    if length < value(p, a + 6) {
+        return false;
+    }
+    length < 65535
+}
+
+// The root block that the header's numbers give, where they are the book's own.
+fn open_own(p: &[u64], m: &[u8]) -> Opened
+    requires { ⌜ HoldsBook (now p) × Lent (now m) 12 ⌝ }
+    ensures { λ r. ⌜ r ≡ opened (now (m .entry)) (openAt (now (p .entry)) (now (m .entry))) ⌝ }
+{
+    let a = number(p, 3 + octets::get2(m, 2) as usize % 64);
+    if !is_own(p, a, m) {
+        return open_any(p, m);
+    }
+    Opened::At {
+        block: a,
+        version: octets::get2(m, 6) as usize,
+        length: octets::get2(m, 0) as usize,
+        groups: 0,
+        datas: 0,
     }
 }
 
-// A message by an accepted book.
-pub fn walk(book: &[u8], m: &[u8]) -> Walked
-    requires { ⌜ IsBook (now book) ⌝ }
-    ensures { λ r. ⌜ r ≡ walked (rootEnd (now (m .entry))) (messageOf (now (book .entry)) (now (m .entry))) ⌝ }
+// A message up to its root block. Most headers are as a writer by the same book has them, and no test of 11 to 15 is
+// asked of those by itself.
+pub fn open(p: &[u64], m: &[u8]) -> Opened
+    requires { ⌜ HoldsBook (now p) ⌝ }
+    ensures { λ r. ⌜ r ≡ opened (now (m .entry)) (openAt (now (p .entry)) (now (m .entry))) ⌝ }
 {
-    match find_body(book, m) {
-        Body::At { first, words } => {
-            let end = 2 * first + 2 * words;
-            walk_root(&book[2 * first..end], book::word(book, 1), m)
-        }
-        Body::Refused(refusal) => Walked::Refused(refusal),
+    if m.len() < 12 {
+        return refuse(10, 0);
     }
+    if 65535 < m.len() {
+        return refuse(10, 0);
+    }
+    open_own(p, m)
 }

@@ -1,254 +1,313 @@
--- The fields and the data of a block, one of them among the others; and a group's own record.
-use mathlib.Core.Path.{_∙_, _≡_, ap, refl, subst, sym}
-use mathlib.Core.Bool.{Bool, false, true}
-use mathlib.Core.List.{List, [], _∷_, _++_, map}
+-- What each element of an entry is, as the code finds it.
+use mathlib.Core.Path.{_∙_, _≡_, ap, refl, sym}
+use mathlib.Core.Bool.{true}
+use mathlib.Core.List.{List, [], _∷_, map}
 use Prim.Native.Nat.{ℕ, zero, suc, _+_, _-_, _*_, _≤_, _<_}
-use native.Mathlib.Nat.{zero-add}
 use native.Mathlib.Omega.{arith}
 use lib.Dec.{leb}
 use lib.ListN.{getD, length}
-use lib.Seq.{getD-append-add}
-use borrow.Author.Tests.{le-leb, leb-false, leb-true, lt-leb}
-use Rattle.layout.specs.Result.{Each, Result, _>>=_, done, if_then_else_, must, refused}
+use borrow.Author.Tests.{le-leb, leb-true, lt-leb, ltb-true}
+use Rattle.layout.specs.Result.{Each, Result, _>>=_, done, if_then_else_}
 use Rattle.layout.specs.Octets.{number16}
-use Rattle.layout.specs.Book.{Field, Shape, need}
+use Rattle.layout.specs.Book.{Field, Groups, Shape, more, need}
 use Rattle.layout.specs.BookRules.{fieldAt, parseDatas, parseFields, word}
-use Rattle.layout.specs.Contracts.{found}
-use Rattle.layout.specs.Message.{Entry, readBlock, readData, readDatas, readDimension, readField, readGroup, skipDatas}
-use Rattle.layout.specs.Values.{Values, answerAt, elementIn, elementOf, nil}
+use Rattle.layout.specs.Message.{readData, readDatas, readField, readGroups, skipDatas, skipGroups}
+use Rattle.layout.specs.Reading.{hasElement}
+use Rattle.layout.specs.Values.{Values, elementOf, groupOf, nil}
 use Rattle.layout.specs.declared.Answer.{Answer}
-use Rattle.layout.specs.declared.Answer.the-variants.{Absent, Group, Octets}
+use Rattle.layout.specs.declared.Element.{Element}
 use Rattle.layout.specs.declared.Element.the-variants as Element
-use Rattle.layout.specs.declared.Found.{Found}
-use Rattle.layout.specs.declared.Found.the-variants.{Is}
 use Rattle.layout.specs.declared.Refusal.{Refusal}
-use Rattle.layout.proofs.Results.{and-right, bind-done, done-inj, inv-bind, inv-must}
-use Rattle.templates.specs.Positions.{fieldCount, fieldsFrom, shapeAt}
+use Rattle.layout.specs.declared.Answer.the-variants.{Absent, Group, Octets}
+use Rattle.layout.proofs.Results.{and-right, done-inj, inv-bind, inv-must}
+use Rattle.prepared.specs.Positions.{BlockAt, dataCount, fieldCount, fieldsFrom, groupCount, groupsFrom, innerAt}
+use Rattle.prepared.specs.Positions.{shapeAt}
+use Rattle.wire.specs.Walks.{skipEnd, walked}
+use Rattle.wire.specs.declared.Walked as Walked
+use Rattle.wire.proofs.Laws.{inv-to}
+use Rattle.walk.specs.Walks.{datasEnd, rowAt, valuesEnd}
+use Rattle.walk.proofs.Rows.{surplus-after}
 use Rattle.fields.specs.Readable.{Fits}
 use Rattle.fields.proofs.Laws.{fields-fit}
-use Rattle.wire.specs.Walks.{walked}
-use Rattle.wire.specs.declared.Walked.{Walked}
-use Rattle.wire.specs.declared.Walked.the-variants as Walked
-use Rattle.wire.proofs.Laws.{Reached, dimension-read, inv-to}
-use Rattle.walk.specs.Walks.{Bounded, blockAt, datasEnd, valuesEnd}
-use Rattle.walk.specs.declared.OnWire.{OnWire}
-use Rattle.walk.proofs.Laws.{datas-none, datas-step, datasAt, leads}
-use Rattle.places.specs.Asks.{Reaches, Readable, dataIs, datasTo, entryTo, inDatas, inEntry, itself, sought}
-use Rattle.places.specs.declared.Sought.{Sought}
-use Rattle.places.specs.declared.Sought.the-variants.{Refused, To}
-use Rattle.places.proofs.Joins.{joins-none, joins-step, onward}
-use Rattle.places.proofs.Stages.{retold, walk-refused}
+use Rattle.places.specs.Seeks.{rowAfter}
+use Rattle.places.specs.Elements.{Accepted, Done, countOf, dataRead, datasRead, elementRead, entryRead}
+use Rattle.places.specs.Elements.{groupRead, numberOf}
+use Rattle.places.proofs.Rows.{RowFrom, row-from}
+use Rattle.places.proofs.Places.{group-halves, group-is}
+use Rattle.places.proofs.Leads.{BlockRead, block-read, group-read}
+use Rattle.places.proofs.Blocks.{has-element}
 
--- ---- what was walked, and nothing is read after it
-
-module _ {A : Type 0} (end : A → ℕ) (ask : A → Result Answer) (f : A → ℕ × ℕ) where
-  pub told-refused : (r : Result A) (z : Refusal) → Walked.Refused z ≡ walked f r → sought end ask r ≡ Refused z
-  unfolding walked sought
-  told-refused (done a) z e = absurd (let y : _≡_ {A = ℕ} 0 1 = cc in omega arith)
-  told-refused (refused n p) z e = cc
-
-  -- It leads there, and what is found is q.
-  pub told : ((a : A) → end a ≡ f a .0) → (m : List ℕ) (at own : ℕ) (r : Result A) (y : Walked) (x j : ℕ) (q : Found)
-      → y ≡ walked f r → Bounded m at own y → y ≡ Walked.To x j → ((a : A) → r ≡ done a → found (ask a) ≡ q)
-      → (To x q ≡ sought end ask r) × Reaches m (To x q)
-  unfolding sought Reaches
-  told ends m at own r y x j q e b h finds =
-      let p = inv-to f r x j (sym h ∙ e) in
-      (rw (p .is, ends (p .value), p .next, finds (p .value) (p .is)) refl, leads m at own x j y b h .1)
+-- What was done is not refused.
+pub not-refused : {A : Type 0} (r : Result A) (f : A → ℕ × ℕ) → Done r → (z : Refusal)
+    → Walked.the-variants.Refused z ≡ walked f r → ⊥
+unfolding walked
+not-refused r f h z e =
+    let told = rw (h .is) at e in
+    let y : _≡_ {A = ℕ} 0 1 = cc in
+    omega arith
 
 -- ---- fields
 
-module _ (b : List ℕ) where
-  field-at : {A : Type 0} (f : Field → A) (n k w : ℕ) (d : A) → k < n
-      → getD (map f (parseFields b n w)) k d ≡ f (fieldAt b (w + 6 * k))
-  unfolding parseFields
-  field-at f zero k w d h = absurd (omega arith)
-  field-at f (suc n) zero w d h = let q : w + 6 * 0 ≡ w = omega arith in rw q refl
-  field-at f (suc n) (suc k) w d h =
-      let q : w + 6 * suc k ≡ w + 6 + 6 * k = omega arith in
-      rw q (field-at f n k (w + 6) d (omega arith))
+pub field-in : (m : List ℕ) (v at : ℕ) (p : List ℕ) (n k f : ℕ) → k < n
+    → getD (map (readField m v at) (parseFields p n f)) k Absent ≡ readField m v at (fieldAt p (f + 6 * k))
+unfolding parseFields getD map
+field-in m v at p zero k f h = absurd (omega arith)
+field-in m v at p (suc n) zero f h = let q : f + 6 * 0 ≡ f = omega arith in rw q refl
+field-in m v at p (suc n) (suc k) f h =
+    let q : f + 6 * suc k ≡ f + 6 + 6 * k = omega arith in
+    rw q (field-in m v at p n k (f + 6) (omega (arith, h)))
 
-  each-at : (P : Field → Type 0) (n k w : ℕ) → k < n → Each P (parseFields b n w) → P (fieldAt b (w + 6 * k))
-  unfolding parseFields Each
-  each-at P zero k w h e = absurd (omega arith)
-  each-at P (suc n) zero w h e = let q : w + 6 * 0 ≡ w = omega arith in rw q (e .0)
-  each-at P (suc n) (suc k) w h e =
-      let q : w + 6 * suc k ≡ w + 6 + 6 * k = omega arith in
-      rw q (each-at P n k (w + 6) (omega arith) (e .1))
+field-fits : (P : Field → Type 0) (p : List ℕ) (n k f : ℕ) → k < n → Each P (parseFields p n f)
+    → P (fieldAt p (f + 6 * k))
+unfolding parseFields Each
+field-fits P p zero k f h e = absurd (omega arith)
+field-fits P p (suc n) zero f h e = let q : f + 6 * 0 ≡ f = omega arith in rw q (e .0)
+field-fits P p (suc n) (suc k) f h e =
+    let q : f + 6 * suc k ≡ f + 6 + 6 * k = omega arith in
+    rw q (field-fits P p n k (f + 6) (omega (arith, h)) (e .1))
 
-module _ (m : List ℕ) (v : ℕ) (s : Shape) (f : ℕ → Result (Values × ℕ)) (n l at : ℕ) where
-  -- The block's octets are there, and its fields are read of them.
-  block-fields : (a : Entry) → readBlock m v s f n l at ≡ done a
-      → (at + l ≤ length m) × (a .0 ≡ map (readField m v at) (s .fields))
-  unfolding readBlock
-  block-fields a e =
-      let p = inv-bind _ _ _ e in
-      let q = inv-bind _ _ _ (inv-bind _ _ _ (p .next) .next) in
-      (leb-true _ _ (inv-must _ _ _ _ (p .first)), sym (ap (λ (x : Entry). x .0) (done-inj (q .next))))
-
-  -- What is asked of the data is asked of the block.
-  pub block-data : (k x j : ℕ) → at + l ≤ length m → Walked.To x j ≡ walked (valuesEnd 0) (f (at + l))
-      → sought entryTo (inEntry [] (Element.Data k)) (readBlock m v s f n l at)
-      ≡ sought datasTo (inDatas k) (readDatas m v (s .datas) n x)
-  unfolding readBlock must _>>=_ answerAt elementIn elementOf
-  block-data k x j h e =
-      let p = inv-to (valuesEnd 0) _ x j e in
-      rw (le-leb (at + l) (length m) h, p .is, p .next)
-      (retold (λ (d : List Answer × ℕ). (map (readField m v at) (s .fields), p .value .0, d .0, d .1)) _ _ _ _
-      (λ d. refl) (λ d. refl) _)
-
--- Field k of the block at word w.
-module _ (b : List ℕ) (depth w : ℕ) (m : List ℕ) (v : ℕ) (wire : OnWire) (at : ℕ)
-    (block : Readable b depth w m v (wire .length) at) (a : Entry) (e : blockAt b depth w m v wire at ≡ done a) (k : ℕ)
-    (h : k < fieldCount b w) where
-  read : (at + wire .length ≤ length m) × (a .0 ≡ map (readField m v at) (shapeAt b w .fields))
-  read = block-fields m v (shapeAt b w) _ (wire .datas) (wire .length) at a e
-
-  pub field-fits : Fits m v at (fieldAt b (fieldsFrom b w + 6 * k))
-  field-fits =
-      each-at b (Fits m v at) _ k _ h
-      (fields-fit m v at (wire .length) _ 0 0 _ (and-right _ _ (block .good .shape)) (omega arith) (block .enough)
-      (read .0))
-
-  pub field-found : found (inEntry [] (Element.Field k) a) ≡ Is (readField m v at (fieldAt b (fieldsFrom b w + 6 * k)))
-  unfolding found answerAt elementIn elementOf
-  field-found = rw (read .1) (ap Is (field-at b (readField m v at) _ k _ Absent h))
+pub field-readable : (p : List ℕ) (depth a : ℕ) (m : List ℕ) (v l at k : ℕ) → BlockAt p depth a
+    → need v (shapeAt p a) ≤ l → at + l ≤ length m → k < fieldCount p a
+    → Fits m v at (fieldAt p (fieldsFrom p a + 6 * k))
+field-readable p depth a m v l at k stands enough fits less =
+    field-fits (Fits m v at) p (fieldCount p a) k (fieldsFrom p a) less
+    (fields-fit m v at l (shapeAt p a .length) 0 0 (shapeAt p a .fields) (and-right _ _ (stands .block .good))
+    (omega arith) enough fits)
 
 -- ---- a group
 
-module _ (m : List ℕ) (v : ℕ) (s : Shape) (f : ℕ → Result (Values × ℕ)) (at since : ℕ) where
-  group-read : (a : Answer × Values × ℕ) → readGroup m v s f at ≡ done a
-      → (at + 4 ≤ length m) × (a .0 ≡ Group (number16 m (at + 2)))
-  unfolding readGroup readDimension
-  group-read a e =
-      let p = inv-bind _ _ _ e in
-      let q = inv-bind _ _ _ (p .next) in
-      let d = dimension-read m (need v s) at (p .value .0) (p .value .1) (p .first) in (
-        leb-true _ _ (inv-must _ _ _ _ (inv-bind _ _ _ (p .first) .first)),
-        sym (ap (λ (x : Answer × Values × ℕ). x .0) (done-inj (q .next))) ∙ ap Group (d .1),
-      )
+module _ (m : List ℕ) (v : ℕ) where
+  gone : (since : ℕ) (r : Result (Answer × Values × ℕ)) (at : ℕ) (a : Answer × Values × ℕ) → v < since
+      → (if leb since v then r else done (Absent, nil, at)) ≡ done a → a .0 ≡ Absent
+  unfolding if_then_else_
+  gone since r at a l e = sym (ap (λ (d : Answer × Values × ℕ). d .0) (done-inj (rw (lt-leb since v l) at e)))
 
-  module _ (a : Answer × Values × ℕ)
-      (e : (if leb since v then readGroup m v s f at else done (Absent, nil, at)) ≡ done a) where
-    pub group-absent : v < since → found (itself a) ≡ Is Absent
-    unfolding if_then_else_ found
-    group-absent h =
-        let q = done-inj (rw (lt-leb since v h) at e) in
-        ap (λ (x : Answer × Values × ℕ). Is (x .0)) (sym q)
+  here : (since : ℕ) (r : Result (Answer × Values × ℕ)) (at : ℕ) (a : Answer × Values × ℕ) → since ≤ v
+      → (if leb since v then r else done (Absent, nil, at)) ≡ done a → r ≡ done a
+  unfolding if_then_else_
+  here since r at a l e = rw (le-leb since v l) at e
 
-    -- It has a dimension.
-    pub group-present : since ≤ v → (at + 4 ≤ length m) × (found (itself a) ≡ Is (Group (number16 m (at + 2))))
-    unfolding if_then_else_ found
-    group-present h =
-        let p = group-read a (rw (le-leb since v h) at e) in
-        (p .0, ap Is (p .1))
+  -- A group with this since at `at` that was read is `is`.
+  pub record GroupHere (since at : ℕ) (is : Answer) : Type 0 where
+    pub absent : v < since → is ≡ Absent
+    pub fits : since ≤ v → at + 4 ≤ length m
+    pub counts : since ≤ v → is ≡ Group (number16 m (at + 2))
+
+  first-group : (i since : ℕ) (s : Shape) (inner rest : Groups) (n at : ℕ) (r : Values × ℕ)
+      → readGroups m v (more i since s inner rest) n at ≡ done r → GroupHere since at (groupOf 0 (r .0))
+  unfolding readGroups groupOf
+  first-group i since s inner rest n at r h =
+      let a = inv-bind _ _ _ h in
+      let q = inv-bind _ _ _ (a .next) in
+      let is : groupOf 0 (r .0) ≡ a .value .0 = sym (ap (λ (d : Values × ℕ). groupOf 0 (d .0)) (done-inj (q .next))) in
+      record {
+        absent = λ l. is ∙ gone since _ at _ l (a .first);
+        fits = λ l. group-read m v s inner at _ (here since _ at _ l (a .first)) .is .fits;
+        counts = λ l.
+            let g = group-read m v s inner at _ (here since _ at _ l (a .first)) in
+            is ∙ sym (g .itself) ∙ ap Group (g .is .entries);
+      }
+
+-- Group k of the block at a, whose groups were read.
+module _ (p : List ℕ) (depth a : ℕ) (stands : BlockAt p depth a) (m : List ℕ) (v at k : ℕ) (less : k < groupCount p a)
+    (read : Done (rowAt p depth (groupCount p a) (groupsFrom p a) m v at)) where
+  abbrev from : RowFrom m v k (innerAt p depth a) 0 at (read .value)
+  from = row-from m v k (innerAt p depth a) 0 at (read .value) (read .is)
+
+  pub groups-before : Done (rowAt p depth k (groupsFrom p a) m v at)
+  groups-before =
+      record { value = from .first; is = rw (group-halves p depth a k stands less .takes) at (from .passed) }
+
+  pub group-here : (x j : ℕ)
+      → Walked.the-variants.To x j ≡ walked (valuesEnd 0) (rowAt p depth k (groupsFrom p a) m v at)
+      → GroupHere m v (word p (rowAfter p k (groupsFrom p a) + 1)) x
+      (groupRead k (rowAt p depth (groupCount p a) (groupsFrom p a) m v at))
+  unfolding groupRead
+  group-here x j e =
+      let before = rw (group-halves p depth a k stands less .takes) at (from .passed) in
+      let to = inv-to (valuesEnd 0) _ x j e in
+      let end : from .first .1 ≡ x = ap (λ (r : Values × ℕ). r .1) (done-inj (sym before ∙ to .is)) ∙ to .next in
+      rw (read .is, from .group, ← end)
+      (first-group m v _ _ _ _ _ 0 _ _ (rw (group-is p depth a k stands less) at (from .reads)))
 
 -- ---- data
 
--- After k answers comes the first of the others.
-first-after : (k : ℕ) (r q : List Answer) → length r ≡ k → getD (r ++ q) k Absent ≡ getD q 0 Absent
-first-after k r q h =
-    let l : length r + 0 ≡ k = omega (arith, h) in
-    subst (λ (i : ℕ). getD (r ++ q) i Absent ≡ getD q 0 Absent) l (getD-append-add r q 0 Absent)
+-- A data before others.
+pub more-data : (f : Result (Answer × ℕ)) (d : Answer × ℕ) → f ≡ done d → (k : ℕ → Result (List Answer × ℕ))
+    (r : List Answer × ℕ) → k (d .1) ≡ done r → (whole : List Answer × ℕ) → (d .0 ∷ r .0, r .1) ≡ whole
+    → (f >>= λ d. k (d .1) >>= λ q. done (d .0 ∷ q .0, q .1)) ≡ done whole
+unfolding _>>=_
+more-data f d e k r h whole w = rw (e, h, w) refl
 
-module _ (m : List ℕ) (v : ℕ) (b : List ℕ) where
-  -- One of them, if it is present.
-  data-read : (w at : ℕ) (d : Answer × ℕ)
-      → (if leb (word b (w + 1)) v then readData m at else done (Absent, at)) ≡ done d
-      → (d .0 ≡ dataIs b w m v at) × (word b (w + 1) ≤ v → at + 2 ≤ length m)
-  unfolding dataIs if_then_else_ readData
-  data-read w at d = go (leb (word b (w + 1)) v) refl
-    where
-      go : (t : Bool) → leb (word b (w + 1)) v ≡ t → (if t then readData m at else done (Absent, at)) ≡ done d
-          → (d .0 ≡ (if t then Octets (at + 2) (number16 m at) else Absent)) × (word b (w + 1) ≤ v → at + 2 ≤ length m)
-      go true t e =
-          let p = inv-bind _ _ _ e in
-          let q = inv-bind _ _ _ (inv-bind _ _ _ (p .next) .next) in (
-            sym (ap (λ (x : Answer × ℕ). x .0) (done-inj (q .next))),
-            λ _. leb-true _ _ (inv-must _ _ _ _ (p .first)),
-          )
-      go false t e = (
-        sym (ap (λ (x : Answer × ℕ). x .0) (done-inj e)),
-        λ h. absurd (omega (arith, leb-false (word b (w + 1)) v t)),
-      )
+module _ (m : List ℕ) (v : ℕ) (p : List ℕ) where
+  -- Data k of the data at place a that were read.
+  record DataFrom (k a at : ℕ) (r : List Answer × ℕ) : Type 0 where
+    pub first : List Answer × ℕ
+    pub one : Answer × ℕ
+    pub passed : readDatas m v (parseDatas p k a) 0 at ≡ done first
+    pub reads : (if leb (word p (a + 2 * k + 1)) v then readData m (first .1) else done (Absent, first .1)) ≡ done one
+    pub is : getD (r .0) k Absent ≡ one .0
 
-  -- There is an answer for each, and the first is the first data.
-  datas-length : (s n w at : ℕ) (r : List Answer × ℕ) → datasAt m v b s n w at ≡ done r → length (r .0) ≡ n
-  unfolding readDatas parseDatas
-  datas-length s zero w at r e =
-      sym (ap (λ (x : List Answer × ℕ). length (x .0)) (done-inj (inv-bind _ _ _ e .next)))
-  datas-length s (suc n) w at r e =
-      let p = inv-bind _ _ _ e in
-      let q = inv-bind _ _ _ (p .next) in
-      sym (ap (λ (x : List Answer × ℕ). length (x .0)) (done-inj (q .next)))
-      ∙ ap suc (datas-length s n (w + 2) (p .value .1) (q .value) (q .first))
+  none-data : (a at : ℕ) → readDatas m v (parseDatas p 0 a) 0 at ≡ done ([], at)
+  unfolding readDatas parseDatas skipDatas _>>=_
+  none-data a at = refl
 
-  datas-first : (s n w at : ℕ) (r : List Answer × ℕ) → 0 < n → datasAt m v b s n w at ≡ done r
-      → (getD (r .0) 0 Absent ≡ dataIs b w m v at) × (word b (w + 1) ≤ v → at + 2 ≤ length m)
-  unfolding readDatas parseDatas
-  datas-first s zero w at r h e = absurd (omega arith)
-  datas-first s (suc n) w at r h e =
-      let p = inv-bind _ _ _ e in
-      let d = data-read w at (p .value) (p .first) in
-      let q = done-inj (inv-bind _ _ _ (p .next) .next) in
-      (sym (ap (λ (x : List Answer × ℕ). getD (x .0) 0 Absent) q) ∙ d .0, d .1)
+  data-from : (n k a at : ℕ) (r : List Answer × ℕ) → k < n → readDatas m v (parseDatas p n a) 0 at ≡ done r
+      → DataFrom k a at r
+  unfolding readDatas parseDatas getD
+  data-from zero k a at r less h = absurd (omega arith)
+  data-from (suc n) zero a at r less h =
+      let d = inv-bind _ _ _ h in
+      let q = inv-bind _ _ _ (d .next) in
+      let z : a + 2 * 0 + 1 ≡ a + 1 = omega arith in
+      record {
+        first = ([], at);
+        one = d .value;
+        passed = none-data a at;
+        reads = rw z (d .first);
+        is = sym (ap (λ (e : List Answer × ℕ). getD (e .0) 0 Absent) (done-inj (q .next)));
+      }
+  data-from (suc n) (suc k) a at r less h =
+      let d = inv-bind _ _ _ h in
+      let q = inv-bind _ _ _ (d .next) in
+      let on = data-from n k (a + 2) (d .value .1) (q .value) (omega (arith, less)) (q .first) in
+      let z : a + 2 * suc k + 1 ≡ a + 2 + 2 * k + 1 = omega arith in
+      record {
+        first = (d .value .0 ∷ on .first .0, on .first .1);
+        one = on .one;
+        passed = more-data _ _ (d .first) _ _ (on .passed) _ refl;
+        reads = rw z (on .reads);
+        is = sym (ap (λ (e : List Answer × ℕ). getD (e .0) (suc k) Absent) (done-inj (q .next))) ∙ on .is;
+      }
 
-  datas-start : (w at : ℕ) → datasAt m v b 0 0 w at ≡ done ([], at)
-  unfolding skipDatas _>>=_
-  datas-start w at = datas-none m v b 0 0 w at (omega arith)
+  -- A data with this since at `at` that was read is `is`.
+  pub record DataHere (since at : ℕ) (is : Answer) : Type 0 where
+    pub absent : v < since → is ≡ Absent
+    pub fits : since ≤ v → at + 2 ≤ length m
+    pub octets : since ≤ v → is ≡ Octets (at + 2) (number16 m at)
 
-  module _ (s : ℕ) where
-    datas-split : (k n w at : ℕ) → datasAt m v b s (k + n) w at
-        ≡ (datasAt m v b 0 k w at >>= onward _++_ (datasAt m v b s n (w + 2 * k)))
-    datas-split zero n w at =
-        let q : w + 2 * 0 ≡ w = omega arith in
-        rw (zero-add n, q, datas-start w at) (joins-none _++_ [] (λ r. refl) _ ∙ sym (bind-done _ _))
-    datas-split (suc k) n w at =
-        let i : suc k + n - 1 ≡ k + n = omega arith in
-        let j : suc k - 1 ≡ k = omega arith in
-        let q : w + 2 * suc k ≡ w + 2 + 2 * k = omega arith in
-        rw (datas-step m v b s (suc k + n) w at (omega arith), datas-step m v b 0 (suc k) w at (omega arith), i, j, q)
-        (joins-step _++_ (λ (d : Answer × ℕ) (r : List Answer). d .0 ∷ r) (λ d r t. refl) _ _ _
-        (λ d. datas-split k n (w + 2) (d .1)) _)
+  one-data : (since at : ℕ) (d : Answer × ℕ) → (if leb since v then readData m at else done (Absent, at)) ≡ done d
+      → DataHere since at (d .0)
+  unfolding if_then_else_ readData
+  one-data since at d h =
+      record {
+        absent = λ l. sym (ap (λ (e : Answer × ℕ). e .0) (done-inj (rw (lt-leb since v l) at h)));
+        fits = λ l. leb-true (at + 2) (length m)
+            (inv-must _ _ _ _ (inv-bind _ _ _ (rw (le-leb since v l) at h) .first));
+        octets = λ l.
+            let t = inv-bind _ _ _ (rw (le-leb since v l) at h) in
+            sym (ap (λ (e : Answer × ℕ). e .0) (done-inj (inv-bind _ _ _ (inv-bind _ _ _ (t .next) .next) .next)));
+      }
 
-    -- Data k of n, and those before it and from it on.
-    module _ (n k w at : ℕ) (h : k < n) where
-      abbrev asked : Sought
-      asked = sought datasTo (inDatas k) (datasAt m v b s n w at)
+  module _ (n k a at : ℕ) (less : k < n) (read : Done (readDatas m v (parseDatas p n a) 0 at)) where
+    abbrev data-is : DataFrom k a at (read .value)
+    data-is = data-from n k a at (read .value) less (read .is)
 
-      abbrev before : Result (List Answer × ℕ)
-      before = datasAt m v b 0 k w at
+    pub datas-before : Done (readDatas m v (parseDatas p k a) 0 at)
+    datas-before = record { value = data-is .first; is = data-is .passed }
 
-      datas-cut : datasAt m v b s n w at ≡ (before >>= onward _++_ (datasAt m v b s (n - k) (w + 2 * k)))
-      datas-cut =
-          let q : k + (n - k) ≡ n = omega arith in
-          subst (λ (j : ℕ). datasAt m v b s j w at ≡ (before >>= onward _++_ (datasAt m v b s (n - k) (w + 2 * k)))) q
-          (datas-split k (n - k) w at)
+    pub data-here : (x j : ℕ) → Walked.the-variants.To x j ≡ walked (datasEnd 0) (readDatas m v (parseDatas p k a) 0 at)
+        → DataHere (word p (a + 2 * k + 1)) x (dataRead k (readDatas m v (parseDatas p n a) 0 at))
+    unfolding dataRead
+    data-here x j e =
+        let to = inv-to (datasEnd 0) _ x j e in
+        let end : data-is .first .1 ≡ x = ap (λ (r : List Answer × ℕ). r .1) (done-inj (sym (data-is .passed) ∙ to .is))
+        ∙ to .next in
+        rw (read .is, data-is .is, ← end) (one-data _ _ _ (data-is .reads))
 
-      pub datas-before : (z : Refusal) → Walked.Refused z ≡ walked (datasEnd 0) before → asked ≡ Refused z
-      datas-before z e = rw datas-cut (walk-refused _ _ z _ (datasEnd 0) _ e)
+-- The data come after the surplus groups.
+module _ (p : List ℕ) (depth a : ℕ) (m : List ℕ) (v n at : ℕ) where
+  abbrev datasOf : ℕ → Result (List Answer × ℕ)
+  datasOf x = readDatas m v (shapeAt p a .datas) 0 x
 
-      module _ (x j : ℕ) (e : Walked.To x j ≡ walked (datasEnd 0) before) where
-        abbrev rest : Result (List Answer × ℕ)
-        rest = datasAt m v b s (n - k) (w + 2 * k) x
+  pub record DatasAfter : Type 0 where
+    pub row : Done (rowAt p depth (groupCount p a) (groupsFrom p a) m v at)
+    pub rest : Done (skipGroups m n (row .value .1))
+    pub datas : Done (datasOf (rest .value))
+    pub same : datasRead p depth a m v n at ≡ datasOf (rest .value)
 
-        first : Reached (datasEnd 0) before x j
-        first = inv-to (datasEnd 0) before x j e
+  pub datas-after : Done (datasRead p depth a m v n at) → DatasAfter
+  datas-after d =
+      let g = inv-bind (readGroups m v (innerAt p depth a) n at) _ (d .value) (d .is) in
+      let r =
+      inv-bind (readGroups m v (innerAt p depth a) 0 at) _ _
+      (sym (surplus-after m n v (innerAt p depth a) at) ∙ g .first) in
+      let x = inv-bind _ _ _ (r .next) in
+      let end : g .value .1 ≡ x .value = sym (ap (λ (d : Values × ℕ). d .1) (done-inj (x .next))) in
+      record {
+        row = record { value = r .value; is = r .first };
+        rest = record { value = x .value; is = x .first };
+        datas = record { value = d .value; is = ap datasOf (sym end) ∙ g .next };
+        same = d .is ∙ sym (ap datasOf (sym end) ∙ g .next);
+      }
 
-        whole : datasAt m v b s n w at ≡ (rest >>= λ q. done (first .value .0 ++ q .0, q .1))
-        whole = datas-cut ∙ (unfold _>>=_ in rw (first .is, first .next) refl)
+  pub row-to : (d : DatasAfter) (x k : ℕ)
+      → Walked.the-variants.To x k ≡ walked (valuesEnd 0) (rowAt p depth (groupCount p a) (groupsFrom p a) m v at)
+      → x ≡ d .row .value .1
+  row-to d x k e =
+      let to = inv-to (valuesEnd 0) _ x k e in
+      sym (to .next) ∙ ap (λ (r : Values × ℕ). r .1) (done-inj (sym (to .is) ∙ d .row .is))
 
-        pub datas-after : (z : Refusal) → Walked.Refused z ≡ walked (datasEnd 0) rest → asked ≡ Refused z
-        datas-after z g = rw whole (walk-refused _ _ z _ (datasEnd 0) _ g)
+  pub rest-to : (d : DatasAfter) (x k : ℕ)
+      → Walked.the-variants.To x k ≡ walked skipEnd (skipGroups m n (d .row .value .1))
+      → x ≡ d .rest .value
+  rest-to d x k e =
+      let to = inv-to skipEnd _ x k e in
+      sym (to .next) ∙ done-inj (sym (to .is) ∙ d .rest .is)
 
-        module _ (y i : ℕ) (g : Walked.To y i ≡ walked (datasEnd 0) rest) where
-          pub data-inside : word b (w + 2 * k + 1) ≤ v → x + 2 ≤ length m
-          data-inside = datas-first s (n - k) (w + 2 * k) x _ (omega arith) (inv-to (datasEnd 0) rest y i g .is) .1
+-- ---- the elements of an entry that was accepted
 
-          pub datas-found : To y (Is (dataIs b (w + 2 * k) m v x)) ≡ asked
-          unfolding sought _>>=_ found
-          datas-found =
-              let p = inv-to (datasEnd 0) rest y i g in
-              let here = first-after k (first .value .0) (p .value .0) (datas-length 0 k w at _ (first .is)) in
-              let d = datas-first s (n - k) (w + 2 * k) x _ (omega arith) (p .is) .0 in
-              rw (whole, p .is, p .next, here, d) refl
+module _ {p : List ℕ} {depth a : ℕ} {m : List ℕ} {v n l at : ℕ} (ok : Accepted p depth a m v n l at) where
+  abbrev parts : BlockRead m v (shapeAt p a) (readGroups m v (innerAt p depth a) n) 0 l at (ok .reads .value)
+  parts = block-read m v _ _ _ _ _ _ (ok .reads .is)
+
+  pub entry-fits : at + l ≤ length m
+  entry-fits = parts .fits
+
+  pub element-field : (k : ℕ) → k < fieldCount p a
+      → elementRead (Element.Field k) (entryRead p depth a m v n l at)
+      ≡ readField m v at (fieldAt p (fieldsFrom p a + 6 * k))
+  unfolding elementRead elementOf
+  element-field k less =
+      rw (ok .reads .is, ← (parts .fields)) (field-in m v at p (fieldCount p a) k (fieldsFrom p a) less)
+
+  pub entry-row : Done (rowAt p depth (groupCount p a) (groupsFrom p a) m v (at + l))
+  entry-row =
+      let r = inv-bind (readGroups m v (innerAt p depth a) 0 (at + l)) _ _
+      (sym (surplus-after m n v (innerAt p depth a) (at + l)) ∙ parts .groups) in
+      record { value = r .value; is = r .first }
+
+  pub element-group : (k : ℕ) → elementRead (Element.Group k) (entryRead p depth a m v n l at)
+      ≡ groupRead k (rowAt p depth (groupCount p a) (groupsFrom p a) m v (at + l))
+  unfolding elementRead elementOf groupRead
+  element-group k =
+      let r = inv-bind (readGroups m v (innerAt p depth a) 0 (at + l)) _ _
+      (sym (surplus-after m n v (innerAt p depth a) (at + l)) ∙ parts .groups) in
+      let x = inv-bind _ _ _ (r .next) in
+      let same : r .value .0 ≡ parts .row .0 = ap (λ (d : Values × ℕ). d .0) (done-inj (x .next)) in
+      rw (ok .reads .is, r .first) (ap (groupOf k) (sym (parts .same) ∙ sym same))
+
+  pub entry-datas : Done (datasRead p depth a m v n (at + l))
+  unfolding _>>=_
+  entry-datas = record { value = (ok .reads .value .2, ok .reads .value .3); is = rw (parts .groups) (parts .datas) }
+
+  pub element-data : (k : ℕ) → elementRead (Element.Data k) (entryRead p depth a m v n l at)
+      ≡ dataRead k (datasRead p depth a m v n (at + l))
+  unfolding elementRead elementOf dataRead _>>=_
+  element-data k = rw (ok .reads .is, parts .groups, parts .datas) refl
+
+  module _ (x : Element) (has : hasElement x (shapeAt p a) (innerAt p depth a) ≡ true) where
+    less : numberOf x < countOf p a x
+    less = ltb-true (numberOf x) (countOf p a x) (sym (has-element p depth a x (ok .stands)) ∙ has)
+
+    pub field-less : (k : ℕ) → x ≡ Element.Field k → k < fieldCount p a
+    unfolding numberOf countOf
+    field-less k e = rw e at less
+
+    pub group-less : (k : ℕ) → x ≡ Element.Group k → k < groupCount p a
+    unfolding numberOf countOf
+    group-less k e = rw e at less
+
+    pub data-less : (k : ℕ) → x ≡ Element.Data k → k < dataCount p a
+    unfolding numberOf countOf
+    data-less k e = rw e at less

@@ -1,9 +1,7 @@
-pub mod Stages
-pub mod Joins
-pub mod Plain
-pub mod Rows
-pub mod Steps
+pub mod Answers
+pub mod Blocks
 pub mod Elements
-pub mod Along
-pub mod Ring
-pub mod Whole
+pub mod Leads
+pub mod Places
+pub mod Rows
+pub mod Seeks

@@ -1,63 +1,113 @@
--- A row of groups or entries, cut in two: the walk past it, and what stands in it.
-use mathlib.Core.Path.{_∙_, _≡_, refl, subst}
-use mathlib.Core.Bool.{Bool, false}
+-- A row of groups is its first g groups and the others; the entry of a group whose turn comes.
+use mathlib.Core.Path.{_∙_, _≡_, ap, refl, sym}
+use mathlib.Core.Bool.{Bool, false, true}
 use mathlib.Core.List.{List}
-use Prim.Native.Nat.{ℕ, zero, suc, _+_, _-_, _≤_}
-use native.Mathlib.Nat.{zero-add}
+use Prim.Native.Nat.{ℕ, zero, suc, _-_, _≤_, _<_}
 use native.Mathlib.Omega.{arith}
-use lib.ListN.{length}
-use Rattle.layout.specs.Result.{Result, _>>=_, done}
-use Rattle.layout.specs.Book.{Groups, Shape, groupSinces, more, none}
-use Rattle.layout.specs.Message.{Entry, readEntries, readGroups, skipGroups}
-use Rattle.layout.specs.Reading.{groupHas}
-use Rattle.layout.specs.declared.Answer.{Answer}
+use lib.Dec.{eqb, leb}
+use borrow.Author.Tests.{eqb-false, eqb-true, ne-eqb}
+use Rattle.layout.specs.Result.{Result, _>>=_, done, if_then_else_, refused}
+use Rattle.layout.specs.Book.{Groups, more, none}
+use Rattle.layout.specs.Message.{Entry, readEntries, readGroup, readGroups, skipGroups}
 use Rattle.layout.specs.Values.{Values, entriesFrom, entriesOf, entry, group, groupOf, nil}
+use Rattle.layout.specs.declared.Answer.{Answer}
+use Rattle.layout.specs.declared.Answer.the-variants.{Absent}
 use Rattle.layout.proofs.Results.{done-inj, inv-bind}
-use Rattle.templates.specs.Positions.{IsRow, groupCount, groupsAt, groupsEnd, groupsFrom, shapeAt}
-use Rattle.templates.proofs.Open.{no-groups-at, open-row, row-cut}
-use Rattle.blocks.proofs.Laws.{row-end}
-use Rattle.walk.specs.Walks.{innerAt, rowAt}
-use Rattle.walk.proofs.Laws.{entries-step, row-step}
-use Rattle.places.proofs.Joins as joins
+use Rattle.places.specs.Spots.{Spot, dropGroups, entriesSpot, endOfEntry, takeGroups}
 
--- Two rows, one after the other.
-unfoldable pub joined : Values → Values → Values
-joined nil r = r
-joined (entry fs gs ds q) r = entry fs gs ds (joined q r)
-joined (group a es q) r = group a es (joined q r)
+-- ---- groups
 
--- Rows are joined to rows, and nothing is joined by leaving a row as it is.
-abbrev pub onward : (ℕ → Result (Values × ℕ)) → Values × ℕ → Result (Values × ℕ)
-onward = joins.onward joined
+-- The end alone.
+unfoldable pub ended : Result (Values × ℕ) → Result ℕ
+ended (done r) = done (r .1)
+ended (refused n p) = refused n p
 
-same-row : (r : Result (Values × ℕ)) → r ≡ (r >>= λ q. done (joined nil (q .0), q .1))
-unfolding joined
-same-row r = joins.joins-none joined nil (λ q. refl) r
+ended-told : (r : Result (Values × ℕ)) (k : Values → Values) → ended (r >>= λ q. done (k (q .0), q .1)) ≡ ended r
+unfolding ended _>>=_
+ended-told (done q) k = refl
+ended-told (refused n p) k = refl
+
+-- A group and the groups after it.
+abbrev grouped : Answer × Values × ℕ → Values × ℕ → Values × ℕ
+grouped a q = (group (a .0) (a .1) (q .0), q .1)
+
+more-reads : (f : Result (Answer × Values × ℕ)) (a : Answer × Values × ℕ) → f ≡ done a
+    → (k : ℕ → Result (Values × ℕ)) (r : Values × ℕ) → k (a .2) ≡ done r
+    → (f >>= λ a. k (a .2) >>= λ q. done (grouped a q)) ≡ done (grouped a r)
+unfolding _>>=_
+more-reads f a e k r h = rw (e, h) refl
+
+module _ (m : List ℕ) (v : ℕ) where
+  none-reads : (at : ℕ) → readGroups m v none 0 at ≡ done (nil, at)
+  unfolding readGroups skipGroups _>>=_
+  none-reads at = refl
+
+  -- Group g of a row that was read is the first of those from it on.
+  pub record RowFrom (g : ℕ) (gs : Groups) (n at : ℕ) (r : Values × ℕ) : Type 0 where
+    pub first : Values × ℕ
+    pub value : Values
+    pub passed : readGroups m v (takeGroups g gs) 0 at ≡ done first
+    pub reads : readGroups m v (dropGroups g gs) n (first .1) ≡ done (value, r .1)
+    pub entries : entriesOf g (r .0) ≡ entriesOf 0 value
+    pub group : groupOf g (r .0) ≡ groupOf 0 value
+
+  pub row-from : (g : ℕ) (gs : Groups) (n at : ℕ) (r : Values × ℕ) → readGroups m v gs n at ≡ done r
+      → RowFrom g gs n at r
+  unfolding readGroups takeGroups dropGroups entriesOf groupOf
+  row-from zero gs n at r h =
+      record { first = (nil, at); value = r .0; passed = none-reads at; reads = h; entries = refl; group = refl }
+  row-from (suc g) none n at r h =
+      let e = done-inj (inv-bind _ _ _ h .next) in
+      record {
+        first = (nil, at);
+        value = r .0;
+        passed = none-reads at;
+        reads = h;
+        entries = rw (← e) refl;
+        group = rw (← e) refl;
+      }
+  row-from (suc g) (more i since s inner rest) n at r h =
+      let a = inv-bind _ _ _ h in
+      let q = inv-bind _ _ _ (a .next) in
+      let gv = ap (λ (d : Values × ℕ). d .0) (done-inj (q .next)) in
+      let end = ap (λ (d : Values × ℕ). d .1) (done-inj (q .next)) in
+      let on = row-from g rest n (a .value .2) (q .value) (q .first) in
+      record {
+        first = grouped (a .value) (on .first);
+        value = on .value;
+        passed = more-reads _ _ (a .first) _ _ (on .passed);
+        reads = on .reads ∙ ap (λ y. done (on .value, y)) end;
+        entries = ap (entriesOf (suc g)) (sym gv) ∙ on .entries;
+        group = ap (groupOf (suc g)) (sym gv) ∙ on .group;
+      }
+
+  -- The others start where the first g end.
+  pub row-cut : (g : ℕ) (gs : Groups) (n at : ℕ) → ended (readGroups m v gs n at)
+      ≡ (ended (readGroups m v (takeGroups g gs) 0 at) >>= λ x. ended (readGroups m v (dropGroups g gs) n x))
+  unfolding readGroups skipGroups takeGroups dropGroups ended _>>=_
+  row-cut zero gs n at = refl
+  row-cut (suc g) none n at = refl
+  row-cut (suc g) (more i since s inner rest) n at =
+      go (if leb since v then readGroup m v s (readGroups m v inner 0) at else done (Absent, nil, at))
+      (λ x. row-cut g rest n x)
+    where
+      go : (f : Result (Answer × Values × ℕ))
+          → ((x : ℕ) → ended (readGroups m v rest n x) ≡ (ended (readGroups m v (takeGroups g rest) 0 x)
+          >>= λ x. ended (readGroups m v (dropGroups g rest) n x)))
+          → ended (f >>= λ a. readGroups m v rest n (a .2) >>= λ q. done (grouped a q))
+          ≡ (ended (f >>= λ a. readGroups m v (takeGroups g rest) 0 (a .2) >>= λ q. done (grouped a q))
+          >>= λ x. ended (readGroups m v (dropGroups g rest) n x))
+      go (done a) on =
+          rw (
+            ended-told (readGroups m v rest n (a .2)) (group (a .0) (a .1)),
+            ended-told (readGroups m v (takeGroups g rest) 0 (a .2)) (group (a .0) (a .1)),
+          )
+          (on (a .2))
+      go (refused k p) on = refl
 
 -- ---- entries
 
 module _ (f : ℕ → Result Entry) where
-  pub entries-split : (e k at : ℕ) → readEntries (e + k) f at ≡ (readEntries e f at >>= onward (readEntries k f))
-  entries-split zero k at = rw zero-add (same-row (readEntries k f at) ∙ (unfold readEntries _>>=_ in refl))
-  entries-split (suc e) k at =
-      let n : suc e + k - 1 ≡ e + k = omega arith in
-      let j : suc e - 1 ≡ e = omega arith in
-      rw (entries-step f (suc e + k) at (omega arith), entries-step f (suc e) at (omega arith), n, j)
-      (joins.joins-step joined (λ (x : Entry) (r : Values). entry (x .0) (x .1) (x .2) r)
-      (λ x r q. unfold joined in refl) (readEntries k f)
-      (λ (x : Entry). readEntries (e + k) f (x .3)) (λ (x : Entry). readEntries e f (x .3))
-      (λ x. entries-split e k (x .3)) (f at))
-
-  -- What was read first is passed.
-  pub entries-passed : (e at : ℕ) (r : Values × ℕ) → readEntries e f at ≡ done r → (q : Values)
-      → entriesFrom e (joined (r .0) q) ≡ q
-  unfolding readEntries joined entriesFrom
-  entries-passed zero at r h q = rw (← (done-inj h)) refl
-  entries-passed (suc e) at r h q =
-      let p = inv-bind _ _ _ h in
-      let k = inv-bind _ _ _ (p .next) in
-      rw (← (done-inj (k .next))) (entries-passed e _ (k .value) (k .first) q)
-
   -- Past the last there are none.
   pub entries-few : (k e at : ℕ) (r : Values × ℕ) → readEntries k f at ≡ done r → k ≤ e → entriesFrom e (r .0) ≡ nil
   unfolding readEntries entriesFrom
@@ -69,76 +119,65 @@ module _ (f : ℕ → Result Entry) where
       let q = inv-bind _ _ _ (p .next) in
       rw (← (done-inj (q .next))) (entries-few k e _ (q .value) (q .first) (omega (arith, less)))
 
--- ---- groups
+  module _ (inside : ℕ → Spot) (turn : ℕ) where
+    -- No entry's turn comes.
+    pub spots-past : (z : Spot) (n at : ℕ) → ((i : ℕ) → i < n → suc i ≡ turn → ⊥)
+        → entriesSpot f inside turn z n at ≡ z
+    unfolding entriesSpot if_then_else_
+    spots-past z zero at h = refl
+    spots-past z (suc n) at h =
+        rw (ne-eqb (suc n) turn (h n (omega arith))) (spots-past z n _ λ i l. h i (omega (arith, l)))
 
--- The word after the group at word w.
-abbrev rest : List ℕ → ℕ → ℕ → ℕ
-rest b depth w = groupsEnd b (depth - 1) (groupCount b (w + 2)) (groupsFrom b (w + 2))
+    -- The entry whose turn it is.
+    pub record Turn (z : Spot) (n at : ℕ) (es : Values) : Type 0 where
+      pub start : ℕ
+      pub value : Entry
+      pub rest : Values
+      pub reads : f start ≡ done value
+      pub spot : entriesSpot f inside turn z n at ≡ inside start
+      pub from : entriesFrom (n - turn) es ≡ entry (value .0) (value .1) (value .2) rest
+      pub after : at ≤ start
 
-shorter : (b : List ℕ) (depth i k w : ℕ) → i ≡ k → IsRow b depth i w → IsRow b depth k w
-shorter b depth i k w e row = subst (λ (z : ℕ). IsRow b depth z w) e row
+    turn-next : ((x : ℕ) (e : Entry) → f x ≡ done e → x ≤ e .3) → (z : Spot) (n at : ℕ) (e : Entry) (r : Values)
+        → f at ≡ done e → turn ≤ suc n → (turn ≤ n → Turn z n (e .3) r) → (es : Values)
+        → es ≡ entry (e .0) (e .1) (e .2) r → Turn z (suc n) at es
+    unfolding entriesSpot entriesFrom endOfEntry if_then_else_
+    turn-next on z n at e r reads few next es whole = go (eqb (suc n) turn) refl
+      where
+        go : (t : Bool) → eqb (suc n) turn ≡ t → Turn z (suc n) at es
+        go true is =
+            let same = eqb-true (suc n) turn is in
+            let last : suc n - turn ≡ 0 = omega (arith, same) in
+            record {
+              start = at;
+              value = e;
+              rest = r;
+              reads = reads;
+              spot = rw is (spots-past (inside at) n _ λ i l k. omega (arith, l, k, same));
+              from = rw (whole, last) refl;
+              after = omega arith;
+            }
+        go false is =
+            let less : turn ≤ n = omega (arith, few, eqb-false (suc n) turn is) in
+            let there = next less in
+            let later : suc n - turn ≡ suc (n - turn) = omega arith in
+            record {
+              start = there .start;
+              value = there .value;
+              rest = there .rest;
+              reads = there .reads;
+              spot = rw (is, reads) (there .spot);
+              from = rw (whole, later) (there .from);
+              after = omega (arith, there .after, on _ _ reads);
+            }
 
-module _ (m : List ℕ) (v : ℕ) (b : List ℕ) (depth s : ℕ) where
-  none-split : (k w at : ℕ) → rowAt b depth k w m v s at
-      ≡ (rowAt b depth 0 w m v 0 at >>= onward (rowAt b depth k (groupsEnd b depth 0 w) m v s))
-  unfolding readGroups skipGroups _>>=_
-  none-split k w at = rw (no-groups-at b depth 0 w (omega arith), row-end b depth 0 w (omega arith)) (same-row _)
-
-  pub row-split : (g k w at : ℕ) → IsRow b depth (g + k) w
-      → rowAt b depth (g + k) w m v s at
-      ≡ (rowAt b depth g w m v 0 at >>= onward (rowAt b depth k (groupsEnd b depth g w) m v s))
-  row-split zero k w at row = rw zero-add (none-split k w at)
-  row-split (suc g) k w at row =
-      let n : suc g + k - 1 ≡ g + k = omega arith in
-      let j : suc g - 1 ≡ g = omega arith in
-      let whole = open-row b depth (suc g + k) w (omega arith) row in
-      let first = open-row b depth (suc g) w (omega arith) (row-cut b depth (suc g) k w row .0) in
-      rw (
-        row-step m v b depth s 0 (suc g + k) w at whole,
-        row-step m v b depth 0 0 (suc g) w at first,
-        n,
-        j,
-        rw j at (first .end),
-      )
-      (joins.joins-step joined (λ (x : Answer × Values × ℕ) (r : Values). group (x .0) (x .1) r)
-      (λ x r q. unfold joined in refl)
-      (rowAt b depth k (groupsEnd b depth g (rest b depth w)) m v s) _ _
-      (λ x. row-split g k (rest b depth w) (x .2) (shorter b depth _ _ _ n (whole .rest))) _)
-
--- The row that was read first is passed.
-pub row-passed : (m : List ℕ) (v : ℕ) (gs : Groups) (at : ℕ) (r : Values × ℕ) → readGroups m v gs 0 at ≡ done r
-    → (q : Values)
-    → let g = length (groupSinces gs) in
-    (groupOf g (joined (r .0) q) ≡ groupOf 0 q) × (entriesOf g (joined (r .0) q) ≡ entriesOf 0 q)
-unfolding readGroups groupSinces joined groupOf entriesOf
-row-passed m v none at r h q =
-    let p = inv-bind _ _ _ h in
-    rw (← (done-inj (p .next))) (refl, refl)
-row-passed m v (more i since s inner rest) at r h q =
-    let p = inv-bind _ _ _ h in
-    let k = inv-bind _ _ _ (p .next) in
-    rw (← (done-inj (k .next))) (row-passed m v rest _ (k .value) (k .first) q)
-
--- ---- whether the book has a group
-
--- Group g of a row is the first of what is left after g groups.
-pub has-group : (b : List ℕ) (depth g k w : ℕ) (has : Shape → Groups → Bool) → IsRow b depth (g + suc k) w
-    → let x = groupsEnd b depth g w in
-    groupHas (groupsAt b depth (g + suc k) w) g has ≡ has (shapeAt b (x + 2)) (innerAt b (depth - 1) (x + 2))
-unfolding groupHas
-has-group b depth zero k w has row =
-    rw (open-row b depth (0 + suc k) w (omega arith) row .tree, row-end b depth 0 w (omega arith)) refl
-has-group b depth (suc g) k w has row =
-    let n : suc g + suc k - 1 ≡ g + suc k = omega arith in
-    let j : suc g - 1 ≡ g = omega arith in
-    let whole = open-row b depth (suc g + suc k) w (omega arith) row in
-    let first = open-row b depth (suc g) w (omega arith) (row-cut b depth (suc g) (suc k) w row .0) in
-    rw (whole .tree, n, rw j at (first .end))
-    (has-group b depth g k (rest b depth w) has (shorter b depth _ _ _ n (whole .rest)))
-
-pub has-none : (gs : Groups) (g : ℕ) (has : Shape → Groups → Bool) → length (groupSinces gs) ≤ g
-    → groupHas gs g has ≡ false
-unfolding groupHas groupSinces
-has-none none g has few = refl
-has-none (more i since s inner rest) zero has few = absurd (omega (arith, few))
-has-none (more i since s inner rest) (suc g) has few = has-none rest g has (omega (arith, few))
+    pub spots-turn : ((x : ℕ) (e : Entry) → f x ≡ done e → x ≤ e .3) → (z : Spot) (n at : ℕ) (r : Values × ℕ)
+        → readEntries n f at ≡ done r → 0 < turn → turn ≤ n → Turn z n at (r .0)
+    unfolding readEntries
+    spots-turn on z zero at r h some few = absurd (omega arith)
+    spots-turn on z (suc n) at r h some few =
+        let p = inv-bind (f at) _ _ h in
+        let q = inv-bind _ _ _ (p .next) in
+        turn-next on z n at (p .value) (q .value .0) (p .first) few
+        (λ less. spots-turn on z n (p .value .3) (q .value) (q .first) some less) (r .0)
+        (sym (ap (λ (d : Values × ℕ). d .0) (done-inj (q .next))))

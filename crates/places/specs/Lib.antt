@@ -1,1 +1,3 @@
-pub mod Asks
+pub mod Elements
+pub mod Seeks
+pub mod Spots

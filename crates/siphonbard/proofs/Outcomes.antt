@@ -1,7 +1,7 @@
 -- No two outcomes satisfy the contract of an export: its reply, and what it leaves in a room that it was lent, follow
 -- from what it was called with. The contracts are those of src/lib.rt themselves: `ended` is an export's signature, and
 -- `Post` what its `ensures` says of the arguments, the reply and the arguments at the return. A stream's `requires` is
--- not needed, and its law is that of the same call for any octets.
+-- not needed.
 use mathlib.Core.Path.{_≡_, _∙_, ap, refl, sym}
 use contract.Lifetimes.{Lfts}
 use denote.Triple.Clauses.{AtExit, Ended, Lasts, atExit}
@@ -10,6 +10,7 @@ use Rattle.siphonbard.proofs.siphonbard_check as check
 use Rattle.siphonbard.proofs.siphonbard_check_book as check-book
 use Rattle.siphonbard.proofs.siphonbard_list as list
 use Rattle.siphonbard.proofs.siphonbard_place as place
+use Rattle.siphonbard.proofs.siphonbard_prepare as prepare
 use Rattle.siphonbard.proofs.siphonbard_stream_check as stream-check
 use Rattle.siphonbard.proofs.siphonbard_stream_list as stream-list
 use Rattle.siphonbard.proofs.siphonbard_stream_place as stream-place
@@ -33,6 +34,10 @@ module _ (f : Ended)
 pub siphonbard-check-book-has-one-outcome : OneOutcome check-book.ended check-book.Reads.Post
 siphonbard-check-book-has-one-outcome κs args r r′ left left′ c c′ = (c ∙ sym c′, refl)
 
+pub siphonbard-prepare-has-one-outcome : OneOutcome prepare.ended prepare.Reads.Post
+siphonbard-prepare-has-one-outcome κs args r r′ left left′ c c′ =
+    (c .reply ∙ sym (c′ .reply), ap (λ room. (tt, (room, tt))) (c .room ∙ sym (c′ .room)))
+
 pub siphonbard-check-has-one-outcome : OneOutcome check.ended check.Reads.Post
 siphonbard-check-has-one-outcome κs args r r′ left left′ c c′ = (c ∙ sym c′, refl)
 
@@ -50,13 +55,15 @@ siphonbard-write-has-one-outcome κs args r r′ left left′ c c′ =
 -- ---- streams
 
 pub siphonbard-stream-check-has-one-outcome : OneOutcome stream-check.ended stream-check.Reads.Post
-siphonbard-stream-check-has-one-outcome = siphonbard-check-has-one-outcome
+siphonbard-stream-check-has-one-outcome κs args r r′ left left′ c c′ = (c ∙ sym c′, refl)
 
 pub siphonbard-stream-list-has-one-outcome : OneOutcome stream-list.ended stream-list.Reads.Post
-siphonbard-stream-list-has-one-outcome = siphonbard-list-has-one-outcome
+siphonbard-stream-list-has-one-outcome κs args r r′ left left′ c c′ =
+    (c .reply ∙ sym (c′ .reply), ap (λ room. (tt, (tt, (room, tt)))) (c .room ∙ sym (c′ .room)))
 
 pub siphonbard-stream-place-has-one-outcome : OneOutcome stream-place.ended stream-place.Reads.Post
-siphonbard-stream-place-has-one-outcome = siphonbard-place-has-one-outcome
+siphonbard-stream-place-has-one-outcome κs args r r′ left left′ c c′ = (c ∙ sym c′, refl)
 
 pub siphonbard-stream-write-has-one-outcome : OneOutcome stream-write.ended stream-write.Reads.Post
-siphonbard-stream-write-has-one-outcome = siphonbard-write-has-one-outcome
+siphonbard-stream-write-has-one-outcome κs args r r′ left left′ c c′ =
+    (c .reply ∙ sym (c′ .reply), ap (λ room. (tt, (tt, (tt, (tt, (room, tt)))))) (c .room ∙ sym (c′ .room)))

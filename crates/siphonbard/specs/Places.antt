@@ -3,7 +3,9 @@ use mathlib.Core.Path.{_≡_}
 use mathlib.Core.List.{List}
 use Prim.Native.Nat.{ℕ, zero, suc}
 use Rattle.layout.specs.Result.{Result, refused, _>>=_}
-use Rattle.layout.specs.Reading.{checkOf, placeOf}
+use Rattle.layout.specs.Book.{Book}
+use Rattle.layout.specs.BookRules.{bookOf}
+use Rattle.layout.specs.Reading.{checkIn, placeIn}
 use Rattle.layout.specs.Values.{Step}
 use Rattle.layout.specs.Contracts.{checked, found}
 use Rattle.layout.specs.declared.Checked.{Checked}
@@ -24,9 +26,13 @@ askedFor (suc (suc (suc n))) k = Nothing
 abbrev pub noPlace : Result (Unit {0}) → Result Answer
 noPlace check = check >>= λ _. refused 30 0
 
+-- By the book's tree, and by its octets.
+unfoldable pub placeAskedIn : Book → List ℕ → List Step → Asked → Result Answer
+placeAskedIn b m p (For x) = placeIn b m p x
+placeAskedIn b m p Nothing = noPlace (checkIn b m)
+
 unfoldable pub placeAsked : List ℕ → List ℕ → List Step → Asked → Result Answer
-placeAsked book m p (For x) = placeOf book m p x
-placeAsked book m p Nothing = noPlace (checkOf book m)
+placeAsked book m p asked = bookOf book >>= λ b. placeAskedIn b m p asked
 
 -- The answer of no place for the answer of a check, whichever check that was.
 abbrev pub SaysNoPlace : Checked → Found → Type 0

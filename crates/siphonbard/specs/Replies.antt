@@ -4,9 +4,7 @@ use mathlib.Core.List.{List}
 use Prim.Native.Nat.{ℕ}
 use lib.ListN.{getD, length}
 use Rattle.layout.specs.Result.{Result, done, _>>=_}
-use Rattle.layout.specs.Reading.{listOf}
 use Rattle.layout.specs.Values.{recordOf}
-use Rattle.layout.specs.Writing.{writeOf}
 use Rattle.layout.specs.Contracts.{checked, counted, found, roomAfter}
 use Rattle.layout.specs.declared.Answer.{Answer}
 use Rattle.layout.specs.declared.Checked as Checked
@@ -51,13 +49,15 @@ replyCounted r = sayCounted (counted r)
 abbrev pub replyFound : Result Answer → FoundReply
 replyFound r = sayFound (found r)
 
--- A listing into a room that is `before` at the call and `after` at the return.
-pub record RepliesList (book m before : List ℕ) (r : CountedReply) (after : List ℕ) : Type 0 where
-  pub reply : r ≡ replyCounted (listOf book m (length before) >>= λ l. done (l .0))
-  pub room : after ≡ roomAfter (listOf book m (length before) >>= λ l. done (l .1)) before
-
--- A message written for the template `id` from a listing and a pool.
-pub record RepliesWrite (book : List ℕ) (id : ℕ) (l pool before : List ℕ) (r : CountedReply)
+-- A listing into a room that is `before` at the call and `after` at the return: `list` gives the number of records and
+-- the records, by the size of the room.
+pub record RepliesList (list : ℕ → Result (ℕ × List ℕ)) (before : List ℕ) (r : CountedReply)
     (after : List ℕ) : Type 0 where
-  pub reply : r ≡ replyCounted (writeOf book id l pool (length before) >>= λ m. done (length m))
-  pub room : after ≡ roomAfter (writeOf book id l pool (length before)) before
+  pub reply : r ≡ replyCounted (list (length before) >>= λ l. done (l .0))
+  pub room : after ≡ roomAfter (list (length before) >>= λ l. done (l .1)) before
+
+-- What is written into a room, by its size: a message, or a prepared book.
+pub record RepliesWrite (write : ℕ → Result (List ℕ)) (before : List ℕ) (r : CountedReply)
+    (after : List ℕ) : Type 0 where
+  pub reply : r ≡ replyCounted (write (length before) >>= λ l. done (length l))
+  pub room : after ≡ roomAfter (write (length before)) before

@@ -8,14 +8,19 @@ use layout::Refusal;
 ghost use mathlib.Core.Path.{_≡_};
 ghost use Rattle.layout.specs.BookRules.{bookOf};
 ghost use Rattle.layout.specs.Contracts.{stepsOf};
-ghost use Rattle.layout.specs.Reading.{checkOf};
-ghost use Rattle.templates.specs.Lookup.{IsBook};
+ghost use Rattle.layout.specs.Reading.{checkIn, checkOf, listIn, listOf};
+ghost use Rattle.layout.specs.Writing.{writeIn, writeOf};
+ghost use Rattle.prepare.specs.Prepares.{preparing};
+ghost use Rattle.prepared.specs.Books.{IsPrepared, bookAt};
 ghost use Rattle.siphonbard.specs.Replies.{sayChecked, sayCounted, sayFound};
 ghost use Rattle.siphonbard.specs.Replies.{replyChecked, replyCounted, replyFound, RepliesList, RepliesWrite};
-ghost use Rattle.siphonbard.specs.Places.{askedFor, placeAsked, SaysNoPlace};
+ghost use Rattle.siphonbard.specs.Places.{askedFor, placeAsked, placeAskedIn, SaysNoPlace};
 
 // The number of a reply that refuses nothing.
 const ACCEPTED: u64 = 0;
+
+// As many numbers as the prepared form of any book has at most.
+const MOST: usize = 8259;
 
 #[repr(C)]
 pub struct CheckedReply {
@@ -140,20 +145,37 @@ pub extern "C" fn siphonbard_check_book(book: &[u8]) -> CheckedReply
     say_checked(book::check(book))
 }
 
+// Prepares a book for the streams below: the number of numbers, which are stored from the room's start.
+#[no_mangle]
+pub extern "C" fn siphonbard_prepare(book: &[u8], room: &mut [u64]) -> CountedReply
+    ensures { λ r. ⌜ RepliesWrite (preparing (now (book .entry))) (now (room .entry)) r (now (room .exit)) ⌝ }
+{
+    say_counted(prepare::prepare_octets(book, room))
+}
+
 // Checks a message.
 #[no_mangle]
 pub extern "C" fn siphonbard_check(book: &[u8], m: &[u8]) -> CheckedReply
     ensures { λ r. ⌜ r ≡ replyChecked (checkOf (now (book .entry)) (now (m .entry))) ⌝ }
 {
-    say_checked(reader::check(book, m))
+    let mut numbers = [0u64; MOST];
+    match prepare::prepare_octets(book, &mut numbers) {
+        Counted::Refused(refusal) => say_checked(Checked::Refused(refusal)),
+        Counted::Count(n) => siphonbard_stream_check(&numbers[..n], m),
+    }
 }
 
 // Lists a message: the number of records, which are stored from the room's start.
 #[no_mangle]
 pub extern "C" fn siphonbard_list(book: &[u8], m: &[u8], room: &mut [u64]) -> CountedReply
-    ensures { λ r. ⌜ RepliesList (now (book .entry)) (now (m .entry)) (now (room .entry)) r (now (room .exit)) ⌝ }
+    ensures { λ r. ⌜ RepliesList (listOf (now (book .entry)) (now (m .entry))) (now (room .entry)) r
+        (now (room .exit)) ⌝ }
 {
-    say_counted(reader::list(book, m, room))
+    let mut numbers = [0u64; MOST];
+    match prepare::prepare_octets(book, &mut numbers) {
+        Counted::Refused(refusal) => say_counted(Counted::Refused(refusal)),
+        Counted::Count(n) => siphonbard_stream_list(&numbers[..n], m, room),
+    }
 }
 
 // The answer for one place of a message. The steps hold a group's number and an entry's, by turns; the kind is 0 for a
@@ -169,10 +191,11 @@ pub extern "C" fn siphonbard_place(
     ensures { λ r. ⌜ r ≡ replyFound (placeAsked (now (book .entry)) (now (m .entry)) (stepsOf (now (steps .entry)))
         (askedFor kind element)) ⌝ }
 {
-    let Asked::For(x) = ask_for(kind, element) else {
-        return say_found(no_place(reader::check(book, m)));
-    };
-    say_found(reader::place(book, m, steps, x))
+    let mut numbers = [0u64; MOST];
+    match prepare::prepare_octets(book, &mut numbers) {
+        Counted::Refused(refusal) => say_found(Found::Refused(refusal)),
+        Counted::Count(n) => siphonbard_stream_place(&numbers[..n], m, steps, kind, element),
+    }
 }
 
 // Writes the message that a listing gives for a template, its starts referring to the pool: the number of octets, which
@@ -185,65 +208,70 @@ pub extern "C" fn siphonbard_write(
     pool: &[u8],
     room: &mut [u8],
 ) -> CountedReply
-    ensures { λ r. ⌜ RepliesWrite (now (book .entry)) template (now (listing .entry)) (now (pool .entry)) (now
-        (room .entry)) r (now (room .exit)) ⌝ }
+    ensures { λ r. ⌜ RepliesWrite (writeOf (now (book .entry)) template (now (listing .entry)) (now (pool .entry)))
+        (now (room .entry)) r (now (room .exit)) ⌝ }
 {
-    say_counted(reader::write(book, template as usize, listing, pool, room))
+    let mut numbers = [0u64; MOST];
+    match prepare::prepare_octets(book, &mut numbers) {
+        Counted::Refused(refusal) => say_counted(Counted::Refused(refusal)),
+        Counted::Count(n) => siphonbard_stream_write(&numbers[..n], template, listing, pool, room),
+    }
 }
 
-// ---- streams: a book that siphonbard_check_book accepted and that has not been altered since. The checker holds a
-// caller in Rattle to the `requires`; in another language it is the caller's duty.
+// ---- streams: the numbers that siphonbard_prepare counted, not altered since. The checker holds a caller in Rattle to
+// the `requires`; in another language it is the caller's duty.
 
 // Checks a message.
 #[no_mangle]
-pub extern "C" fn siphonbard_stream_check(book: &[u8], m: &[u8]) -> CheckedReply
-    requires { ⌜ IsBook (now book) ⌝ }
-    ensures { λ r. ⌜ r ≡ replyChecked (checkOf (now (book .entry)) (now (m .entry))) ⌝ }
+pub extern "C" fn siphonbard_stream_check(p: &[u64], m: &[u8]) -> CheckedReply
+    requires { ⌜ IsPrepared (now p) ⌝ }
+    ensures { λ r. ⌜ r ≡ replyChecked (checkIn (bookAt (now (p .entry))) (now (m .entry))) ⌝ }
 {
-    say_checked(stream::check(book, m))
+    say_checked(stream::check(p, m))
 }
 
 // Lists a message: the number of records, which are stored from the room's start.
 #[no_mangle]
-pub extern "C" fn siphonbard_stream_list(book: &[u8], m: &[u8], room: &mut [u64]) -> CountedReply
-    requires { ⌜ IsBook (now book) ⌝ }
-    ensures { λ r. ⌜ RepliesList (now (book .entry)) (now (m .entry)) (now (room .entry)) r (now (room .exit)) ⌝ }
+pub extern "C" fn siphonbard_stream_list(p: &[u64], m: &[u8], room: &mut [u64]) -> CountedReply
+    requires { ⌜ IsPrepared (now p) ⌝ }
+    ensures { λ r. ⌜ RepliesList (listIn (bookAt (now (p .entry))) (now (m .entry))) (now (room .entry)) r
+        (now (room .exit)) ⌝ }
 {
-    say_counted(stream::list(book, m, room))
+    say_counted(stream::list(p, m, room))
 }
 
 // The answer for one place of a message, asked as above.
 #[no_mangle]
 pub extern "C" fn siphonbard_stream_place(
-    book: &[u8],
+    p: &[u64],
     m: &[u8],
     steps: &[u64],
     kind: u64,
     element: u64,
 ) -> FoundReply
-    requires { ⌜ IsBook (now book) ⌝ }
-    ensures { λ r. ⌜ r ≡ replyFound (placeAsked (now (book .entry)) (now (m .entry)) (stepsOf (now (steps .entry)))
-        (askedFor kind element)) ⌝ }
+    requires { ⌜ IsPrepared (now p) ⌝ }
+    ensures { λ r. ⌜ r ≡ replyFound (placeAskedIn (bookAt (now (p .entry))) (now (m .entry)) (stepsOf (now
+        (steps .entry))) (askedFor kind element)) ⌝ }
 {
     let Asked::For(x) = ask_for(kind, element) else {
-        return say_found(no_place(stream::check(book, m)));
+        return say_found(no_place(stream::check(p, m)));
     };
-    say_found(stream::place(book, m, steps, x))
+    say_found(stream::place(p, m, steps, x))
 }
 
 // Writes the message that a listing gives for a template, its starts referring to the pool: the number of octets, which
 // are stored from the room's start.
 #[no_mangle]
 pub extern "C" fn siphonbard_stream_write(
-    book: &[u8],
+    p: &[u64],
     template: u64,
     listing: &[u64],
     pool: &[u8],
     room: &mut [u8],
 ) -> CountedReply
-    requires { ⌜ IsBook (now book) ⌝ }
-    ensures { λ r. ⌜ RepliesWrite (now (book .entry)) template (now (listing .entry)) (now (pool .entry)) (now
-        (room .entry)) r (now (room .exit)) ⌝ }
+    requires { ⌜ IsPrepared (now p) ⌝ }
+    ensures { λ r. ⌜ RepliesWrite (writeIn (bookAt (now (p .entry))) template (now (listing .entry)) (now
+        (pool .entry))) (now (room .entry)) r (now (room .exit)) ⌝ }
 {
-    say_counted(stream::write(book, template as usize, listing, pool, room))
+    say_counted(stream::write(p, template as usize, listing, pool, room))
 }

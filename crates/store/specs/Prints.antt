@@ -31,9 +31,12 @@ unfoldable pub numbersOf : Printed → List ℕ
 numbersOf (got a xs) = xs
 numbersOf not = []
 
+abbrev pub Accepted : Printed → Type 0
+Accepted x = x ≡ got (endOf x) (numbersOf x)
+
 -- It was accepted, and from n on there is room for its numbers among k.
 pub record Room (x : Printed) (n k : ℕ) : Type 0 where
-  pub whole : x ≡ got (endOf x) (numbersOf x)
+  pub whole : Accepted x
   pub fits : n + length (numbersOf x) ≤ k
 
 -- Its numbers were stored from n on in the room d, which is now e; the pass stands at `at`, and the room is taken up to

@@ -1,21 +1,19 @@
 // Stores the listing of a message that was walked before: it is accepted and the room has space, so nothing is refused.
+// Each function but `store_entries` has one caller.
 use layout::Answer;
-use walk::OnWire;
+use prepared::number;
 use wire::Walked;
 ghost use mathlib.Core.Path.{_≡_};
-ghost use mathlib.Core.Bool.{true};
-ghost use Prim.Native.Nat.{_+_, _≤_};
+ghost use Prim.Native.Nat.{_+_, _*_, _≤_};
 ghost use lib.ListN.{length};
 ghost use Rattle.layout.specs.Result.{Each};
-ghost use Rattle.layout.specs.Octets.{wordsOf};
 ghost use Rattle.layout.specs.Book.{need};
-ghost use Rattle.layout.specs.BookRules.{shapeGood};
-ghost use Rattle.templates.specs.Positions.{IsBlock, Plain, shapeAt};
+ghost use Rattle.layout.specs.BookRules.{parseDatas};
+ghost use Rattle.prepared.specs.Positions.{BlockAt, IsBlock, IsRow, groupsAt, innerAt, shapeAt};
 ghost use Rattle.fields.specs.Readable.{Fits};
-ghost use Rattle.store.specs.Prints.{Room, Stored};
-ghost use Rattle.walk.specs.Walks.{GoodBlock, GoodRow};
-ghost use Rattle.store.specs.Stores.{fieldsPrint, dataPrint, datasPrint, blockPrint};
-ghost use Rattle.store.specs.Stores.{entriesPrint, groupPrint, rowPrint, pastOf};
+ghost use Rattle.walk.specs.Walks.{Lent};
+ghost use Rattle.store.specs.Prints.{Accepted, Room, Stored, endOf};
+ghost use Rattle.store.specs.Stores.{datasPrint, entriesPrint, fieldsPrint, groupsPrint, surplusPrint};
 
 // Where the pass stands in the message and in the room.
 pub struct Cursor {
@@ -23,26 +21,26 @@ pub struct Cursor {
     pub n: usize,
 }
 
-// The fields of the block at word w, which starts at `at`: the room is taken up to the number that comes back.
+// The fields of the block at a, which starts at `at`: the room is taken up to the number that comes back.
 fn store_fields(
-    body: &[u8],
-    w: usize,
+    p: &[u64],
+    a: usize,
     m: &[u8],
     v: usize,
     at: usize,
     room: &mut [u64],
     from: usize,
 ) -> usize
-    requires { ⌜ IsBlock (wordsOf (now body)) w × Each (Fits (now m) v at) (shapeAt (wordsOf (now body)) w .fields) ⌝ }
-    requires { ⌜ Room (fieldsPrint (wordsOf (now body)) w (now m) v at) from (length (now room)) ⌝ }
-    ensures { λ r. ⌜ Stored (fieldsPrint (wordsOf (now (body .entry))) w (now (m .entry)) v at) from (now
+    requires { ⌜ IsBlock (now p) a × Each (Fits (now m) v at) (shapeAt (now p) a .fields) ⌝ }
+    requires { ⌜ Room (fieldsPrint (now m) v (shapeAt (now p) a .fields) at) from (length (now room)) ⌝ }
+    ensures { λ r. ⌜ Stored (fieldsPrint (now (m .entry)) v (shapeAt (now (p .entry)) a .fields) at) from (now
         (room .entry)) at r (now (room .exit)) ⌝ }
 {
-    let mut left = book::word(body, w + 1);
-    let mut f = w + 4;
+    let mut left = number(p, a + 3);
+    let mut f = a + 12;
     let mut n = from;
     while 0 < left {
-        records::put(room, n, fields::read_field(body, f, m, v, at));
+        records::put(room, n, fields::read_field(p, f, m, v, at));
         f = f + 6;
         n = n + 3;
         left = left - 1;
@@ -50,224 +48,157 @@ fn store_fields(
     n
 }
 
-// The cursor past surplus elements that were walked.
-fn past(surplus: Walked, c: Cursor) -> Cursor
-    ensures { λ r. ⌜ r ≡ pastOf surplus c ⌝ }
+// The octet after n surplus groups.
+fn pass_surplus(m: &[u8], n: usize, at: usize) -> usize
+    requires { ⌜ Accepted (surplusPrint (now m) n at) × (at ≤ length (now m)) ⌝ }
+    ensures { λ r. ⌜ (r ≡ endOf (surplusPrint (now (m .entry)) n at)) × (r ≤ length (now (m .entry))) ⌝ }
 {
+    let surplus = wire::skip_groups(m, n, at);
     let Walked::To { next, .. } = surplus else {
-        return c;
+        return at;
     };
-    Cursor { at: next, n: c.n }
+    next
 }
 
-// The data of the block at word w, past which surplus ones stand.
+// The n data at place `from`.
 fn store_datas(
-    body: &[u8],
-    w: usize,
-    m: &[u8],
-    v: usize,
-    surplus: usize,
-    room: &mut [u64],
-    c: Cursor,
-) -> Cursor
-    requires { ⌜ IsBlock (wordsOf (now body)) w × (c .at ≤ length (now m)) ⌝ }
-    requires { ⌜ Room (datasPrint (wordsOf (now body)) w (now m) v surplus (c .at)) (c .n) (length (now room)) ⌝ }
-    ensures { λ r. ⌜ Stored (datasPrint (wordsOf (now (body .entry))) w (now (m .entry)) v surplus (c .at)) (c .n)
-        (now (room .entry)) (r .at) (r .n) (now (room .exit)) ⌝ }
-    ensures { λ r. ⌜ r .at ≤ length (now (m .entry)) ⌝ }
-{
-    let mut left = book::word(body, w + 3);
-    let mut d = w + 4 + 6 * book::word(body, w + 1);
-    let mut s = c;
-    while 0 < left {
-        s = store_data(m, book::word(body, d + 1) <= v, room, s);
-        d = d + 2;
-        left = left - 1;
-    }
-    past(wire::skip_datas(m, surplus, s.at), s)
-}
-
-// One data, if it is present.
-fn store_data(m: &[u8], present: bool, room: &mut [u64], c: Cursor) -> Cursor
-    requires { ⌜ c .at ≤ length (now m) ⌝ }
-    requires { ⌜ Room (dataPrint (now m) present (c .at)) (c .n) (length (now room)) ⌝ }
-    ensures { λ r. ⌜ Stored (dataPrint (now (m .entry)) present (c .at)) (c .n) (now (room .entry)) (r .at) (r .n)
-        (now (room .exit)) ⌝ }
-    ensures { λ r. ⌜ r .at ≤ length (now (m .entry)) ⌝ }
-{
-    let at = c.at;
-    let n = c.n;
-    if present {
-        let start = at + 2;
-        let len = octets::get2(m, at) as usize;
-        records::put(room, n, Answer::Octets { start, len });
-        return Cursor {
-            at: start + len,
-            n: n + 3,
-        };
-    }
-    records::put(room, n, Answer::Absent);
-    Cursor { at, n: n + 3 }
-}
-
-// The block at word w, `depth` more levels being left: its fields, its groups, its data.
-pub fn store_block(
-    body: &[u8],
-    w: usize,
-    depth: usize,
-    m: &[u8],
-    v: usize,
-    wire: OnWire,
-    room: &mut [u64],
-    c: Cursor,
-) -> Cursor
-    requires { ⌜ GoodBlock (wordsOf (now body)) depth w × (need v (shapeAt (wordsOf (now body)) w) ≤ wire .length) ⌝ }
-    requires { ⌜ Room (blockPrint (wordsOf (now body)) depth w (now m) v wire (c .at)) (c .n) (length (now room)) ⌝ }
-    requires { ⌜ c .at ≤ length (now m) ⌝ }
-    ensures { λ r. ⌜ Stored (blockPrint (wordsOf (now (body .entry))) depth w (now (m .entry)) v wire (c .at)) (c
-        .n) (now (room .entry)) (r .at) (r .n) (now (room .exit)) ⌝ }
-    ensures { λ r. ⌜ r .at ≤ length (now (m .entry)) ⌝ }
-{
-    let at = c.at;
-    let n = store_fields(body, w, m, v, at, room, c.n);
-    let s = Cursor {
-        at: at + wire.length,
-        n,
-    };
-    let inner = blocks::groups_from(body, w);
-    let g = book::word(body, w + 2);
-    let s = store_groups(body, inner, g, depth, m, v, wire.groups, room, s);
-    store_datas(body, w, m, v, wire.datas, room, s)
-}
-
-// n entries of the block at word w, which has neither groups nor data, with l octets each: no level is left in it.
-fn store_plain(
-    body: &[u8],
-    w: usize,
-    m: &[u8],
-    v: usize,
-    l: usize,
+    p: &[u64],
+    from: usize,
     n: usize,
+    m: &[u8],
+    v: usize,
     room: &mut [u64],
     c: Cursor,
 ) -> Cursor
-    requires { ⌜ IsBlock (wordsOf (now body)) w × Plain (wordsOf (now body)) w ⌝ }
-    requires { ⌜ (shapeGood (shapeAt (wordsOf (now body)) w) ≡ true) × (need v (shapeAt (wordsOf (now body)) w) ≤ l) ⌝ }
-    requires { ⌜ Room (entriesPrint (wordsOf (now body)) 0 w (now m) v l n (c .at)) (c .n) (length (now room)) ⌝ }
-    requires { ⌜ c .at ≤ length (now m) ⌝ }
-    ensures { λ r. ⌜ Stored (entriesPrint (wordsOf (now (body .entry))) 0 w (now (m .entry)) v l n (c .at)) (c .n)
-        (now (room .entry)) (r .at) (r .n) (now (room .exit)) ⌝ }
+    requires { ⌜ (from + 2 * n ≤ length (now p)) × Lent (now m) (c .at) ⌝ }
+    requires { ⌜ Room (datasPrint (now m) v (parseDatas (now p) n from) (c .at)) (c .n) (length (now room)) ⌝ }
+    ensures { λ r. ⌜ Stored (datasPrint (now (m .entry)) v (parseDatas (now (p .entry)) n from) (c .at)) (c .n) (now
+        (room .entry)) (r .at) (r .n) (now (room .exit)) ⌝ }
     ensures { λ r. ⌜ r .at ≤ length (now (m .entry)) ⌝ }
 {
     let mut left = n;
+    let mut d = from;
     let mut at = c.at;
     let mut k = c.n;
     while 0 < left {
-        k = store_fields(body, w, m, v, at, room, k);
-        at = at + l;
         left = left - 1;
+        if v < number(p, d + 1) {
+            records::put(room, k, Answer::Absent);
+            d = d + 2;
+            k = k + 3;
+            continue;
+        }
+        let start = at + 2;
+        let len = octets::get2(m, at) as usize;
+        records::put(room, k, Answer::Octets { start, len });
+        at = start + len;
+        d = d + 2;
+        k = k + 3;
     }
     Cursor { at, n: k }
 }
 
-// n entries of the block at word w, with l octets each.
-fn store_entries(
-    body: &[u8],
-    w: usize,
+// k entries of the block at a, with l octets each, `depth` more levels being left: their fields, their groups, past
+// which surplus ones stand, and their data.
+pub fn store_entries(
+    p: &&[u64],
+    a: usize,
     depth: usize,
-    m: &[u8],
+    m: &&[u8],
     v: usize,
     l: usize,
-    n: usize,
-    room: &mut [u64],
-    c: Cursor,
-) -> Cursor
-    requires { ⌜ GoodBlock (wordsOf (now body)) depth w × (need v (shapeAt (wordsOf (now body)) w) ≤ l) ⌝ }
-    requires { ⌜ Room (entriesPrint (wordsOf (now body)) depth w (now m) v l n (c .at)) (c .n) (length (now room)) ⌝ }
-    requires { ⌜ c .at ≤ length (now m) ⌝ }
-    ensures { λ r. ⌜ Stored (entriesPrint (wordsOf (now (body .entry))) depth w (now (m .entry)) v l n (c .at)) (c
-        .n) (now (room .entry)) (r .at) (r .n) (now (room .exit)) ⌝ }
-    ensures { λ r. ⌜ r .at ≤ length (now (m .entry)) ⌝ }
-{
-    if blocks::is_plain(body, w) {
-        return store_plain(body, w, m, v, l, n, room, c);
-    }
-    let mut due = n;
-    let mut s = c;
-    while 0 < due {
-        let wire = OnWire {
-            length: l,
-            groups: 0,
-            datas: 0,
-        };
-        s = store_block(body, w, depth, m, v, wire, room, s);
-        due = due - 1;
-    }
-    s
-}
-
-// The group at word w, `depth` more levels being left inside it: its record and its entries, if it is present.
-fn store_group(
-    body: &[u8],
-    w: usize,
-    depth: usize,
-    m: &[u8],
-    v: usize,
-    room: &mut [u64],
-    c: Cursor,
-) -> Cursor
-    requires { ⌜ GoodBlock (wordsOf (now body)) depth (w + 2) ⌝ }
-    requires { ⌜ Room (groupPrint (wordsOf (now body)) depth w (now m) v (c .at)) (c .n) (length (now room)) ⌝ }
-    requires { ⌜ c .at ≤ length (now m) ⌝ }
-    ensures { λ r. ⌜ Stored (groupPrint (wordsOf (now (body .entry))) depth w (now (m .entry)) v (c .at)) (c .n)
-        (now (room .entry)) (r .at) (r .n) (now (room .exit)) ⌝ }
-    ensures { λ r. ⌜ r .at ≤ length (now (m .entry)) ⌝ }
-{
-    let at = c.at;
-    let n = c.n;
-    if v < book::word(body, w + 1) {
-        records::put(room, n, Answer::Absent);
-        return Cursor { at, n: n + 3 };
-    }
-    let l = octets::get2(m, at) as usize;
-    let k = octets::get2(m, at + 2);
-    records::put(room, n, Answer::Group(k));
-    let s = Cursor {
-        at: at + 4,
-        n: n + 3,
-    };
-    store_entries(body, w + 2, depth, m, v, l, k as usize, room, s)
-}
-
-// The n groups in a row at word `from`, `depth` more levels being left, past which surplus ones stand.
-fn store_groups(
-    body: &[u8],
-    from: usize,
-    n: usize,
-    depth: usize,
-    m: &[u8],
-    v: usize,
+    k: usize,
     surplus: usize,
     room: &mut [u64],
     c: Cursor,
 ) -> Cursor
-    requires { ⌜ GoodRow (wordsOf (now body)) depth n from ⌝ }
-    requires { ⌜ Room (rowPrint (wordsOf (now body)) depth n from (now m) v surplus (c .at)) (c .n) (length
-        (now room)) ⌝ }
-    requires { ⌜ c .at ≤ length (now m) ⌝ }
-    ensures { λ r. ⌜ Stored (rowPrint (wordsOf (now (body .entry))) depth n from (now (m .entry)) v surplus (c .at))
-        (c .n) (now (room .entry)) (r .at) (r .n) (now (room .exit)) ⌝ }
-    ensures { λ r. ⌜ r .at ≤ length (now (m .entry)) ⌝ }
+    requires { ⌜ BlockAt (now (now p)) depth a × (need v (shapeAt (now (now p)) a) ≤ l) × (surplus ≤ 65535) ⌝ }
+    requires { ⌜ Room (entriesPrint (now (now m)) v (shapeAt (now (now p)) a) (innerAt (now (now p)) depth a) surplus l
+        k (c .at)) (c .n) (length (now room)) ⌝ }
+    requires { ⌜ Lent (now (now m)) (c .at) ⌝ }
+    ensures { λ r. ⌜ Stored (entriesPrint (now (now (m .entry))) v (shapeAt (now (now (p .entry))) a) (innerAt (now
+        (now (p .entry))) depth a) surplus l k (c .at)) (c .n) (now (room .entry)) (r .at) (r .n) (now (room .exit)) ⌝ }
+    ensures { λ r. ⌜ r .at ≤ length (now (now (m .entry))) ⌝ }
 {
-    let mut w = from;
-    let mut left = n;
-    let mut s = c;
-    while 0 < left {
-        blocks::open_row(body, w, left, depth);
-        s = store_group(body, w, depth - 1, m, v, room, s);
-        let inner = blocks::groups_from(body, w + 2);
-        w = blocks::skip_row(body, inner, book::word(body, w + 4), depth - 1);
-        left = left - 1;
+    let s = *p;
+    let t = *m;
+    let follow = number(s, a + 7) + surplus;
+    let mut due = k;
+    let mut at = c.at;
+    let mut n = c.n;
+    while 0 < due {
+        n = store_fields(s, a, t, v, at, room, n);
+        at = at + l;
+        due = due - 1;
+        if follow == 0 {
+            continue;
+        }
+        let here = Cursor { at, n };
+        let row = store_row(
+            p,
+            number(s, a + 9),
+            number(s, a + 4),
+            depth,
+            m,
+            v,
+            room,
+            here,
+        );
+        let here = Cursor {
+            at: pass_surplus(t, surplus, row.at),
+            n: row.n,
+        };
+        let datas = store_datas(s, number(s, a + 10), number(s, a + 5), t, v, room, here);
+        at = datas.at;
+        n = datas.n;
     }
-    past(wire::skip_groups(m, surplus, s.at), s)
+    Cursor { at, n }
+}
+
+// The n groups in a row at place `first`, `depth` more levels being left.
+fn store_row(
+    p: &&[u64],
+    first: usize,
+    n: usize,
+    depth: usize,
+    m: &&[u8],
+    v: usize,
+    room: &mut [u64],
+    c: Cursor,
+) -> Cursor
+    requires { ⌜ IsRow (now (now p)) depth n first × Lent (now (now m)) (c .at) ⌝ }
+    requires { ⌜ Room (groupsPrint (now (now m)) v (groupsAt (now (now p)) depth n first) (c .at)) (c .n) (length
+        (now room)) ⌝ }
+    ensures { λ r. ⌜ Stored (groupsPrint (now (now (m .entry))) v (groupsAt (now (now (p .entry))) depth n first)
+        (c .at)) (c .n) (now (room .entry)) (r .at) (r .n) (now (room .exit)) ⌝ }
+    ensures { λ r. ⌜ r .at ≤ length (now (now (m .entry))) ⌝ }
+{
+    let s = *p;
+    let t = *m;
+    let mut a = first;
+    let mut left = n;
+    let mut at = c.at;
+    let mut o = c.n;
+    while 0 < left {
+        prepared::open_row(s, a, left, depth);
+        left = left - 1;
+        if v < number(s, a + 1) {
+            records::put(room, o, Answer::Absent);
+            o = o + 3;
+            a = number(s, a + 8);
+            continue;
+        }
+        let l = octets::get2(t, at) as usize;
+        let k = octets::get2(t, at + 2);
+        records::put(room, o, Answer::Group(k));
+        let inside = Cursor {
+            at: at + 4,
+            n: o + 3,
+        };
+        let entries = store_entries(p, a, depth - 1, m, v, l, k as usize, 0, room, inside);
+        at = entries.at;
+        o = entries.n;
+        a = number(s, a + 8);
+    }
+    Cursor { at, n: o }
 }

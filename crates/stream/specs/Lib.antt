@@ -1,1 +1,2 @@
-pub mod Bodies
+pub mod Places
+pub mod Written

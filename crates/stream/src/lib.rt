@@ -1,30 +1,32 @@
-// Reads messages by a book that was accepted before: at no book cost per message. Proved callers cannot misuse it: the
-// checker refuses a call whose book is not known to be accepted.
+// Reads and writes messages by a prepared book: at no book cost per message. Proved callers cannot misuse it: the checker
+// refuses a call whose numbers are not known to be those of an accepted book.
 use judges::Judged;
 use layout::Checked;
 use layout::Counted;
 use layout::Element;
 use layout::Found;
 use layout::Refusal;
-use messages::Body;
-use templates::Place;
-use wire::Walked;
-use writer::Head;
-ghost use Rattle.layout.specs.Contracts.{AnswersPlace, Checks, Lists, Writes};
-ghost use Rattle.layout.specs.Octets.{wordsOf};
+use prepared::Place;
+use prepared::number;
+use store::Cursor;
+use whole::Entered;
 ghost use mathlib.Core.Path.{_≡_};
-ghost use lib.ListN.{length};
-ghost use Rattle.layout.specs.Contracts.{refusal};
-ghost use Rattle.templates.specs.Lookup.{IsBook};
-ghost use Rattle.walk.specs.Walks.{GoodBlock};
-ghost use Rattle.stream.specs.Bodies.{WritesAs, writtenBy};
+ghost use Rattle.layout.specs.Contracts.{ListsAs, WritesAs, checked, found, refusal, stepsOf};
+ghost use Rattle.layout.specs.Reading.{checkIn, listIn, placeIn};
+ghost use Rattle.layout.specs.Writing.{writeIn};
+ghost use Rattle.prepared.specs.Positions.{BlockAt};
+ghost use Rattle.places.specs.Seeks.{Path};
+ghost use Rattle.stream.specs.Places.{noPlace, surplusIn};
+ghost use Rattle.stream.specs.Written.{writtenBy};
+ghost use Rattle.prepared.specs.Books.{IsPrepared, bookAt, templateAt};
 
 // Checks a message.
-pub fn check(book: &[u8], m: &[u8]) -> Checked
-    requires { ⌜ IsBook (now book) ⌝ }
-    ensures { λ r. ⌜ Checks (now (book .entry)) (now (m .entry)) r ⌝ }
+pub fn check(p: &[u64], m: &[u8]) -> Checked
+    requires { ⌜ IsPrepared (now p) ⌝ }
+    ensures { λ r. ⌜ r ≡ checked (checkIn (bookAt (now (p .entry))) (now (m .entry))) ⌝ }
 {
-    let Walked::Refused(refusal) = messages::walk(book, m) else {
+    let path = &p[0..0];
+    let Entered::Refused(refusal) = whole::enter(&p, &m, &path) else {
         return Checked::Accepted;
     };
     Checked::Refused(refusal)
@@ -32,31 +34,102 @@ pub fn check(book: &[u8], m: &[u8]) -> Checked
 
 // Lists a message: the number of records, which are stored from the room's start. A walk checks and counts, and then,
 // if there is room, a pass stores; else the place of the refusal is the number of records.
-pub fn list(book: &[u8], m: &[u8], room: &mut [u64]) -> Counted
-    requires { ⌜ IsBook (now book) ⌝ }
-    ensures { λ r. ⌜ Lists (now (book .entry)) (now (m .entry)) (now (room .entry)) r (now (room .exit)) ⌝ }
+pub fn list(p: &[u64], m: &[u8], room: &mut [u64]) -> Counted
+    requires { ⌜ IsPrepared (now p) ⌝ }
+    ensures { λ r. ⌜ ListsAs (listIn (bookAt (now (p .entry))) (now (m .entry))) (now (room .entry)) r
+        (now (room .exit)) ⌝ }
 {
-    match messages::find_body(book, m) {
-        Body::At { first, words } => {
-            let end = 2 * first + 2 * words;
-            listings::list_root(&book[2 * first..end], book::word(book, 1), m, room)
+    let path = &p[0..0];
+    match whole::enter(&p, &m, &path) {
+        Entered::Refused(refusal) => Counted::Refused(refusal),
+        Entered::At {
+            block,
+            version,
+            length,
+            groups,
+            records,
+            ..
+        } => {
+            let all = number(p, block + 3) + records + number(p, block + 5);
+            if room.len() / 3 < all {
+                return Counted::Refused(Refusal {
+                    number: 40,
+                    place: all,
+                });
+            }
+            let start = Cursor { at: 12, n: 0 };
+            store::store_entries(&p, block, 4, &m, version, length, 1, groups, room, start);
+            Counted::Count(all)
         }
-        Body::Refused(refusal) => Counted::Refused(refusal),
+    }
+}
+
+fn no_answer(number: u8) -> Found
+    ensures { λ r. ⌜ r ≡ Found.Refused (refusal number 0) ⌝ }
+{
+    Found::Refused(Refusal { number, place: 0 })
+}
+
+// A place that no book has: 30 after what the check refuses.
+pub fn no_place(answer: Checked) -> Found
+    ensures { λ r. ⌜ r ≡ noPlace answer ⌝ }
+{
+    match answer {
+        Checked::Accepted => no_answer(30),
+        Checked::Refused(refusal) => Found::Refused(refusal),
+    }
+}
+
+// How many surplus groups stand before the data of the block that the steps lead to: inside groups there are none.
+fn surplus_there(steps: &[u64], groups: usize) -> usize
+    ensures { λ r. ⌜ r ≡ surplusIn (now (steps .entry)) groups ⌝ }
+{
+    if steps.len() == 0 {
+        return groups;
+    }
+    0
+}
+
+// The answer for a place of at most four whole steps.
+fn place_on(p: &[u64], m: &[u8], steps: &[u64], x: Element) -> Found
+    requires { ⌜ IsPrepared (now p) × Path (now steps) 0 ⌝ }
+    ensures { λ r. ⌜ r ≡ found (placeIn (bookAt (now (p .entry))) (now (m .entry)) (stepsOf (now (steps .entry))) x) ⌝ }
+{
+    match whole::enter(&p, &m, &steps) {
+        Entered::Refused(refusal) => Found::Refused(refusal),
+        Entered::At {
+            block,
+            version,
+            groups,
+            found,
+            long,
+            ..
+        } => {
+            let Place::At(a) = places::find_place(p, block, steps, x) else {
+                return no_answer(30);
+            };
+            if found == 0 {
+                return no_answer(31);
+            }
+            let depth = 4 - steps.len() / 2;
+            let surplus = surplus_there(steps, groups);
+            Found::Is(places::element_at(&p, a, depth, &m, version, found, long, surplus, x))
+        }
     }
 }
 
 // The answer for one place of a message. The steps hold a group's number and an entry's, by turns.
-pub fn place(book: &[u8], m: &[u8], steps: &[u64], x: Element) -> Found
-    requires { ⌜ IsBook (now book) ⌝ }
-    ensures { λ r. ⌜ AnswersPlace (now (book .entry)) (now (m .entry)) (now (steps .entry)) x r ⌝ }
+pub fn place(p: &[u64], m: &[u8], steps: &[u64], x: Element) -> Found
+    requires { ⌜ IsPrepared (now p) ⌝ }
+    ensures { λ r. ⌜ r ≡ found (placeIn (bookAt (now (p .entry))) (now (m .entry)) (stepsOf (now (steps .entry))) x) ⌝ }
 {
-    match messages::find_body(book, m) {
-        Body::At { first, words } => {
-            let end = 2 * first + 2 * words;
-            places::answer(&book[2 * first..end], book::word(book, 1), m, steps, x)
-        }
-        Body::Refused(refusal) => Found::Refused(refusal),
+    if 8 < steps.len() {
+        return no_place(check(p, m));
     }
+    if steps.len() % 2 == 1 {
+        return no_place(check(p, m));
+    }
+    place_on(p, m, steps, x)
 }
 
 fn refuse(number: u8) -> Counted
@@ -65,42 +138,38 @@ fn refuse(number: u8) -> Counted
     Counted::Refused(Refusal { number, place: 0 })
 }
 
-// Writes by the template's body: a pass judges the listing, and then, if there is room, a pass stores.
-fn write_by(body: &[u8], head: Head, listing: &[u64], pool: &[u8], room: &mut [u8]) -> Counted
-    requires { ⌜ GoodBlock (wordsOf (now body)) 4 0 ⌝ }
-    ensures { λ r. ⌜ WritesAs (writtenBy (wordsOf (now (body .entry))) head (now (listing .entry)) (now (pool .entry))
-        (length (now (room .entry)))) (now (room .entry)) r (now (room .exit)) ⌝ }
+// Writes by the template's block at a: a pass judges the listing, and then, if there is room, a pass stores over zeros.
+fn write_by(p: &[u64], a: usize, listing: &[u64], pool: &[u8], room: &mut [u8]) -> Counted
+    requires { ⌜ BlockAt (now p) 4 a ⌝ }
+    ensures { λ r. ⌜ WritesAs (writtenBy (bookAt (now (p .entry))) (templateAt (now (p .entry)) a) (now (listing
+        .entry)) (now (pool .entry))) (now (room .entry)) r (now (room .exit)) ⌝ }
 {
-    match judges::judge_listing(body, listing, pool.len()) {
+    match judges::judge_listing(&p, a, &listing, pool.len()) {
         Judged::Refused(refusal) => Counted::Refused(refusal),
         Judged::To { length, .. } => {
-            if 65535 < 12 + length {
+            let n = 12 + length;
+            if 65535 < n {
                 return refuse(55);
             }
-            if room.len() < 12 + length {
+            if room.len() < n {
                 return refuse(55);
             }
-            writer::write_message(body, head, listing, pool, room);
-            Counted::Count(12 + length)
+            writer::put_zeros(room, n);
+            writer::write_message(&p, a, &listing, &pool, &mut room[..n]);
+            Counted::Count(n)
         }
     }
 }
 
 // Writes the message that a listing gives for the template `id`, its starts referring to the pool: the number of
 // octets, which are stored from the room's start.
-pub fn write(book: &[u8], id: usize, listing: &[u64], pool: &[u8], room: &mut [u8]) -> Counted
-    requires { ⌜ IsBook (now book) ⌝ }
-    ensures { λ r. ⌜ Writes (now (book .entry)) id (now (listing .entry)) (now (pool .entry)) (now (room .entry)) r
-        (now (room .exit)) ⌝ }
+pub fn write(p: &[u64], id: usize, listing: &[u64], pool: &[u8], room: &mut [u8]) -> Counted
+    requires { ⌜ IsPrepared (now p) ⌝ }
+    ensures { λ r. ⌜ WritesAs (writeIn (bookAt (now (p .entry))) id (now (listing .entry)) (now (pool .entry))) (now
+        (room .entry)) r (now (room .exit)) ⌝ }
 {
-    let Place::At { first, words } = templates::find(book, id) else {
+    let Place::At(a) = prepared::find(p, id) else {
         return refuse(50);
     };
-    let head = Head {
-        id,
-        schema: book::word(book, 0),
-        version: book::word(book, 1),
-    };
-    let end = 2 * first + 2 * words;
-    write_by(&book[2 * first..end], head, listing, pool, room)
+    write_by(p, a, listing, pool, room)
 }

@@ -1,70 +1,29 @@
--- What walking a part of a message by an accepted body comes to: the definition's answer at word positions, and how
+-- What walking a part of a message by a prepared book comes to: the definition's answer at places of the book, and how
 -- far and how many it can be.
-use mathlib.Core.Path.{_≡_}
-use mathlib.Core.Bool.{true}
 use mathlib.Core.List.{List}
 use Prim.Native.Nat.{ℕ, _+_, _*_, _≤_}
-use lib.Dec.{leb}
 use lib.ListN.{length}
-use Rattle.layout.specs.Result.{Result, done, if_then_else_}
-use Rattle.layout.specs.Book.{Groups}
-use Rattle.layout.specs.BookRules.{groupsGood, shapeGood, word}
-use Rattle.layout.specs.Values.{Values, nil, measure}
-use Rattle.layout.specs.Message.{Entry, readBlock, readDatas, readEntries, readGroup, readGroups}
+use Rattle.layout.specs.Result.{Result}
+use Rattle.layout.specs.Values.{Values, measure}
+use Rattle.layout.specs.Message.{Entry, readBlock, readEntries, readGroups}
 use Rattle.layout.specs.declared.Answer.{Answer}
-use Rattle.layout.specs.declared.Answer.the-variants.{Absent}
-use Rattle.templates.specs.Positions.{IsBlock, IsRow, shapeAt, groupsAt, groupsFrom, groupCount}
+use Rattle.prepared.specs.Positions.{innerAt, groupsAt, shapeAt}
 use Rattle.wire.specs.declared.Walked.{Walked}
 use Rattle.wire.specs.declared.Walked.the-variants.{To, Refused}
-use Rattle.walk.specs.declared.OnWire.{OnWire}
 
--- ---- the definitions at word positions: b is the body's words
+-- ---- the definitions at places of the prepared numbers p
 
-module _ (b : List ℕ) (depth w : ℕ) where
-  -- The groups of the block at word w.
-  abbrev pub innerAt : Groups
-  innerAt = groupsAt b depth (groupCount b w) (groupsFrom b w)
+module _ (p : List ℕ) (depth a : ℕ) (m : List ℕ) (v l : ℕ) where
+  -- An entry of l octets of the block at a.
+  abbrev pub entryAt : ℕ → Result Entry
+  entryAt at = readBlock m v (shapeAt p a) (readGroups m v (innerAt p depth a) 0) 0 l at
 
-  -- A block stands at word w, with its groups, `depth` more levels being left.
-  pub record BlockAt : Type 0 where
-    pub block : IsBlock b w
-    pub row : IsRow b depth (groupCount b w) (groupsFrom b w)
+  abbrev pub entriesAt : ℕ → ℕ → Result (Values × ℕ)
+  entriesAt n at = readEntries n entryAt at
 
-  -- The block of l octets there, the groups and data of the book being followed by those that the wire has more.
-  abbrev pub blockAt : List ℕ → ℕ → OnWire → ℕ → Result Entry
-  blockAt m v wire at =
-      readBlock m v (shapeAt b w) (readGroups m v innerAt (wire .groups)) (wire .datas) (wire .length) at
-
-  abbrev pub entriesAt : List ℕ → ℕ → ℕ → ℕ → ℕ → Result (Values × ℕ)
-  entriesAt m v l n at = readEntries n (readBlock m v (shapeAt b w) (readGroups m v innerAt 0) 0 l) at
-
--- The data of the block at word w.
-abbrev pub datasAt : List ℕ → ℕ → List ℕ → ℕ → ℕ → ℕ → Result (List Answer × ℕ)
-datasAt b w m v surplus at = readDatas m v (shapeAt b w .datas) surplus at
-
--- The n groups in a row at word w.
-abbrev pub rowAt : List ℕ → ℕ → ℕ → ℕ → List ℕ → ℕ → ℕ → ℕ → Result (Values × ℕ)
-rowAt b depth n w m v surplus at = readGroups m v (groupsAt b depth n w) surplus at
-
--- The group at word w, if it is present.
-abbrev pub groupAt : List ℕ → ℕ → ℕ → List ℕ → ℕ → ℕ → Result (Answer × Values × ℕ)
-groupAt b depth w m v at =
-    if leb (word b (w + 1)) v
-    then readGroup m v (shapeAt b (w + 2)) (readGroups m v (innerAt b depth (w + 2)) 0) at
-    else done (Absent, nil, at)
-
--- ---- accepted blocks
-
--- A block at word w, whose rules and whose groups' rules hold.
-pub record GoodBlock (b : List ℕ) (depth w : ℕ) : Type 0 where
-  pub stands : BlockAt b depth w
-  pub shape : shapeGood (shapeAt b w) ≡ true
-  pub groups : groupsGood (innerAt b depth w) ≡ true
-
--- n groups in a row at word w, whose rules hold.
-pub record GoodRow (b : List ℕ) (depth n w : ℕ) : Type 0 where
-  pub stands : IsRow b depth n w
-  pub groups : groupsGood (groupsAt b depth n w) ≡ true
+-- The n groups in a row at a.
+abbrev pub rowAt : List ℕ → ℕ → ℕ → ℕ → List ℕ → ℕ → ℕ → Result (Values × ℕ)
+rowAt p depth n a m v at = readGroups m v (groupsAt p depth n a) 0 at
 
 -- ---- where each ends and how many records it has, `seen` having been counted before
 

@@ -6,6 +6,7 @@ ghost use lib.ListN.{length};
 ghost use Rattle.layout.specs.Contracts.{refusal};
 ghost use Rattle.layout.specs.Message.{readData, skipDatas, readDimension, skipGroups, checkHeader};
 ghost use Rattle.wire.specs.Walks.{walked, dataEnd, skipEnd, dimensionEnd, headerEnd, Inside};
+ghost use Rattle.wire.specs.Dimensions.{dimensioned};
 
 // What walking a part of a message comes to: the octet after it and its number of records, or the refusal.
 pub enum Walked {
@@ -87,6 +88,40 @@ pub fn read_dimension(m: &[u8], least: usize, at: usize) -> Walked
         next: at + 4,
         records: 1,
     }
+}
+
+// What the dimension of a group says: the octets of a block and the entries, or the refusal.
+pub enum Dimension {
+    Of { length: usize, entries: usize },
+    Refused(Refusal),
+}
+
+fn no_dimension(number: u8, place: usize) -> Dimension
+    ensures { λ r. ⌜ r ≡ Dimension.Refused (refusal number place) ⌝ }
+{
+    Dimension::Refused(Refusal { number, place })
+}
+
+// The dimension at `at`: a block length of at least `least`, and an entry count.
+pub fn open_group(m: &[u8], least: usize, at: usize) -> Dimension
+    requires { ⌜ at ≤ length (now m) ⌝ }
+    ensures { λ r. ⌜ r ≡ dimensioned (readDimension (now (m .entry)) least at) ⌝ }
+{
+    if m.len() - at < 4 {
+        return no_dimension(16, at);
+    }
+    let length = octets::get2(m, at) as usize;
+    let entries = octets::get2(m, at + 2) as usize;
+    if 65535 <= length {
+        return no_dimension(17, at);
+    }
+    if 65535 <= entries {
+        return no_dimension(17, at);
+    }
+    if length < least {
+        return no_dimension(18, at);
+    }
+    Dimension::Of { length, entries }
 }
 
 // n surplus groups, each passed as a dimension and block length times entries.

@@ -1,425 +1,317 @@
 -- What each part of a listing writes, taken apart in the code's terms. That it was judged good is known: no test is
 -- made.
 use mathlib.Core.Path.{_≡_, refl, sym, _∙_}
-use mathlib.Core.List.{List, [], _∷_, _++_, append-assoc, append-nil}
+use mathlib.Core.List.{List, [], _∷_, append-nil}
 use mathlib.Core.Bool.{Bool, true, false}
-use Prim.Native.Nat.{ℕ, zero, suc, _+_, _-_, _/_, _≤_, _<_}
+use Prim.Native.Nat.{ℕ, zero, suc, _+_, _-_, _*_, _/_, _≤_, _<_}
 use native.Mathlib.Omega.{arith}
-use lib.Dec.{eqb}
-use lib.ListN.{drop, length, length-append, length-replicate, replicate, take}
+use lib.Dec.{eqb, ltb}
+use lib.ListN.{drop, length, replicate, take}
 use lib.Seq.{sets}
-use borrow.Author.Tests.{eq-eqb, le-ltb, lt-ltb, ltb-true, ne-eqb}
-use Rattle.layout.specs.Result.{Result, done, refused, if_then_else_, _>>=_}
+use borrow.Author.Tests.{eqb-false, eqb-true, le-ltb, leb-true, lt-ltb, ne-eqb}
+use Rattle.layout.specs.Result.{Result, done, refused, if_then_else_, _and_, _or_}
 use Rattle.layout.specs.Octets.{null16, octetsOf}
 use Rattle.layout.specs.Types.{typeAt}
-use Rattle.layout.specs.Book.{Field, Shape, end, isArray, size}
+use Rattle.layout.specs.Book.{Field, Groups, Shape, end, isArray, more, size}
 use Rattle.layout.specs.BookRules.{fieldAt, fieldsGood, lengthGood, parseDatas, parseFields, word}
-use Rattle.layout.specs.Writing.{blockOctets, dataOctets, entriesIn, fieldOctets, first, isGroup, judgeBlock}
-use Rattle.layout.specs.Writing.{judgeData, judgeDatas, judgeField, judgeFields, judgeGroups, numbers16, rowOctets}
-use Rattle.layout.specs.Writing.{second}
-use Rattle.layout.specs.Writing.{spanOctets, spanOf, third}
+use Rattle.layout.specs.Writing.{fieldOctets, first, isGroup, isNumber, isThere, judgeData, judgeField}
+use Rattle.layout.specs.Writing.{numbers16, second, spanOf, third}
 use Rattle.layout.specs.declared.Answer.{Answer}
 use Rattle.layout.specs.declared.Answer.the-variants.{Null, Number, Octets}
-use Rattle.layout.proofs.Results.{inv-bind, inv-must}
+use Rattle.layout.proofs.Results.{and-left, and-right, or-right}
 use Rattle.layout.proofs.Fields.{FieldGood, field-good}
-use Rattle.layout.proofs.Said.{array-said, data-said, number-said}
+use Rattle.layout.proofs.Said.{NumberSaid, array-said, data-said, number-said}
 use Rattle.layout.proofs.Lengths.{field-long, span-long}
 use Rattle.layout.proofs.Stands.{length-numbers, length-octets}
-use Rattle.templates.specs.Positions.{Plain, Opened, dataCount, datasFrom, groupCount, groupsAt, groupsEnd, groupsFrom}
-use Rattle.templates.specs.Positions.{shapeAt}
-use Rattle.templates.proofs.Open.{no-groups-at}
-use Rattle.walk.specs.Walks.{innerAt}
-use Rattle.judges.specs.Judges.{judgeGroup}
-use Rattle.judges.proofs.Laws as judging
-use Rattle.store.specs.Prints.{Printed, Room, Stored, andThen, endOf, got, not, numbersOf, prepend, printed}
-use Rattle.octets.proofs.Joined.{sets-append}
-use Rattle.store.proofs.Going.{Going, prepend-nil, prepend-prepend, room-put, room-rest}
-use Rattle.store.proofs.Laws.{Done, after, mapped, prints, room-done}
-use Rattle.writer.specs.Parts.{blockPart, dataPart, datasPart, entriesPart, fieldPart, fieldsPart, groupPart}
-use Rattle.writer.specs.Parts.{groupsPart, headOf, messagePart, valuePart}
-use Rattle.writer.specs.declared.Head.{Head}
-use Rattle.writer.proofs.Lent.{going-from, got-room, room-start}
+use Rattle.prepared.specs.Positions.{Derived, groupsAt}
+use Rattle.prepared.proofs.Open.{no-groups-at}
+use Rattle.writer.specs.Prints.{Printed, Room, Stored, andThen, endOf, got, not, numbersOf, prepend, printed}
+use Rattle.writer.specs.Parts.{dataPart, datasPart, entriesPart, fieldsPart, groupPart, groupsPart}
+use Rattle.writer.specs.Parts.{numberOr, valuePart}
+use Rattle.writer.proofs.Going.{prepend-nil, prepend-prepend, room-first, room-put}
 
--- ---- 16-bit numbers in a row
+-- ---- whatever is printed
 
-pub two-numbers : (d : List ℕ) (at x y : ℕ)
-    → sets (sets d at (octetsOf 2 x)) (at + 2) (octetsOf 2 y) ≡ sets d at (numbers16 (x ∷ y ∷ []))
-unfolding numbers16
-two-numbers d at x y =
-    rw (append-nil (octetsOf 2 y), sets-append d at (octetsOf 2 x) (octetsOf 2 y), length-octets 2 x) refl
+-- What has room was done.
+pub record Done {A : Type 0} (r : Result A) : Type 0 where
+  pub value : A
+  pub is : r ≡ done value
 
-pub more-numbers : (d : List ℕ) (at x y : ℕ) (zs : List ℕ)
-    → sets (sets d at (numbers16 (x ∷ y ∷ []))) (at + 4) (numbers16 zs) ≡ sets d at (numbers16 (x ∷ y ∷ zs))
-unfolding numbers16
-more-numbers d at x y zs =
-    let l : length (octetsOf 2 x ++ octetsOf 2 y) ≡ 4 = rw (
-      length-append
-          (octetsOf 2 x),
-      length-octets 2 x,
-      length-octets 2 y,
-    ) refl in
-    rw (
-      append-nil (octetsOf 2 y),
-      ← (append-assoc (octetsOf 2 x) (octetsOf 2 y) (numbers16 zs)),
-      sets-append d at (octetsOf 2 x ++ octetsOf 2 y) (numbers16 zs),
-      l,
-    ) refl
+pub room-done : {A : Type 0} (e : A → ℕ) (p : A → List ℕ) (r : Result A) (n k : ℕ) → Room (printed e p r) n k → Done r
+unfolding printed endOf numbersOf
+room-done e p (done a) n k h = record { value = a; is = refl }
+room-done e p (refused c q) n k h = absurd (let z : _≡_ {A = ℕ} 0 1 = cc (h .whole) in omega arith)
 
-pub header-laid : (d r₁ r₂ r₃ : List ℕ) (a b c e f g : ℕ) → r₁ ≡ sets d 0 (numbers16 (a ∷ b ∷ []))
-    → r₂ ≡ sets r₁ 4 (numbers16 (c ∷ e ∷ [])) → r₃ ≡ sets r₂ 8 (numbers16 (f ∷ g ∷ []))
-    → r₃ ≡ sets d 0 (numbers16 (a ∷ b ∷ c ∷ e ∷ f ∷ g ∷ []))
-header-laid d r₁ r₂ r₃ a b c e f g p q s =
-    s ∙ rw (q, p) (more-numbers (sets d 0 (numbers16 (a ∷ b ∷ []))) 4 c e (f ∷ g ∷ [])
-    ∙ more-numbers d 0 a b (c ∷ e ∷ f ∷ g ∷ []))
+pub prints : {A : Type 0} (e : A → ℕ) (p : A → List ℕ) (r : Result A) (a : A) → r ≡ done a
+    → printed e p r ≡ got (e a) (p a)
+unfolding printed
+prints e p r a is = rw is refl
+
+pub prepend-then : (e : List ℕ) (x : Printed) (f : ℕ → Printed) → andThen (prepend e x) f ≡ prepend e (andThen x f)
+unfolding prepend andThen
+prepend-then e (got a xs) f = sym (prepend-prepend e xs (f a))
+prepend-then e not f = refl
+
+then-none : (a : ℕ) (f : ℕ → Printed) → andThen (got a []) f ≡ f a
+unfolding andThen
+then-none a f = sym (prepend-nil (f a))
+
+pub got-room : (x : Printed) (a : ℕ) (e : List ℕ) → x ≡ got a e → (n k : ℕ) → Room x n k → n + length e ≤ k
+unfolding numbersOf
+got-room x a e same n k r = rw same at (r .fits)
+
+-- It was stored, k octets in number.
+pub stored-as : (x : Printed) (n a k : ℕ) (d d′ : List ℕ) → x ≡ got a (numbersOf x) → k ≡ n + length (numbersOf x)
+    → d′ ≡ sets d n (numbersOf x) → Stored x n d a k d′
+unfolding endOf
+stored-as x n a k d d′ same t q = record { place = rw same refl; taken = t; room = q }
+
+pub got-stored : (a k : ℕ) (e d d′ : List ℕ) → k ≡ length e → d′ ≡ sets d 0 e → Stored (got a e) 0 d a k d′
+unfolding endOf numbersOf
+got-stored a k e d d′ t q = record { place = refl; taken = omega (arith, t); room = q }
+
+-- ---- records
+
+there-is : (l : List ℕ) (i : ℕ) (t : Bool) → (isThere l i and t) ≡ true → i < length l / 3
+there-is l i t h = omega (arith, leb-true (3 * i + 3) (length l) (and-left _ _ h))
+
+-- A number's record says 0, or else 1.
+not-zero : (l : List ℕ) (i : ℕ) → isNumber l i ≡ true → (first l i ≡ 0 → ⊥) → first l i ≡ 1
+not-zero l i h k =
+    eqb-true (first l i) 1 (and-left _ _ (or-right _ _ (and-right _ _ (and-right _ _ h)) (ne-eqb (first l i) 0 k)))
 
 -- ---- one field
 
 module _ (l pool : List ℕ) (f : Field) (i k : ℕ) (r : Room (valuePart l pool f i) 0 k) where
+  value-done : Done (judgeField l (length pool) f i)
+  unfolding valuePart
+  value-done = room-done _ _ _ 0 k r
+
   -- Its record is there.
   pub value-there : i < length l / 3
-  unfolding valuePart
   value-there = go (isArray f) refl
     where
       go : (y : Bool) → isArray f ≡ y → i < length l / 3
-      go true y =
-          let d = room-done _ _ _ 0 k r in
-          judging.octets-there l i (array-said l (length pool) f i (d .value) y (d .is) .0 .kind)
-      go false y =
-          let d = room-done _ _ _ 0 k r in
-          judging.number-there l i (number-said l (length pool) f i (d .value) y (d .is) .kind)
+      go true y = there-is l i _ (array-said l (length pool) f i _ y (value-done .is) .0 .kind)
+      go false y = there-is l i _ (number-said l (length pool) f i _ y (value-done .is) .kind)
 
-  -- It is written as the octets e, n in number.
+  value-is : (e : List ℕ) → fieldOctets pool f (value-done .value) ≡ e → valuePart l pool f i ≡ got (i + 1) e
+  unfolding valuePart
+  value-is e q = prints _ _ _ _ (value-done .is) ∙ rw q refl
+
+  -- The octets that it has, n in number.
   pub record ValueOpen (e : List ℕ) (n : ℕ) : Type 0 where
-    pub same : valuePart l pool f i ≡ got (i + 1) e
-    pub long : length e ≡ n
+    pub same : numbersOf (valuePart l pool f i) ≡ e
     pub fits : n ≤ k
 
-  value-open : (e : List ℕ) (n : ℕ) → length e ≡ n → valuePart l pool f i ≡ got (i + 1) e → ValueOpen e n
-  value-open e n h same = record { same = same; long = h; fits = omega (arith, got-room _ _ e same 0 k r) }
+  value-open : (e : List ℕ) (n : ℕ) → length e ≡ n → fieldOctets pool f (value-done .value) ≡ e → ValueOpen e n
+  unfolding numbersOf
+  value-open e n h q =
+      let same = value-is e q in
+      record { same = rw same refl; fits = omega (arith, got-room _ _ e same 0 k r) }
+
+  -- It is as long as its size says.
+  pub value-stored : lengthGood f ≡ true → (d d′ : List ℕ) → d′ ≡ sets d 0 (numbersOf (valuePart l pool f i))
+      → Stored (valuePart l pool f i) 0 d (i + 1) (size f) d′
+  unfolding numbersOf
+  value-stored g d d′ q =
+      let same = value-is _ refl in
+      stored-as _ 0 (i + 1) (size f) d d′ (rw same refl)
+      (rw same (omega (arith, field-long l pool f i (value-done .value) g (value-done .is)))) q
 
   -- An array is octets of the pool.
   module _ (n : ℕ) (is : n ≡ f .length) (h : 1 < n) where
     pub array-within : second l i + n ≤ length pool
-    unfolding valuePart
     array-within =
-        let d = room-done _ _ _ 0 k r in
-        let s = array-said l (length pool) f i (d .value) (lt-ltb 1 (f .length) (rw is at h)) (d .is) in
+        let s = array-said l (length pool) f i _ (lt-ltb 1 (f .length) (rw is at h)) (value-done .is) in
         omega (arith, s .0 .within, s .1, is)
 
-    array-same : valuePart l pool f i ≡ got (i + 1) (take n (drop (second l i) pool))
-    unfolding valuePart fieldOctets spanOf
-    array-same =
-        let d = room-done _ _ _ 0 k r in
-        let s = array-said l (length pool) f i (d .value) (lt-ltb 1 (f .length) (rw is at h)) (d .is) in
-        prints _ _ _ _ (d .is) ∙ rw (← (s .0 .is), s .1, is) refl
-
     pub array-open : ValueOpen (take n (drop (second l i) pool)) n
-    array-open = value-open _ n (span-long pool (second l i) n array-within) array-same
+    unfolding fieldOctets spanOf
+    array-open =
+        let s = array-said l (length pool) f i _ (lt-ltb 1 (f .length) (rw is at h)) (value-done .is) in
+        value-open _ n (span-long pool (second l i) n array-within) (rw (← (s .0 .is), s .1, is) refl)
 
-  module _ (h : f .length ≤ 1) (n : ℕ) (is : n ≡ typeAt (f .type) .width) where
-    number-same : valuePart l pool f i
-        ≡ got (i + 1) (fieldOctets pool f (if eqb (first l i) 1 then Null else Number (second l i)))
-    unfolding valuePart
-    number-same =
-        let d = room-done _ _ _ 0 k r in
-        let s = number-said l (length pool) f i (d .value) (le-ltb 1 (f .length) h) (d .is) in
-        prints _ _ _ _ (d .is) ∙ rw (s .is) refl
+  -- A number, or the type's null x.
+  pub number-open : f .length ≤ 1 → (n x : ℕ) → n ≡ typeAt (f .type) .width → x ≡ typeAt (f .type) .null
+      → ValueOpen (octetsOf n (numberOr l i x)) n
+  unfolding if_then_else_ fieldOctets
+  number-open h n x is e = value-open _ n (length-octets n _) (rw (← (said .is), is, e) (go (eqb (first l i) 0) refl))
+    where
+      said : NumberSaid l (length pool) f i (value-done .value)
+      said = number-said l (length pool) f i _ (le-ltb 1 (f .length) h) (value-done .is)
 
-    pub null-open : (x : ℕ) → x ≡ typeAt (f .type) .null → first l i ≡ 1 → ValueOpen (octetsOf n x) n
-    unfolding if_then_else_ fieldOctets
-    null-open x q e =
-        value-open _ n (length-octets n x) (rw (number-same, eq-eqb (first l i) 1 e, is, q) refl)
-
-    pub number-open : (first l i ≡ 1 → ⊥) → ValueOpen (octetsOf n (second l i)) n
-    unfolding if_then_else_ fieldOctets
-    number-open e = value-open _ n (length-octets n _) (rw (number-same, ne-eqb (first l i) 1 e, is) refl)
-
--- ---- whatever is printed
-
-prepend-then : (e : List ℕ) (x : Printed) (f : ℕ → Printed) → prepend e (andThen x f) ≡ andThen (prepend e x) f
-unfolding prepend andThen
-prepend-then e (got a xs) f = prepend-prepend e xs (f a)
-prepend-then e not f = refl
-
--- Three, one after the other.
-module _ {A B C D : Type 0} (e : A → ℕ) (p : A → List ℕ) (e₁ : B → ℕ) (p₁ : B → List ℕ) (e₂ : C → ℕ) (p₂ : C → List ℕ)
-    (e′ : D → ℕ) (p′ : D → List ℕ) (j : A → B → C → D) (ends : (a : A) (b : B) (c : C) → e′ (j a b c) ≡ e₂ c)
-    (tells : (a : A) (b : B) (c : C) → p′ (j a b c) ≡ p a ++ (p₁ b ++ p₂ c)) where
-  thrice : (r : Result A) (s : ℕ → Result B) (t : ℕ → Result C)
-      → printed e′ p′ (r >>= λ a. s (e a) >>= λ b. t (e₁ b) >>= λ c. done (j a b c))
-      ≡ andThen (printed e p r) (λ x. andThen (printed e₁ p₁ (s x)) (λ y. printed e₂ p₂ (t y)))
-  unfolding printed _>>=_ andThen
-  thrice (done a) s t = after e₁ p₁ e₂ p₂ e′ p′ (j a) (p a) (ends a) (tells a) (s (e a)) t
-  thrice (refused n q) s t = refl
+      go : (b : Bool) → eqb (first l i) 0 ≡ b
+          → fieldOctets pool f (if eqb (first l i) 1 then Null else Number (second l i))
+          ≡ octetsOf (typeAt (f .type) .width) (if b then second l i else typeAt (f .type) .null)
+      go true z = rw (eqb-true (first l i) 0 z) refl
+      go false z = rw (not-zero l i (said .kind) (eqb-false (first l i) 0 z)) refl
 
 -- ---- fields in a row
 
+-- Beside the fields at f stands at t what is worked out of them.
+abbrev pub TableAt : List ℕ → ℕ → ℕ → ℕ → Type 0
+TableAt p n f t = (i : ℕ) → i < n → Derived p (t + 5 * i) (fieldAt p (f + 6 * i))
+
+module _ (p : List ℕ) (n f t : ℕ) (h : 0 < n) where
+  pub table-first : TableAt p n f t → Derived p t (fieldAt p f)
+  table-first d =
+      let a : t + 5 * 0 ≡ t = omega arith in
+      let b : f + 6 * 0 ≡ f = omega arith in
+      rw (a, b) at (d 0 h)
+
+  pub table-rest : TableAt p n f t → TableAt p (n - 1) (f + 6) (t + 5)
+  table-rest d i k =
+      let a : t + 5 + 5 * i ≡ t + 5 * (i + 1) = omega arith in
+      let b : f + 6 + 6 * i ≡ f + 6 * (i + 1) = omega arith in
+      rw (a, b) (d (i + 1) (omega arith))
+
 -- The first of good fields, and the others.
-pub good-step : (b : List ℕ) (len e k w : ℕ) → 0 < k → fieldsGood len e (parseFields b k w) ≡ true
-    → FieldGood len e (fieldAt b w) (parseFields b (k - 1) (w + 6))
+pub good-step : (p : List ℕ) (len e n f : ℕ) → 0 < n → fieldsGood len e (parseFields p n f) ≡ true
+    → FieldGood len e (fieldAt p f) (parseFields p (n - 1) (f + 6))
 unfolding parseFields
-good-step b len e zero w h g = absurd (omega arith)
-good-step b len e (suc k) w h g =
-    let q : suc k - 1 ≡ k = omega arith in
-    rw q (field-good len e (fieldAt b w) (parseFields b k (w + 6)) g)
+good-step p len e zero f h g = absurd (omega arith)
+good-step p len e (suc n) f h g =
+    let q : suc n - 1 ≡ n = omega arith in
+    rw q (field-good len e (fieldAt p f) (parseFields p n (f + 6)) g)
 
 module _ (l pool : List ℕ) where
-  fields-cons : (n at : ℕ) (f : Field) (fs : List Field) (i : ℕ)
-      → fieldsPart l pool n at (f ∷ fs) i
-      ≡ andThen (fieldPart l pool (f .offset - at) f i) (fieldsPart l pool n (end f) fs)
-  unfolding fieldsPart fieldPart valuePart judgeFields blockOctets
-  fields-cons n at f fs i =
-      let q : suc i ≡ i + 1 = omega arith in
-      rw q (after (λ a. i + 1) (fieldOctets pool f) (λ r. r .1) (λ r. blockOctets pool n (end f) fs (r .0)) _ _ _
-      (replicate (f .offset - at) 0) (λ a r. refl) (λ a r. refl) _ (judgeFields l (length pool) fs)
-      ∙ prepend-then _ _ _)
+  pub fields-step : (p : List ℕ) (len at n f i : ℕ) → 0 < n
+      → fieldsPart l pool len at (parseFields p n f) i
+      ≡ prepend (replicate (word p (f + 3) - at) 0) (andThen (valuePart l pool (fieldAt p f) i)
+      (fieldsPart l pool len (end (fieldAt p f)) (parseFields p (n - 1) (f + 6))))
+  unfolding parseFields fieldsPart
+  fields-step p len at zero f i h = absurd (omega arith)
+  fields-step p len at (suc n) f i h =
+      let q : suc n - 1 ≡ n = omega arith in
+      rw q refl
 
-  pub fields-step : (b : List ℕ) (n at k w i : ℕ) → 0 < k
-      → fieldsPart l pool n at (parseFields b k w) i
-      ≡ andThen (fieldPart l pool (word b (w + 3) - at) (fieldAt b w) i)
-      (fieldsPart l pool n (end (fieldAt b w)) (parseFields b (k - 1) (w + 6)))
-  unfolding parseFields
-  fields-step b n at zero w i h = absurd (omega arith)
-  fields-step b n at (suc k) w i h =
-      let q : suc k - 1 ≡ k = omega arith in
-      rw q (fields-cons n at (fieldAt b w) (parseFields b k (w + 6)) i)
+  pub fields-end : (p : List ℕ) (len at n f i : ℕ) → n ≤ 0
+      → fieldsPart l pool len at (parseFields p n f) i ≡ prepend (replicate (len - at) 0) (got i [])
+  unfolding parseFields fieldsPart prepend
+  fields-end p len at zero f i h = rw append-nil refl
+  fields-end p len at (suc n) f i h = absurd (omega arith)
 
-  pub fields-end : (b : List ℕ) (n at k w i : ℕ) → k ≤ 0
-      → fieldsPart l pool n at (parseFields b k w) i ≡ got i (replicate (n - at) 0)
-  unfolding fieldsPart parseFields judgeFields blockOctets printed
-  fields-end b n at zero w i h = refl
-  fields-end b n at (suc k) w i h = absurd (omega arith)
+  -- ---- data
 
-  -- After the padding.
-  module _ (pad : ℕ) (f : Field) (i : ℕ) where
-    pub field-going : (d d′ : List ℕ) → d′ ≡ sets d 0 (replicate pad 0)
-        → Going (fieldPart l pool pad f i) (valuePart l pool f i) 0 d pad d′
-    unfolding fieldPart
-    field-going d d′ q = going-from _ _ (replicate pad 0) pad d d′ refl (sym (length-replicate {A = ℕ} pad 0)) q
-
-    pub pad-fits : (k : ℕ) → Room (fieldPart l pool pad f i) 0 k → pad ≤ k
-    unfolding fieldPart
-    pad-fits k r = omega (arith, room-put (replicate pad 0) _ 0 k r, length-replicate {A = ℕ} pad 0)
-
-    padded-long : (k : ℕ) → lengthGood f ≡ true → Room (fieldPart l pool pad f i) 0 k
-        → length (numbersOf (fieldPart l pool pad f i)) ≡ pad + size f
-    unfolding fieldPart valuePart
-    padded-long k g r = go (judgeField l (length pool) f i) refl r
-      where
-        zeros : List ℕ
-        zeros = replicate pad 0
-
-        go : (x : Result Answer) → judgeField l (length pool) f i ≡ x
-            → Room (prepend zeros (printed (λ a. i + 1) (fieldOctets pool f) x)) 0 k
-            → length (numbersOf (prepend zeros (printed (λ a. i + 1) (fieldOctets pool f) x))) ≡ pad + size f
-        go (done a) e r =
-            unfold prepend printed numbersOf in
-            rw (length-append zeros (fieldOctets pool f a), length-replicate {A = ℕ} pad 0, field-long l pool f i a g e)
-            refl
-        go (refused n p) e r =
-            absurd (let z : _≡_ {A = ℕ} 0 1 = unfold prepend printed endOf numbersOf in cc (r .whole) in omega arith)
-
-  pub field-there : (pad : ℕ) (f : Field) (i n k : ℕ) → Room (fieldPart l pool pad f i) n k → i < length l / 3
-  unfolding fieldPart
-  field-there pad f i n k r = value-there l pool f i _ (room-start (room-rest (replicate pad 0) _ n k r))
-
-  -- A field that starts at its offset ends at its end.
-  pub field-ends : (n at : ℕ) (f : Field) (fs : List Field) (i k : ℕ) → FieldGood n at f fs
-      → Room (fieldPart l pool (f .offset - at) f i) 0 k → (d : List ℕ) (j r : ℕ) (e : List ℕ)
-      → Stored (fieldPart l pool (f .offset - at) f i) 0 d j r e → at + r ≡ end f
-  field-ends n at f fs i k g room d j r e s =
-      omega (arith, s .taken, g .placed, padded-long (f .offset - at) f i k (g .length) room)
-
--- ---- data
-
-module _ (l pool : List ℕ) where
-  -- A data, and a room of k octets for it.
-  pub record DataOpen (i k : ℕ) : Type 0 where
-    pub there : i < length l / 3
-    pub room : 2 ≤ k
-    pub within : second l i + third l i ≤ length pool
-    pub long : length (take (third l i) (drop (second l i) pool)) ≡ third l i
-    pub same : dataPart l pool i
-        ≡ prepend (octetsOf 2 (third l i)) (got (i + 1) (take (third l i) (drop (second l i) pool)))
-
-  data-done : (i k : ℕ) → Room (dataPart l pool i) 0 k → Done (judgeData l (length pool) i)
-  unfolding dataPart
-  data-done i k r = room-done _ _ _ 0 k r
+  abbrev spanAt : ℕ → List ℕ
+  spanAt i = take (third l i) (drop (second l i) pool)
 
   data-same : (i : ℕ) (a : Answer) → judgeData l (length pool) i ≡ done a → Octets (second l i) (third l i) ≡ a
-      → dataPart l pool i ≡ prepend (octetsOf 2 (third l i)) (got (i + 1) (take (third l i) (drop (second l i) pool)))
+      → dataPart l pool i ≡ prepend (octetsOf 2 (third l i)) (got (i + 1) (spanAt i))
   unfolding dataPart spanOf prepend
   data-same i a e is = prints _ _ _ _ e ∙ rw (← is) refl
 
-  pub data-open : (i k : ℕ) → Room (dataPart l pool i) 0 k → DataOpen i k
-  data-open i k r =
-      let d = data-done i k r in
+  data-done : (i n k : ℕ) → Room (dataPart l pool i) n k → Done (judgeData l (length pool) i)
+  unfolding dataPart
+  data-done i n k r = room-done _ _ _ n k r
+
+  -- The first of n data, and a room of k octets that is taken up to `at`.
+  pub record DataOpen (n i at k : ℕ) : Type 0 where
+    pub there : i < length l / 3
+    pub room : at + 2 ≤ k
+    pub within : second l i + third l i ≤ length pool
+    pub long : length (spanAt i) ≡ third l i
+    pub same : datasPart l pool n i
+        ≡ prepend (octetsOf 2 (third l i)) (andThen (got (i + 1) (spanAt i)) (datasPart l pool (n - 1)))
+
+  pub data-open : (n i at k : ℕ) → 0 < n → Room (datasPart l pool n i) at k → DataOpen n i at k
+  unfolding datasPart
+  data-open zero i at k h r = absurd (omega arith)
+  data-open (suc n) i at k h r =
+      let q : suc n - 1 ≡ n = omega arith in
+      let d = data-done i at k (room-first _ _ at k r) in
       let s = data-said l (length pool) i (d .value) (d .is) .0 in
-      let same = data-same i (d .value) (d .is) (s .is) in
+      let e = data-same i (d .value) (d .is) (s .is) in
+      let same : datasPart l pool (suc n) i ≡ prepend (octetsOf 2 (third l i)) (andThen (got (i + 1) (spanAt i))
+      (datasPart l pool n)) = rw e (prepend-then _ _ _) in
       record {
-        there = judging.octets-there l i (s .kind);
-        room = omega (arith, room-put (octetsOf 2 (third l i)) _ 0 k (rw same at r), length-octets 2 (third l i));
+        there = there-is l i _ (s .kind);
+        room = omega (arith, room-put (octetsOf 2 (third l i)) _ at k (rw same at r), length-octets 2 (third l i));
         within = s .within;
         long = span-long pool (second l i) (third l i) (s .within);
-        same = same;
+        same = rw q same;
       }
 
-  pub data-there : (i n k : ℕ) → Room (dataPart l pool i) n k → i < length l / 3
-  data-there i n k r = data-open i _ (room-start r) .there
+  pub datas-end : (n i : ℕ) → n ≤ 0 → datasPart l pool n i ≡ got i []
+  unfolding datasPart
+  datas-end zero i h = refl
+  datas-end (suc n) i h = absurd (omega arith)
 
-  pub datas-step : (b : List ℕ) (k d i : ℕ) → 0 < k
-      → datasPart l pool (parseDatas b k d) i ≡ andThen (dataPart l pool i) (datasPart l pool (parseDatas b (k - 1)
-      (d + 2)))
-  unfolding datasPart dataPart dataOctets
-  datas-step b k d i h =
-      rw (judging.datas-step l (length pool) b k d i h)
-      (after (λ a. i + 1) (λ a. octetsOf 2 (spanOf a .1) ++ spanOctets pool a) (λ r. r .1) (λ r. dataOctets pool
-      (r .0)) _ _
-      _ [] (λ a r. refl) (λ a r. sym (append-assoc (octetsOf 2 (spanOf a .1)) (spanOctets pool a) (dataOctets pool
-      (r .0))))
-      _ (judgeDatas l (length pool) (parseDatas b (k - 1) (d + 2)))
-      ∙ sym (prepend-nil _))
+  -- ---- entries
 
-  pub datas-end : (b : List ℕ) (k d i : ℕ) → k ≤ 0 → datasPart l pool (parseDatas b k d) i ≡ got i []
-  unfolding datasPart parseDatas judgeDatas dataOctets printed
-  datas-end b zero d i h = refl
-  datas-end b (suc k) d i h = absurd (omega arith)
+  module _ (s : Shape) (row : ℕ → Printed) where
+    pub entries-step : (k i : ℕ) → 0 < k → entriesPart l pool s row k i
+        ≡ andThen (fieldsPart l pool (s .length) 0 (s .fields) i)
+        (λ j. andThen (row j)
+        (λ d. andThen (datasPart l pool (length (s .datas)) d) (entriesPart l pool s row (k - 1))))
+    unfolding entriesPart
+    entries-step zero i h = absurd (omega arith)
+    entries-step (suc k) i h =
+        let q : suc k - 1 ≡ k = omega arith in
+        rw q refl
 
--- ---- blocks, entries, groups
+    pub entries-end : (k i : ℕ) → k ≤ 0 → entriesPart l pool s row k i ≡ got i []
+    unfolding entriesPart
+    entries-end zero i h = refl
+    entries-end (suc k) i h = absurd (omega arith)
 
-module _ (l pool b : List ℕ) (depth : ℕ) where
-  pub block-open : (w i : ℕ) → blockPart l pool b depth w i
-      ≡ andThen (fieldsPart l pool (word b w) 0 (shapeAt b w .fields) i)
-      (λ j. andThen (groupsPart l pool (shapeAt b w) (innerAt b depth w) j) (datasPart l pool (shapeAt b w .datas)))
-  unfolding blockPart fieldsPart groupsPart datasPart judgeBlock
-  block-open w i =
-      thrice (λ r. r .1) _ (λ r. r .1) _ (λ r. r .1) _ _ _ _ (λ a g d. refl) (λ a g d. refl) _
-      (judgeGroups l (length pool) (innerAt b depth w)) (judgeDatas l (length pool) (shapeAt b w .datas))
+    -- No groups and no data write nothing.
+    pub plain-rest : (k j : ℕ) → row j ≡ got j [] → length (s .datas) ≤ 0
+        → andThen (row j) (λ d. andThen (datasPart l pool (length (s .datas)) d) (entriesPart l pool s row k))
+        ≡ entriesPart l pool s row k j
+    plain-rest k j g d =
+        rw g (then-none j _ ∙ rw (datas-end (length (s .datas)) j d) (then-none j _))
 
-  pub entries-step : (w k i : ℕ) → 0 < k
-      → entriesPart l pool b depth w k i ≡ andThen (blockPart l pool b depth w i) (entriesPart l pool b depth w (k - 1))
-  unfolding entriesPart blockPart rowOctets
-  entries-step w k i h =
-      rw (judging.entries-step l (length pool) _ k i h)
-      (after _ _ _ _ _ _ _ [] (λ e r. refl) (λ e r. refl) _ _ ∙ sym (prepend-nil _))
+  -- ---- groups in a row
 
-  pub entries-end : (w k i : ℕ) → k ≤ 0 → entriesPart l pool b depth w k i ≡ got i []
-  unfolding entriesPart rowOctets printed
-  entries-end w k i h = rw (judging.no-entries l (length pool) _ k i h) refl
+  pub groups-end : (p : List ℕ) (depth n a i : ℕ) → n ≤ 0 → groupsPart l pool (groupsAt p depth n a) i ≡ got i []
+  unfolding groupsPart
+  groups-end p depth n a i h = rw (no-groups-at p depth n a h) refl
 
-  abbrev dimension : ℕ → ℕ → List ℕ
-  dimension w i = numbers16 (word b (w + 2) ∷ second l i ∷ [])
+  -- gs is a group with the block s and the groups `inner`, and then `rest`.
+  module _ (gs : Groups) (id since : ℕ) (s : Shape) (inner rest : Groups) (is : gs ≡ more id since s inner rest)
+      (i at k : ℕ) where
+    abbrev pub dimensionIs : List ℕ
+    dimensionIs = numbers16 (s .length ∷ second l i ∷ [])
 
-  -- A group, and a room of k octets for it.
-  pub record GroupOpen (w i k : ℕ) : Type 0 where
-    pub there : i < length l / 3
-    pub room : 4 ≤ k
-    pub same : groupPart l pool b depth w i
-        ≡ prepend (dimension w i) (entriesPart l pool b depth (w + 2) (second l i) (i + 1))
+    -- It comes next, in a room of k octets that is taken up to `at`.
+    pub record GroupOpen : Type 0 where
+      pub there : i < length l / 3
+      pub room : at + 4 ≤ k
+      pub same : groupsPart l pool gs i
+          ≡ prepend dimensionIs
+          (andThen (entriesPart l pool s (groupsPart l pool inner) (second l i) (i + 1)) (groupsPart l pool rest))
 
-  group-same : (w i : ℕ) → isGroup l i ≡ true → second l i < null16
-      → groupPart l pool b depth w i
-      ≡ prepend (dimension w i) (entriesPart l pool b depth (w + 2) (second l i) (i + 1))
-  unfolding groupPart entriesPart entriesIn
-  group-same w i is few =
-      rw (judging.group-is l (length pool) (shapeAt b (w + 2)) (innerAt b depth (w + 2)) _ i is few)
-      (mapped (λ r. r .1) _ _ _ _ (dimension w i) (λ r. refl) (λ r. refl) _)
+    group-good : Room (groupPart l pool s (groupsPart l pool inner) i) at k
+        → (isGroup l i and ltb (second l i) null16) ≡ true
+    unfolding groupPart if_then_else_ endOf numbersOf
+    group-good r = go (isGroup l i and ltb (second l i) null16) r
+      where
+        go : (b : Bool) → Room (if b then prepend dimensionIs (entriesPart l pool s (groupsPart l pool inner)
+            (second l i) (i + 1)) else not) at k → b ≡ true
+        go true r = refl
+        go false r = absurd (let z : _≡_ {A = ℕ} 0 1 = cc (r .whole) in omega arith)
 
-  group-said : (w i k : ℕ) → Room (groupPart l pool b depth w i) 0 k → (isGroup l i ≡ true) × (second l i < null16)
-  unfolding groupPart judgeGroup
-  group-said w i k r =
-      let p = inv-bind _ _ _ (room-done _ _ _ 0 k r .is) in
-      let q = inv-bind _ _ _ (p .next) in
-      (inv-must _ _ _ _ (p .first), ltb-true (second l i) null16 (inv-must _ _ _ _ (q .first)))
+    pub group-open : Room (groupsPart l pool gs i) at k → GroupOpen
+    unfolding groupsPart groupPart if_then_else_
+    group-open r =
+        let good = group-good (room-first _ _ at k (rw is at r)) in
+        let same : groupsPart l pool gs i ≡ prepend dimensionIs (andThen (entriesPart l pool s (groupsPart l pool inner)
+        (second l i) (i + 1)) (groupsPart l pool rest)) = rw (is, good) (prepend-then _ _ _) in
+        record {
+          there = there-is l i _ (and-left _ _ good);
+          room = omega (
+            arith,
+            room-put dimensionIs _ at k (rw same at r),
+            length-numbers (s .length ∷ second l i ∷ []),
+          );
+          same = same;
+        }
 
-  pub group-open : (w i k : ℕ) → Room (groupPart l pool b depth w i) 0 k → GroupOpen w i k
-  group-open w i k r =
-      let s = group-said w i k r in
-      let same = group-same w i (s .0) (s .1) in
-      record {
-        there = judging.group-there l i (s .0);
-        room = omega (
-          arith,
-          room-put (dimension w i) _ 0 k (rw same at r),
-          length-numbers (word b (w + 2) ∷ second l i ∷ []),
-        );
-        same = same;
-      }
+-- ---- counts
 
-  -- The dimension stands, and the entries are to come.
-  pub group-going : (w i k n : ℕ) (d d′ : List ℕ) → Room (groupPart l pool b depth w i) 0 k → n ≡ word b (w + 2)
-      → d′ ≡ sets d 0 (numbers16 (n ∷ second l i ∷ []))
-      → Going (groupPart l pool b depth w i) (entriesPart l pool b depth (w + 2) (second l i) (i + 1)) 0 d 4 d′
-  group-going w i k n d d′ r e q =
-      let four = length-numbers (word b (w + 2) ∷ second l i ∷ []) in
-      going-from _ _ (dimension w i) 4 d d′ (group-open w i k r .same) (omega (arith, four)) (rw e at q)
-
-module _ (l pool : List ℕ) (s : Shape) (b : List ℕ) (depth k g i : ℕ) where
-  pub row-end : k ≤ 0 → groupsPart l pool s (groupsAt b depth k g) i ≡ got i []
-  unfolding groupsPart judgeGroups rowOctets printed
-  row-end h = rw (no-groups-at b depth k g h) refl
-
-  pub row-step : (o : Opened b depth k g)
-      → groupsPart l pool s (groupsAt b depth k g) i
-      ≡ andThen (groupPart l pool b (depth - 1) g i)
-      (groupsPart l pool s (groupsAt b depth (k - 1) (groupsEnd b (depth - 1) (groupCount b (g + 2)) (groupsFrom b
-      (g + 2)))))
-  unfolding groupsPart groupPart rowOctets
-  row-step o =
-      rw (o .tree, judging.groups-step)
-      (after (λ x. x .2) _ (λ r. r .1) _ _ _ _ [] (λ x r. refl)
-      (λ x r. sym (append-assoc (numbers16 (word b (g + 2) ∷ entriesIn (x .0) ∷ [])) _ _)) _ _
-      ∙ sym (prepend-nil _))
-
--- ---- plain blocks
-
--- Where nothing follows it is all.
-then-none : (x : Printed) (f : ℕ → Printed) → ((j : ℕ) → f j ≡ got j []) → andThen x f ≡ x
-unfolding andThen prepend
-then-none (got a xs) f h = rw (h a, append-nil xs) refl
-then-none not f h = refl
-
-module _ (l pool b : List ℕ) (depth w : ℕ) (p : Plain b w) where
-  -- No groups and no data write nothing.
-  plain-rest : (j : ℕ)
-      → andThen (groupsPart l pool (shapeAt b w) (innerAt b depth w) j) (datasPart l pool (shapeAt b w .datas))
-      ≡ got j []
-  unfolding andThen prepend
-  plain-rest j =
-      rw (
-        row-end l pool (shapeAt b w) b depth (groupCount b w) (groupsFrom b w) j (omega (arith, p .noGroups)),
-        datas-end l pool b (dataCount b w) (datasFrom b w) j (omega (arith, p .noDatas)),
-      ) refl
-
-  -- The first entry is its fields and no more.
-  pub plain-step : (k i : ℕ) → 0 < k
-      → entriesPart l pool b depth w k i
-      ≡ andThen (fieldsPart l pool (word b w) 0 (shapeAt b w .fields) i) (entriesPart l pool b depth w (k - 1))
-  plain-step k i h =
-      rw (entries-step l pool b depth w k i h, block-open l pool b depth w i, then-none _ _ plain-rest) refl
-
-  -- It is all one how many levels are left.
-  pub plain-level : (k i : ℕ) → entriesPart l pool b depth w k i ≡ entriesPart l pool b 0 w k i
-  unfolding entriesPart
-  plain-level k i =
-      rw (
-        no-groups-at b depth (groupCount b w) (groupsFrom b w) (omega (arith, p .noGroups)),
-        no-groups-at b 0 (groupCount b w) (groupsFrom b w) (omega (arith, p .noGroups)),
-      ) refl
-
--- ---- a whole message
-
-module _ (l pool b : List ℕ) (h : Head) where
-  pub head-fits : (k : ℕ) → Room (messagePart l pool b h) 0 k → 12 ≤ k
-  unfolding messagePart
-  head-fits k r = omega (arith, room-put (numbers16 (headOf b h)) _ 0 k r, length-numbers (headOf b h))
-
-  -- The header stands, and the root is to come.
-  pub head-going : (d d′ : List ℕ) → d′ ≡ sets d 0 (numbers16 (headOf b h))
-      → Going (messagePart l pool b h) (blockPart l pool b 4 0 0) 0 d 12 d′
-  unfolding messagePart
-  head-going d d′ q = going-from _ _ (numbers16 (headOf b h)) 12 d d′ refl (omega (
-    arith,
-    length-numbers
-        (headOf b h),
-  )) q
+pub length-datas : (p : List ℕ) (n d : ℕ) → length (parseDatas p n d) ≡ n
+unfolding parseDatas
+length-datas p zero d = refl
+length-datas p (suc n) d = rw (length-datas p n (d + 2)) refl

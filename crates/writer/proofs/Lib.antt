@@ -1,2 +1,5 @@
-pub mod Lent
+pub mod Going
+pub mod Loops
+pub mod Way
 pub mod Laws
+pub mod Message

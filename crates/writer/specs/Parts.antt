@@ -1,73 +1,66 @@
--- What each part of a listing that was judged good writes: its octets, and the record after it. l is the listing, and b
--- the body's words.
+-- What each part of a listing that was judged good writes: its octets, and the record after it. l is the listing.
 use mathlib.Core.List.{List, [], _++_, _∷_}
-use Prim.Native.Nat.{ℕ, _+_}
+use Prim.Native.Nat.{ℕ, zero, suc, _+_, _-_, _≤_}
+use lib.Dec.{eqb, ltb}
 use lib.ListN.{length, replicate}
-use Rattle.layout.specs.Octets.{octetsOf}
-use Rattle.layout.specs.Book.{Data, Field, Groups, Shape}
-use Rattle.layout.specs.BookRules.{word}
-use Rattle.layout.specs.Writing.{blockOctets, dataOctets, entriesIn, fieldOctets, judgeData, judgeDatas, judgeField}
-use Rattle.layout.specs.Writing.{judgeFields, judgeGroups, numbers16, rowOctets, spanOctets, spanOf}
-use Rattle.templates.specs.Positions.{groupCount, dataCount, shapeAt}
-use Rattle.walk.specs.Walks.{innerAt}
-use Rattle.judges.specs.Judges.{blockAt, entriesAt, groupAt}
-use Rattle.store.specs.Prints.{Printed, prepend, printed}
-use Rattle.writer.specs.declared.Head.{Head}
+use Rattle.layout.specs.Result.{_and_, if_then_else_}
+use Rattle.layout.specs.Octets.{null16, octetsOf}
+use Rattle.layout.specs.Book.{Book, Field, Groups, Shape, Template, end, more, none}
+use Rattle.layout.specs.BookRules.{fieldAt}
+use Rattle.layout.specs.Writing.{fieldOctets, first, isGroup, judgeData, judgeField, judgeListing, messageOctets}
+use Rattle.layout.specs.Writing.{numbers16, second, spanOctets, spanOf}
+use Rattle.prepared.specs.Positions.{Derived, innerAt, shapeAt}
+use Rattle.writer.specs.Prints.{Printed, andThen, got, not, prepend, printed}
+
+-- The number of record i, or x where it is null.
+abbrev pub numberOr : List ℕ → ℕ → ℕ → ℕ
+numberOr l i x = if eqb (first l i) 0 then second l i else x
 
 module _ (l pool : List ℕ) where
-  -- A field from record i, and the same after `pad` zeros.
+  -- A field from record i.
   unfoldable pub valuePart : Field → ℕ → Printed
   valuePart f i = printed (λ a. i + 1) (fieldOctets pool f) (judgeField l (length pool) f i)
 
-  unfoldable pub fieldPart : ℕ → Field → ℕ → Printed
-  fieldPart pad f i = prepend (replicate pad 0) (valuePart f i)
-
-  -- Fields of a block of n octets, from its octet `at` on.
+  -- Fields of a block of n octets, from its octet `at` on: zeros before each one, and zeros up to the block's end.
   unfoldable pub fieldsPart : ℕ → ℕ → List Field → ℕ → Printed
-  fieldsPart n at fs i =
-      printed (λ r. r .1) (λ r. blockOctets pool n at fs (r .0)) (judgeFields l (length pool) fs i)
+  fieldsPart n at [] i = got i (replicate (n - at) 0)
+  fieldsPart n at (f ∷ fs) i =
+      prepend (replicate (f .offset - at) 0) (andThen (valuePart f i) (fieldsPart n (end f) fs))
 
   unfoldable pub dataPart : ℕ → Printed
   dataPart i =
       printed (λ a. i + 1) (λ a. octetsOf 2 (spanOf a .1) ++ spanOctets pool a) (judgeData l (length pool) i)
 
-  unfoldable pub datasPart : List Data → ℕ → Printed
-  datasPart ds i = printed (λ r. r .1) (λ r. dataOctets pool (r .0)) (judgeDatas l (length pool) ds i)
+  unfoldable pub datasPart : ℕ → ℕ → Printed
+  datasPart zero i = got i []
+  datasPart (suc n) i = andThen (dataPart i) (datasPart n)
 
-  -- The groups gs of a block s.
-  unfoldable pub groupsPart : Shape → Groups → ℕ → Printed
-  groupsPart s gs i = printed (λ r. r .1) (λ r. rowOctets pool s gs (r .0)) (judgeGroups l (length pool) gs i)
+  -- k entries of a block s, whose groups `row` writes.
+  unfoldable pub entriesPart : Shape → (ℕ → Printed) → ℕ → ℕ → Printed
+  entriesPart s row zero i = got i []
+  entriesPart s row (suc k) i =
+      andThen (fieldsPart (s .length) 0 (s .fields) i)
+      (λ j. andThen (row j) (λ d. andThen (datasPart (length (s .datas)) d) (entriesPart s row k)))
 
-  -- ---- at word positions
+  unfoldable pub groupPart : Shape → (ℕ → Printed) → ℕ → Printed
+  groupPart s row i =
+      if isGroup l i and ltb (second l i) null16 then prepend (numbers16 (s .length ∷ second l i ∷ [])) (entriesPart s
+      row (second l i) (i + 1)) else not
 
-  module _ (b : List ℕ) (depth w : ℕ) where
-    abbrev pub rowPart : ℕ → Printed
-    rowPart i = groupsPart (shapeAt b w) (innerAt b depth w) i
+  unfoldable pub groupsPart : Groups → ℕ → Printed
+  groupsPart none i = got i []
+  groupsPart (more id since s inner rest) i = andThen (groupPart s (groupsPart inner) i) (groupsPart rest)
 
-    unfoldable pub blockPart : ℕ → Printed
-    blockPart i =
-        printed (λ e. e .3)
-        (λ e. blockOctets pool (word b w) 0 (shapeAt b w .fields) (e .0)
-        ++ (rowOctets pool (shapeAt b w) (innerAt b depth w) (e .1) ++ dataOctets pool (e .2)))
-        (blockAt b depth w l (length pool) i)
+  -- k entries of the block at a.
+  abbrev pub entriesAt : List ℕ → ℕ → ℕ → ℕ → ℕ → Printed
+  entriesAt p depth a k i = entriesPart (shapeAt p a) (groupsPart (innerAt p depth a)) k i
 
-    unfoldable pub entriesPart : ℕ → ℕ → Printed
-    entriesPart k i =
-        printed (λ r. r .1) (λ r. rowOctets pool (shapeAt b w) (innerAt b depth w) (r .0))
-        (entriesAt b depth w l (length pool) k i)
+  -- The whole message.
+  unfoldable pub messagePart : Book → Template → Printed
+  messagePart b t = printed (λ r. 0) (messageOctets b t pool) (judgeListing l (length pool) t)
 
-    -- The group at word w.
-    unfoldable pub groupPart : ℕ → Printed
-    groupPart i =
-        printed (λ g. g .2)
-        (λ g. numbers16 (word b (w + 2) ∷ entriesIn (g .0) ∷ [])
-        ++ rowOctets pool (shapeAt b (w + 2)) (innerAt b depth (w + 2)) (g .1))
-        (groupAt b depth w l (length pool) i)
-
--- The header's six numbers.
-abbrev pub headOf : List ℕ → Head → List ℕ
-headOf b h = word b 0 ∷ h .id ∷ h .schema ∷ h .version ∷ groupCount b 0 ∷ dataCount b 0 ∷ []
-
--- The header and the root.
-unfoldable pub messagePart : List ℕ → List ℕ → List ℕ → Head → Printed
-messagePart l pool b h = prepend (numbers16 (headOf b h)) (blockPart l pool b 4 0 0)
+-- A field stands at f, and what is worked out of it at t.
+pub record FieldAt (p : List ℕ) (f t : ℕ) : Type 0 where
+  pub field : f + 6 ≤ length p
+  pub table : t + 5 ≤ length p
+  pub derived : Derived p t (fieldAt p f)

@@ -1,47 +1,24 @@
 // Writes the message that a listing gives which was judged before: it is good and the room has space, so nothing is
-// refused. Each element is written into the part of the room that follows the one before, from that part's start.
+// refused. The room is zeros all over, so padding is not stored. Each element is written into the part of the room that
+// follows the one before, from that part's start.
+use prepared::number;
 ghost use mathlib.Core.Path.{_≡_};
-ghost use mathlib.Core.Bool.{true};
 ghost use mathlib.Core.List.{[], _∷_};
-ghost use Prim.Native.Nat.{_+_, _/_, _<_, _≤_};
+ghost use Prim.Native.Nat.{_+_, _*_, _/_, _^_, _<_, _≤_};
 ghost use lib.ListN.{length, take, drop, replicate};
 ghost use lib.Seq.{sets};
-ghost use Rattle.layout.specs.Octets.{wordsOf};
-ghost use Rattle.layout.specs.BookRules.{fieldAt, shapeGood, word};
-ghost use Rattle.layout.specs.Writing.{numbers16};
-ghost use Rattle.templates.specs.Positions.{IsBlock, Plain, shapeAt};
-ghost use Rattle.walk.specs.Walks.{GoodBlock};
-ghost use Rattle.store.specs.Prints.{Room, Stored, numbersOf};
-ghost use Rattle.writer.specs.Parts.{blockPart, dataPart, datasPart, entriesPart, fieldPart, fieldsPart};
-ghost use Rattle.writer.specs.Parts.{groupPart, headOf, messagePart, rowPart, valuePart};
+ghost use Rattle.layout.specs.BookRules.{fieldAt, word};
+ghost use Rattle.layout.specs.Writing.{first, headerOf, numbers16, second};
+ghost use Rattle.prepared.specs.Books.{bookAt, templateAt};
+ghost use Rattle.prepared.specs.Positions.{BlockAt, IsBlock, IsRow, groupsAt, shapeAt};
+ghost use Rattle.writer.specs.Prints.{Ready, Room, Stored, numbersOf};
+ghost use Rattle.writer.specs.Parts.{FieldAt, datasPart, entriesAt, fieldsPart, groupsPart, messagePart};
+ghost use Rattle.writer.specs.Parts.{numberOr, valuePart};
 
 // Where the pass stands: the number of the next record, and how many octets of the lent part are taken.
 pub struct Cursor {
     pub record: usize,
     pub at: usize,
-}
-
-// What a message's header says of the book and the template: the template's id, the schema's id and its version.
-pub struct Head {
-    pub id: usize,
-    pub schema: usize,
-    pub version: usize,
-}
-
-// n octets of padding. The first is stored by itself: the compiler makes a call of the loop, and most padding is short.
-fn put_zeros(room: &mut [u8], n: usize)
-    requires { ⌜ n ≤ length (now room) ⌝ }
-    ensures { λ _. ⌜ now (room .exit) ≡ sets (now (room .entry)) 0 (replicate n 0) ⌝ }
-{
-    if n == 0 {
-        return;
-    }
-    room[0] = 0;
-    let mut i = 1;
-    while i < n {
-        room[i] = 0;
-        i = i + 1;
-    }
 }
 
 // The len octets of the pool from `start` on.
@@ -56,218 +33,106 @@ fn put_octets(room: &mut [u8], pool: &[u8], start: usize, len: usize)
     }
 }
 
-// The field at word w of the body, from record i: how many octets it takes.
+// n zeros: what a room has before a message is written into it.
+pub fn put_zeros(room: &mut [u8], n: usize)
+    requires { ⌜ n ≤ length (now room) ⌝ }
+    ensures { λ _. ⌜ now (room .exit) ≡ sets (now (room .entry)) 0 (replicate n 0) ⌝ }
+{
+    let mut i = 0;
+    while i < n {
+        room[i] = 0;
+        i = i + 1;
+    }
+}
+
+// The number to store for record i: its own, or the null of the type at t.
+fn number_for(p: &[u64], t: usize, listing: &[u64], i: usize) -> u64
+    requires { ⌜ (t + 5 ≤ length (now p)) × (i < length (now listing) / 3) ⌝ }
+    ensures { λ r. ⌜ r ≡ numberOr (now (listing .entry)) i (word (now (p .entry)) (t + 3)) ⌝ }
+{
+    if listing[3 * i] == 0 {
+        return listing[3 * i + 1];
+    }
+    p[t + 3]
+}
+
+// The field at f, whose table is at t, from record i.
 fn write_value(
-    body: &[u8],
-    w: usize,
+    p: &[u64],
+    f: usize,
+    t: usize,
     listing: &[u64],
     i: usize,
     pool: &[u8],
     room: &mut [u8],
-) -> usize
-    requires { ⌜ w + 6 ≤ length (now body) / 2 ⌝ }
-    requires { ⌜ Room (valuePart (now listing) (now pool) (fieldAt (wordsOf (now body)) w) i) 0 (length (now room)) ⌝ }
-    ensures { λ r. ⌜ Stored (valuePart (now (listing .entry)) (now (pool .entry)) (fieldAt (wordsOf (now (body
-        .entry))) w) i) 0 (now (room .entry)) (i + 1) r (now (room .exit)) ⌝ }
+)
+    requires { ⌜ FieldAt (now p) f t ⌝ }
+    requires { ⌜ Room (valuePart (now listing) (now pool) (fieldAt (now p) f) i) 0 (length (now room)) ⌝ }
+    ensures { λ _. ⌜ now (room .exit) ≡ sets (now (room .entry)) 0 (numbersOf (valuePart (now (listing .entry))
+        (now (pool .entry)) (fieldAt (now (p .entry)) f) i)) ⌝ }
 {
-    let len = book::word(body, w + 2);
+    let len = number(p, f + 2);
     if 1 < len {
         put_octets(room, pool, listing[3 * i + 1] as usize, len);
-        return len;
+        return;
     }
-    let t = book::word(body, w + 1);
-    let width = number_types::width_of(t);
-    if listing[3 * i] == 1 {
-        return number_types::store(room, 0, width, number_types::null_of(t));
-    }
-    number_types::store(room, 0, width, listing[3 * i + 1])
+    let x = number_for(p, t, listing, i);
+    number_types::store(room, 0, number(p, t + 4), x);
 }
 
-// The same after `pad` zeros.
-fn write_field(
-    body: &[u8],
-    w: usize,
+// The block at a without its groups and data, from record `start` on: the record after its fields. Each field is stored
+// at its offset, and the zeros between them stand already.
+fn write_fields(
+    p: &[u64],
+    a: usize,
     listing: &[u64],
-    i: usize,
+    start: usize,
     pool: &[u8],
-    pad: usize,
     room: &mut [u8],
 ) -> usize
-    requires { ⌜ w + 6 ≤ length (now body) / 2 ⌝ }
-    requires { ⌜ Room (fieldPart (now listing) (now pool) pad (fieldAt (wordsOf (now body)) w) i) 0 (length
-        (now room)) ⌝ }
-    ensures { λ r. ⌜ Stored (fieldPart (now (listing .entry)) (now (pool .entry)) pad (fieldAt (wordsOf (now (body
-        .entry))) w) i) 0 (now (room .entry)) (i + 1) r (now (room .exit)) ⌝ }
-{
-    put_zeros(room, pad);
-    pad + write_value(body, w, listing, i, pool, &mut room[pad..])
-}
-
-// The block at word w without its groups and data: its fields, with zeros before, between and after them.
-fn write_fields(
-    body: &[u8],
-    w: usize,
-    listing: &[u64],
-    start: usize,
-    pool: &[u8],
-    room: &mut [u8],
-) -> Cursor
-    requires { ⌜ IsBlock (wordsOf (now body)) w × (shapeGood (shapeAt (wordsOf (now body)) w) ≡ true) ⌝ }
-    requires { ⌜ Room (fieldsPart (now listing) (now pool) (word (wordsOf (now body)) w) 0 (shapeAt (wordsOf
-        (now body)) w .fields) start) 0 (length (now room)) ⌝ }
-    ensures { λ r. ⌜ Stored (fieldsPart (now (listing .entry)) (now (pool .entry)) (word (wordsOf (now (body
-        .entry))) w) 0 (shapeAt (wordsOf (now (body .entry))) w .fields) start) 0 (now (room .entry)) (r .record) (r
-        .at) (now (room .exit)) ⌝ }
-{
-    let mut left = book::word(body, w + 1);
-    let mut f = w + 4;
-    let mut i = start;
-    let mut at = 0;
-    while 0 < left {
-        let pad = book::word(body, f + 3) - at;
-        at = at + write_field(body, f, listing, i, pool, pad, &mut room[at..]);
-        f = f + 6;
-        i = i + 1;
-        left = left - 1;
-    }
-    let end = book::word(body, w);
-    put_zeros(&mut room[at..], end - at);
-    Cursor { record: i, at: end }
-}
-
-// One data, from record i: how many octets it takes.
-fn write_data(listing: &[u64], i: usize, pool: &[u8], room: &mut [u8]) -> usize
-    requires { ⌜ Room (dataPart (now listing) (now pool) i) 0 (length (now room)) ⌝ }
-    ensures { λ r. ⌜ Stored (dataPart (now (listing .entry)) (now (pool .entry)) i) 0 (now (room .entry)) (i + 1) r
+    requires { ⌜ IsBlock (now p) a ⌝ }
+    requires { ⌜ Ready (fieldsPart (now listing) (now pool) (word (now p) (a + 2)) 0 (shapeAt (now p) a .fields) start)
+        (now room) ⌝ }
+    ensures { λ r. ⌜ Stored (fieldsPart (now (listing .entry)) (now (pool .entry)) (word (now (p .entry)) (a + 2)) 0
+        (shapeAt (now (p .entry)) a .fields) start) 0 (now (room .entry)) r (word (now (p .entry)) (a + 2))
         (now (room .exit)) ⌝ }
 {
-    let len = listing[3 * i + 2];
-    octets::put2(room, 0, len);
-    put_octets(
-        &mut room[2..],
-        pool,
-        listing[3 * i + 1] as usize,
-        len as usize,
-    );
-    2 + len as usize
-}
-
-// As many data as the block at word w has.
-fn write_datas(
-    body: &[u8],
-    w: usize,
-    listing: &[u64],
-    start: usize,
-    pool: &[u8],
-    room: &mut [u8],
-) -> Cursor
-    requires { ⌜ IsBlock (wordsOf (now body)) w ⌝ }
-    requires { ⌜ Room (datasPart (now listing) (now pool) (shapeAt (wordsOf (now body)) w .datas) start) 0 (length
-        (now room)) ⌝ }
-    ensures { λ r. ⌜ Stored (datasPart (now (listing .entry)) (now (pool .entry)) (shapeAt (wordsOf (now (body
-        .entry))) w .datas) start) 0 (now (room .entry)) (r .record) (r .at) (now (room .exit)) ⌝ }
-{
-    let mut left = book::word(body, w + 3);
+    let mut left = number(p, a + 3);
+    let mut f = a + 12;
+    let mut t = number(p, a + 11);
     let mut i = start;
-    let mut at = 0;
     while 0 < left {
-        at = at + write_data(listing, i, pool, &mut room[at..]);
+        let at = number(p, f + 3);
+        write_value(p, f, t, listing, i, pool, &mut room[at..]);
+        f = f + 6;
+        t = t + 5;
         i = i + 1;
         left = left - 1;
     }
-    Cursor { record: i, at }
+    i
 }
 
-// The block at word w, `depth` more levels being left: its fields, its groups, its data.
-fn write_block(
-    body: &[u8],
-    w: usize,
-    depth: usize,
-    listing: &[u64],
-    i: usize,
-    pool: &[u8],
-    room: &mut [u8],
-) -> Cursor
-    requires { ⌜ GoodBlock (wordsOf (now body)) depth w ⌝ }
-    requires { ⌜ Room (blockPart (now listing) (now pool) (wordsOf (now body)) depth w i) 0 (length (now room)) ⌝ }
-    ensures { λ r. ⌜ Stored (blockPart (now (listing .entry)) (now (pool .entry)) (wordsOf (now (body .entry)))
-        depth w i) 0 (now (room .entry)) (r .record) (r .at) (now (room .exit)) ⌝ }
+// n data, from record `start` on.
+fn write_datas(n: usize, listing: &[u64], start: usize, pool: &[u8], room: &mut [u8]) -> Cursor
+    requires { ⌜ Ready (datasPart (now listing) (now pool) n start) (now room) ⌝ }
+    ensures { λ r. ⌜ Stored (datasPart (now (listing .entry)) (now (pool .entry)) n start) 0 (now (room .entry))
+        (r .record) (r .at) (now (room .exit)) ⌝ }
 {
-    let fields = write_fields(body, w, listing, i, pool, room);
-    let from = fields.at;
-    let groups = write_groups(
-        body,
-        w,
-        depth,
-        listing,
-        fields.record,
-        pool,
-        &mut room[from..],
-    );
-    let to = from + groups.at;
-    let datas = write_datas(body, w, listing, groups.record, pool, &mut room[to..]);
-    Cursor {
-        record: datas.record,
-        at: to + datas.at,
-    }
-}
-
-// k entries of the block at word w, which has neither groups nor data: no level is left in it.
-fn write_plain(
-    body: &[u8],
-    w: usize,
-    k: u64,
-    listing: &[u64],
-    start: usize,
-    pool: &[u8],
-    room: &mut [u8],
-) -> Cursor
-    requires { ⌜ IsBlock (wordsOf (now body)) w × (shapeGood (shapeAt (wordsOf (now body)) w) ≡ true) ⌝ }
-    requires { ⌜ Plain (wordsOf (now body)) w ⌝ }
-    requires { ⌜ Room (entriesPart (now listing) (now pool) (wordsOf (now body)) 0 w k start) 0 (length (now room)) ⌝ }
-    ensures { λ r. ⌜ Stored (entriesPart (now (listing .entry)) (now (pool .entry)) (wordsOf (now (body .entry)))
-        0 w k start) 0 (now (room .entry)) (r .record) (r .at) (now (room .exit)) ⌝ }
-{
-    let mut due = k;
+    let mut left = n;
     let mut i = start;
     let mut at = 0;
-    while 0 < due {
-        let entry = write_fields(body, w, listing, i, pool, &mut room[at..]);
-        i = entry.record;
-        at = at + entry.at;
-        due = due - 1;
-    }
-    Cursor { record: i, at }
-}
-
-// k entries of the block at word w.
-fn write_entries(
-    body: &[u8],
-    w: usize,
-    depth: usize,
-    k: u64,
-    listing: &[u64],
-    start: usize,
-    pool: &[u8],
-    room: &mut [u8],
-) -> Cursor
-    requires { ⌜ GoodBlock (wordsOf (now body)) depth w ⌝ }
-    requires { ⌜ Room (entriesPart (now listing) (now pool) (wordsOf (now body)) depth w k start) 0 (length
-        (now room)) ⌝ }
-    ensures { λ r. ⌜ Stored (entriesPart (now (listing .entry)) (now (pool .entry)) (wordsOf (now (body .entry)))
-        depth w k start) 0 (now (room .entry)) (r .record) (r .at) (now (room .exit)) ⌝ }
-{
-    if blocks::is_plain(body, w) {
-        return write_plain(body, w, k, listing, start, pool, room);
-    }
-    let mut due = k;
-    let mut i = start;
-    let mut at = 0;
-    while 0 < due {
-        let entry = write_block(body, w, depth, listing, i, pool, &mut room[at..]);
-        i = entry.record;
-        at = at + entry.at;
-        due = due - 1;
+    while 0 < left {
+        let len = listing[3 * i + 2];
+        octets::put2(room, at, len);
+        put_octets(
+            &mut room[at + 2..],
+            pool,
+            listing[3 * i + 1] as usize,
+            len as usize,
+        );
+        at = at + 2 + len as usize;
+        i = i + 1;
+        left = left - 1;
     }
     Cursor { record: i, at }
 }
@@ -281,84 +146,129 @@ fn put_two(room: &mut [u8], at: usize, x: u64, y: u64)
     octets::put2(room, at + 2, y);
 }
 
-// The group at word w, `depth` more levels being left inside it: its dimension and its entries.
-fn write_group(
-    body: &[u8],
-    w: usize,
-    depth: usize,
-    listing: &[u64],
-    i: usize,
-    pool: &[u8],
-    room: &mut [u8],
-) -> Cursor
-    requires { ⌜ GoodBlock (wordsOf (now body)) depth (w + 2) ⌝ }
-    requires { ⌜ Room (groupPart (now listing) (now pool) (wordsOf (now body)) depth w i) 0 (length (now room)) ⌝ }
-    ensures { λ r. ⌜ Stored (groupPart (now (listing .entry)) (now (pool .entry)) (wordsOf (now (body .entry)))
-        depth w i) 0 (now (room .entry)) (r .record) (r .at) (now (room .exit)) ⌝ }
+// The dimension of the group at a, from record i: how many entries it has.
+fn put_dimension(p: &[u64], a: usize, listing: &[u64], i: usize, room: &mut [u8], at: usize) -> u64
+    requires { ⌜ (a + 2 < length (now p)) × (i < length (now listing) / 3) × (at + 4 ≤ length (now room)) ⌝ }
+    ensures { λ r. ⌜ (r ≡ second (now (listing .entry)) i) × (i + 1 < 2 ^ 64) ⌝ }
+    ensures { λ _. ⌜ now (room .exit) ≡ sets (now (room .entry)) at (numbers16 (word (now (p .entry)) (a + 2)
+        ∷ second (now (listing .entry)) i ∷ [])) ⌝ }
 {
     let k = listing[3 * i + 1];
-    put_two(room, 0, book::word(body, w + 2) as u64, k);
-    let entries = write_entries(body, w + 2, depth, k, listing, i + 1, pool, &mut room[4..]);
-    Cursor {
-        record: entries.record,
-        at: 4 + entries.at,
-    }
+    put_two(room, at, p[a + 2], k);
+    k
 }
 
-// The groups of the block at word w, `depth` more levels being left.
-fn write_groups(
-    body: &[u8],
-    w: usize,
+// The header of a message of the template at a: six numbers.
+fn put_header(p: &[u64], a: usize, room: &mut [u8])
+    requires { ⌜ BlockAt (now p) 4 a × (12 ≤ length (now room)) ⌝ }
+    ensures { λ _. ⌜ now (room .exit) ≡ sets (now (room .entry)) 0 (numbers16 (headerOf (bookAt (now (p .entry)))
+        (templateAt (now (p .entry)) a))) ⌝ }
+{
+    put_two(room, 0, p[a + 2], p[a]);
+    put_two(room, 4, p[0], p[1]);
+    put_two(room, 8, p[a + 4], p[a + 5]);
+}
+
+// k entries of the block at a, `depth` more levels being left.
+fn write_entries(
+    p: &&[u64],
+    a: usize,
     depth: usize,
-    listing: &[u64],
+    k: u64,
+    listing: &&[u64],
     start: usize,
-    pool: &[u8],
+    pool: &&[u8],
     room: &mut [u8],
 ) -> Cursor
-    requires { ⌜ GoodBlock (wordsOf (now body)) depth w ⌝ }
-    requires { ⌜ Room (rowPart (now listing) (now pool) (wordsOf (now body)) depth w start) 0 (length (now room)) ⌝ }
-    ensures { λ r. ⌜ Stored (rowPart (now (listing .entry)) (now (pool .entry)) (wordsOf (now (body .entry))) depth
-        w start) 0 (now (room .entry)) (r .record) (r .at) (now (room .exit)) ⌝ }
+    requires { ⌜ BlockAt (now (now p)) depth a ⌝ }
+    requires { ⌜ Ready (entriesAt (now (now listing)) (now (now pool)) (now (now p)) depth a k start) (now room) ⌝ }
+    ensures { λ r. ⌜ Stored (entriesAt (now (now (listing .entry))) (now (now (pool .entry))) (now (now (p .entry)))
+        depth a k start) 0 (now (room .entry)) (r .record) (r .at) (now (room .exit)) ⌝ }
 {
-    let mut g = blocks::groups_from(body, w);
-    let mut left = book::word(body, w + 2);
+    let s = *p;
+    let t = *listing;
+    let o = *pool;
+    let l = number(s, a + 2);
+    let mut due = k;
     let mut i = start;
     let mut at = 0;
-    while 0 < left {
-        blocks::open_row(body, g, left, depth);
-        let group = write_group(body, g, depth - 1, listing, i, pool, &mut room[at..]);
-        i = group.record;
-        at = at + group.at;
-        let inner = blocks::groups_from(body, g + 2);
-        g = blocks::skip_row(body, inner, book::word(body, g + 4), depth - 1);
-        left = left - 1;
+    while 0 < due {
+        due = due - 1;
+        i = write_fields(s, a, t, i, o, &mut room[at..]);
+        at = at + l;
+        if number(s, a + 7) == 0 {
+            continue;
+        }
+        let row = write_row(
+            p,
+            number(s, a + 9),
+            number(s, a + 4),
+            depth,
+            listing,
+            i,
+            pool,
+            &mut room[at..],
+        );
+        at = at + row.at;
+        let datas = write_datas(number(s, a + 5), t, row.record, o, &mut room[at..]);
+        at = at + datas.at;
+        i = datas.record;
     }
     Cursor { record: i, at }
 }
 
-// The header: six numbers.
-fn put_header(body: &[u8], head: Head, room: &mut [u8])
-    requires { ⌜ IsBlock (wordsOf (now body)) 0 × (12 ≤ length (now room)) ⌝ }
-    ensures { λ _. ⌜ now (room .exit) ≡ sets (now (room .entry)) 0 (numbers16 (headOf (wordsOf (now (body .entry)))
-        head)) ⌝ }
+// The n groups in a row at `first`, `depth` more levels being left.
+fn write_row(
+    p: &&[u64],
+    first: usize,
+    n: usize,
+    depth: usize,
+    listing: &&[u64],
+    start: usize,
+    pool: &&[u8],
+    room: &mut [u8],
+) -> Cursor
+    requires { ⌜ IsRow (now (now p)) depth n first ⌝ }
+    requires { ⌜ Ready (groupsPart (now (now listing)) (now (now pool)) (groupsAt (now (now p)) depth n first) start)
+        (now room) ⌝ }
+    ensures { λ r. ⌜ Stored (groupsPart (now (now (listing .entry))) (now (now (pool .entry))) (groupsAt (now (now (p
+        .entry))) depth n first) start) 0 (now (room .entry)) (r .record) (r .at) (now (room .exit)) ⌝ }
 {
-    put_two(room, 0, book::word(body, 0) as u64, head.id as u64);
-    put_two(room, 4, head.schema as u64, head.version as u64);
-    put_two(
-        room,
-        8,
-        book::word(body, 2) as u64,
-        book::word(body, 3) as u64,
-    );
+    let s = *p;
+    let t = *listing;
+    let mut a = first;
+    let mut left = n;
+    let mut i = start;
+    let mut at = 0;
+    while 0 < left {
+        prepared::open_row(s, a, left, depth);
+        left = left - 1;
+        let k = put_dimension(s, a, t, i, room, at);
+        let entries = write_entries(
+            p,
+            a,
+            depth - 1,
+            k,
+            listing,
+            i + 1,
+            pool,
+            &mut room[at + 4..],
+        );
+        i = entries.record;
+        at = at + 4 + entries.at;
+        a = number(s, a + 8);
+    }
+    Cursor { record: i, at }
 }
 
-// The message of a listing that was judged, by its template's body.
-pub fn write_message(body: &[u8], head: Head, listing: &[u64], pool: &[u8], room: &mut [u8])
-    requires { ⌜ GoodBlock (wordsOf (now body)) 4 0 ⌝ }
-    requires { ⌜ Room (messagePart (now listing) (now pool) (wordsOf (now body)) head) 0 (length (now room)) ⌝ }
-    ensures { λ _. ⌜ now (room .exit) ≡ sets (now (room .entry)) 0 (numbersOf (messagePart (now (listing .entry))
-        (now (pool .entry)) (wordsOf (now (body .entry))) head)) ⌝ }
+// The message of a listing that was judged, by the template at a.
+pub fn write_message(p: &&[u64], a: usize, listing: &&[u64], pool: &&[u8], room: &mut [u8])
+    requires { ⌜ BlockAt (now (now p)) 4 a ⌝ }
+    requires { ⌜ Ready (messagePart (now (now listing)) (now (now pool)) (bookAt (now (now p))) (templateAt
+        (now (now p)) a)) (now room) ⌝ }
+    ensures { λ _. ⌜ now (room .exit) ≡ sets (now (room .entry)) 0 (numbersOf (messagePart (now (now (listing
+        .entry))) (now (now (pool .entry))) (bookAt (now (now (p .entry)))) (templateAt (now (now (p .entry))) a))) ⌝ }
 {
-    put_header(body, head, room);
-    write_block(body, 0, 4, listing, 0, pool, &mut room[12..]);
+    put_header(*p, a, room);
+    write_entries(p, a, 4, 1, listing, 0, pool, &mut room[12..]);
 }

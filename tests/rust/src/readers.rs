@@ -55,7 +55,7 @@ impl Reader for Plain {
     }
 }
 
-/// The library's calls that check the book each time.
+/// The library's calls that check and prepare the book each time.
 pub struct Free;
 
 impl Reader for Free {
@@ -89,12 +89,12 @@ impl Reader for Free {
     }
 }
 
-/// The library's calls on a book that was checked once.
+/// The library's calls on a book that was prepared before.
 pub struct Stream;
 
 impl Reader for Stream {
     fn name(&self) -> &'static str {
-        "library, book checked once"
+        "library, book prepared once"
     }
 
     fn check_book(&self, book: &[u8]) -> Result<(), Refusal> {

@@ -2,8 +2,7 @@
 //!
 //! What every SAFETY comment below rests on: a slice of Rust is that many readable elements (writable, and apart
 //! from all others, behind `&mut`), the exports use nothing but what they are lent, and keep no pointer when they
-//! return. They are proved to do so on any octets; the `stream_` ones on any book that `siphonbard_check_book`
-//! accepted.
+//! return. They are proved to do so on any octets; the `stream_` ones on all numbers that `siphonbard_prepare` stored.
 
 use super::*;
 use crate::{Answer, Book, Element, Refusal, Step};
@@ -81,21 +80,27 @@ pub fn write(book: &[u8], id: u16, listing: &[u64], pool: &[u8], room: &mut [u8]
     .result()
 }
 
+pub fn prepare(book: &[u8], room: &mut [u64]) -> Result<usize, Refusal> {
+    let (start, len) = (room.as_mut_ptr(), room.len());
+    // SAFETY: lends two slices, and `room` is borrowed mutably.
+    unsafe { siphonbard_prepare(book.as_ptr(), book.len(), start, len) }.result()
+}
+
 pub fn stream_check(book: &Book, message: &[u8]) -> Result<(), Refusal> {
-    let book = book.octets();
-    // SAFETY: lends two slices; a `Book` is accepted, and its octets are borrowed since.
+    let book = book.numbers();
+    // SAFETY: lends two slices; a `Book` has all numbers that `prepare` stored for it, and nothing alters them.
     unsafe { siphonbard_stream_check(book.as_ptr(), book.len(), message.as_ptr(), message.len()) }.result()
 }
 
 pub fn stream_list(book: &Book, message: &[u8], room: &mut [u64]) -> Result<usize, Refusal> {
-    let book = book.octets();
+    let book = book.numbers();
     let (start, len) = (room.as_mut_ptr(), room.len());
     // SAFETY: as for `stream_check`; `room` is borrowed mutably.
     unsafe { siphonbard_stream_list(book.as_ptr(), book.len(), message.as_ptr(), message.len(), start, len) }.result()
 }
 
 pub fn stream_place(book: &Book, message: &[u8], steps: &[Step], element: Element) -> Result<Answer, Refusal> {
-    let book = book.octets();
+    let book = book.numbers();
     let ((start, len), (ask, number)) = (numbers(steps), element.numbers());
     // SAFETY: as for `stream_check`; `steps` as for `place`.
     unsafe {
@@ -105,7 +110,7 @@ pub fn stream_place(book: &Book, message: &[u8], steps: &[Step], element: Elemen
 }
 
 pub fn stream_write(book: &Book, id: u16, listing: &[u64], pool: &[u8], room: &mut [u8]) -> Result<usize, Refusal> {
-    let book = book.octets();
+    let book = book.numbers();
     // SAFETY: as for `stream_check`; `room` is borrowed mutably.
     unsafe {
         siphonbard_stream_write(

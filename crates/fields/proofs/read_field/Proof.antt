@@ -1,31 +1,23 @@
--- The field's words and the tests on them are the definition's case.
+-- The field's numbers and the tests on them are the definition's case.
 use mathlib.Core.Path.{sym}
-use Prim.Native.Nat.{_+_, _/_, _≤_}
-use native.Mathlib.Omega.{arith}
+use Prim.Native.Nat.{_≤_}
 use borrow.Author.Needs.{needs}
-use lib.ListN.{length}
-use Rattle.book.proofs.Words.{length-words}
-use Rattle.layout.specs.Octets.{wordsOf}
 use Rattle.layout.specs.Book.{Field}
 use Rattle.layout.specs.BookRules.{fieldAt}
 use Rattle.fields.proofs.Laws.{field-absent, field-number, field-octets, number-inside}
 use Rattle.fields.proofs.read_field.Statement.{statement}
 use Rattle.fields.proofs.read_field.Tie as tie
 
--- The words of the body hold all of the field's.
-whole : (c : tie.Start) → c .args .w + 6 ≤ length (c .args .body .now) / 2
-whole c = omega (arith, c .pre .whole, length-words (c .args .body .now))
-
 abbrev field : tie.Start → Field
-field c = fieldAt (wordsOf (c .args .body .now)) (c .args .w)
+field c = fieldAt (c .args .p .now) (c .args .f)
 
 -- After the first test the field is present, and after the second it is one number.
 present : (c : tie.Else1)
     → field (c .before .before .before .before) .since ≤ c .before .before .before .before .args .v
-present c = rw (c .before .word .ensures .value) at (c .if1 .left)
+present c = rw (c .before .number .ensures) at (c .if1 .left)
 
 single : (c : tie.Else2) → field (c .before .before .before .before .before .before .before) .length ≤ 1
-single c = rw (c .before .before .word2 .ensures .value) at (c .if2 .left)
+single c = rw (c .before .before .number2 .ensures) at (c .if2 .left)
 
 add-start : tie.Need-add-start
 add-start c =
@@ -33,19 +25,19 @@ add-start c =
     search (needs, since .before .before .before .before .pre .fits .inside (present since))
 
 returns : tie.Need-returns
-returns c = sym (field-absent _ _ _ _ (rw (c .before .word .ensures .value) at (c .if1 .taken)))
+returns c = sym (field-absent _ _ _ _ (rw (c .before .number .ensures) at (c .if1 .taken)))
 
 returns-2 : tie.Need-returns-2
 returns-2 c =
     let len = c .before .before in
-    rw (c .before .word3 .ensures .value, len .word2 .ensures .value)
-    (sym (field-octets _ _ _ _ (present (len .before)) (rw (len .word2 .ensures .value) at (c .if2 .taken))))
+    rw (c .before .number3 .ensures, len .number2 .ensures)
+    (sym (field-octets _ _ _ _ (present (len .before)) (rw (len .number2 .ensures) at (c .if2 .taken))))
 
 read-requires : tie.Need-read-requires
 read-requires c κs =
     let one = c .before .before in
     let fits = one .before .before .before .before .before .before .before .pre .fits in
-    rw (c .word5 .ensures .value, one .before .word3 .ensures .value)
+    rw (c .number5 .ensures, one .before .number3 .ensures)
     (number-inside _ _ _ _ (present (one .before .before .before)) (single one) fits)
 
 returns-3 : tie.Need-returns-3
@@ -53,23 +45,15 @@ returns-3 c =
     let one = c .before .before .before in
     rw (
       c .read .ensures,
-      c .before .word5 .ensures .value,
-      c .before .before .word4 .ensures .value,
-      one .before .word3 .ensures .value,
+      c .before .number5 .ensures,
+      c .before .before .number4 .ensures,
+      one .before .number3 .ensures,
     )
     (sym (field-number _ _ _ _ (present (one .before .before .before)) (single one)))
 
 pub read-field-spec : {M : Type 1} → statement M
 read-field-spec =
     tie.close
-    (tie.spec
-    (λ c. search (needs, whole (c .before .before))) (λ c κs. search (needs, whole (c .before .before))) returns
-    (λ c. search (needs, whole (c .before .before .before .before)))
-    (λ c κs. search (needs, whole (c .before .before .before .before)))
-    (λ c. search (needs, whole (c .before .before .before .before .before)))
-    (λ c κs. search (needs, whole (c .before .before .before .before .before))) add-start returns-2
-    (λ c. search (needs, whole (c .before .before .before .before .before .before .before)))
-    (λ c κs. search (needs, whole (c .before .before .before .before .before .before .before)))
-    (λ c. search (needs, whole (c .before .before .before .before .before .before .before .before)))
-    (λ c κs. search (needs, whole (c .before .before .before .before .before .before .before .before)))
-    read-requires returns-3)
+    (tie.spec (λ c. search needs) (λ c κs. search needs) returns (λ c. search needs) (λ c κs. search needs)
+    (λ c. search needs) (λ c κs. search needs) add-start returns-2 (λ c. search needs) (λ c κs. search needs)
+    (λ c. search needs) (λ c κs. search needs) read-requires returns-3)

@@ -11,7 +11,7 @@ returns : tie.Need-returns
 returns c =
     let call = c .before .before in
     let e = c .enum-told .given .1 in
-    let long = rw (call .before .before .word .ensures .value) at (call .before .if1 .taken) in
+    let long = rw (call .before .before .number .ensures) at (call .before .if1 .taken) in
     e ∙ sym (field-array _ _ _ _ long ∙ fit-refused _ _ _ (fieldEnd _) _ _ (sym e ∙ call .judge-octets .ensures))
 
 returns-2 : tie.Need-returns-2
@@ -19,7 +19,7 @@ returns-2 c =
     let known = c .before .before .before in
     let call = known .before .before in
     let e = sym (known .octets .given .1) ∙ call .judge-octets .ensures in
-    let len = call .before .before .word .ensures .value in
+    let len = call .before .before .number .ensures in
     c .refuse .ensures
     ∙ sym (field-array _ _ _ _ (rw len at (call .before .if1 .taken))
     ∙ fit-not _ _ _ _ _ e (fieldEnd _) _ (λ k. ne-eqb _ _ (λ q. c .before .if2 .taken (k ∙ q ∙ sym len))))
@@ -29,20 +29,17 @@ returns-3 c =
     let known = c .before .before in
     let call = known .before .before in
     let e = sym (known .octets .given .1) ∙ call .judge-octets .ensures in
-    let len = call .before .before .word .ensures .value in
+    let len = call .before .before .number .ensures in
     sym (field-array _ _ _ _ (rw len at (call .before .if1 .taken))
     ∙ fit-whole _ _ _ _ _ e (fieldEnd _) _ (λ k. eq-eqb _ _ (sym k ∙ c .if2 .left ∙ len)) _ (λ a q. refl))
 
 returns-4 : tie.Need-returns-4
 returns-4 c =
-    let optional = c .before .before in
-    let short = optional .before in
-    rw (optional .word2 .ensures .value, c .before .word3 .ensures .value) at (c .judge-number .ensures)
-    ∙ sym (field-number _ _ _ _ (rw (short .before .word .ensures .value) at (short .if1 .left)))
+    let short = c .before in
+    c .judge-number .ensures ∙ sym (field-number _ _ _ _ (rw (short .before .number .ensures) at (short .if1 .left)))
 
 pub judge-field-spec : {M : Type 1} → statement M
 judge-field-spec =
     tie.close
     (tie.spec (λ c. search needs) (λ c κs. search needs) (λ c κs. search needs) (λ c. search needs) (λ c. search needs)
-    returns (λ c κs. search needs) returns-2 returns-3 (λ c. search needs) (λ c κs. search needs) (λ c. search needs)
-    (λ c κs. search needs) (λ c κs. search needs) returns-4)
+    returns (λ c κs. search needs) returns-2 returns-3 (λ c κs. search needs) returns-4)

@@ -4,7 +4,7 @@ use native.Mathlib.Omega.{arith}
 use borrow.Author.Needs.{needs}
 use borrow.Author.Tests.{eq-eqb, le-leb, lt-leb, ne-eqb}
 use Rattle.layout.specs.Result.{if_then_else_}
-use Rattle.messages.specs.Whole.{leftOver}
+use Rattle.messages.specs.Openings.{leftOver}
 use Rattle.messages.specs.declared.Surplus.the-variants.{Is}
 use Rattle.messages.proofs.left_over.Statement.{statement}
 use Rattle.messages.proofs.left_over.Tie as tie

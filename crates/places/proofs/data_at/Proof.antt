@@ -1,27 +1,63 @@
--- A data that is present is the octets after its length.
-use mathlib.Core.Path.{refl}
+-- The data before it were read, so the walk past them ends where it stands.
+use mathlib.Core.Path.{sym, _∙_}
+use native.Mathlib.Omega.{arith}
 use borrow.Author.Needs.{needs}
-use borrow.Author.Tests.{le-leb, lt-leb}
-use Rattle.layout.specs.Result.{if_then_else_}
-use Rattle.places.specs.Asks.{dataIs}
+use Rattle.places.proofs.Elements.{data-here, datas-before, not-refused}
 use Rattle.places.proofs.data_at.Statement.{statement}
 use Rattle.places.proofs.data_at.Tie as tie
 
 returns : tie.Need-returns
-unfolding dataIs if_then_else_
-returns c = rw (lt-leb _ _ (rw (c .before .word .ensures .value) at (c .if1 .taken))) refl
+returns c =
+    let walk = c .before .before in
+    let pre = walk .before .before .before .pre in
+    absurd (not-refused _ _ (datas-before _ _ _ _ _ _ _ (pre .2) (pre .4)) _
+    (sym (c .enum-told .given .1) ∙ walk .walk-datas .ensures .0))
+
+returns-2 : tie.Need-returns-2
+returns-2 c =
+    let told = c .before .before .before in
+    let walk = told .before .before in
+    let pre = walk .before .before .before .pre in
+    sym (data-here _ _ _ _ _ _ _ (pre .2) (pre .4) _ _ (sym (told .passed .given .1) ∙ walk .walk-datas .ensures .0)
+    .absent (rw (c .before .number .ensures) at (c .if1 .taken)))
+
+add-t10 : tie.Need-add-t10
+add-t10 c =
+    let told = c .before .before .before in
+    let walk = told .before .before in
+    let pre = walk .before .before .before .pre in
+    let walks = sym (told .passed .given .1) ∙ walk .walk-datas .ensures .0 in
+    omega (
+      arith,
+      data-here _ _ _ _ _ _ _ (pre .2) (pre .4) _ _ walks .fits
+          (rw (c .before .number .ensures) at (c .if1 .left)),
+    )
 
 get2-requires : tie.Need-get2-requires
 get2-requires c κs =
-    c .before .before .before .before .pre .1 (rw (c .before .word .ensures .value) at (c .if1 .left))
+    let told = c .before .before .before in
+    let walk = told .before .before in
+    let pre = walk .before .before .before .pre in
+    let walks = sym (told .passed .given .1) ∙ walk .walk-datas .ensures .0 in
+    omega (
+      arith,
+      data-here _ _ _ _ _ _ _ (pre .2) (pre .4) _ _ walks .fits
+          (rw (c .before .number .ensures) at (c .if1 .left)),
+    )
 
-returns-2 : tie.Need-returns-2
-unfolding dataIs if_then_else_
-returns-2 c =
+returns-3 : tie.Need-returns-3
+returns-3 c =
     let test = c .before in
-    rw (le-leb _ _ (rw (test .before .word .ensures .value) at (test .if1 .left)), c .get2 .ensures .value) refl
+    let told = test .before .before .before in
+    let walk = told .before .before in
+    let pre = walk .before .before .before .pre in
+    rw (c .get2 .ensures .value)
+    (sym (data-here _ _ _ _ _ _ _ (pre .2) (pre .4) _ _ (sym (told .passed .given .1) ∙ walk .walk-datas .ensures .0)
+    .octets (rw (test .before .number .ensures) at (test .if1 .left))))
 
 pub data-at-spec : {M : Type 1} → statement M
 data-at-spec =
     tie.close
-    (tie.spec (λ c. search needs) (λ c κs. search needs) returns (λ c. search needs) get2-requires returns-2)
+    (tie.spec (λ c κs. search needs) (λ c. search needs) (λ c. search needs) returns (λ c. omega arith)
+    (λ c. omega arith)
+    (λ c. omega arith) (λ c κs. omega arith) returns-2 add-t10 get2-requires returns-3)

@@ -1,31 +1,39 @@
--- The answer for the place that is asked for; 30 for none, after what the check refuses.
+-- What the book is refused for, or what the stream replies by its prepared numbers.
 use mathlib.Core.Path.{sym}
+use native.Mathlib.Omega.{arith}
 use borrow.Author.Needs.{needs}
-use Rattle.siphonbard.proofs.Laws.{nothing-said, place-said}
+use lib.Seq.{length-take-le}
+use Rattle.prepare.proofs.Prepared.{HasPrepared, book-refused, has-prepared}
+use Rattle.siphonbard.specs.Places.{placeAsked}
+use Rattle.siphonbard.proofs.Laws.{place-accepted, place-refused}
 use Rattle.siphonbard.proofs.siphonbard_place.Statement.{statement}
 use Rattle.siphonbard.proofs.siphonbard_place.Tie as tie
 
+-- The numbers that were counted are the prepared book.
+has : (c : tie.After-n) → let made = c .before .before .before in
+    HasPrepared (made .before .before .before .before .before .args .book .now) (c .n .given .0 .0)
+    (made .prepare-octets .last .1 .0)
+has c = has-prepared _ _ _ _ (rw (c .n .given .1) at (c .before .before .before .prepare-octets .ensures))
+
+siphonbard-stream-place-requires : tie.Need-siphonbard-stream-place-requires
+siphonbard-stream-place-requires c κs = has (c .before .before) .prepared .is
+
 returns : tie.Need-returns
+unfolding placeAsked
 returns c =
-    let none = c .before in
-    let told = none .before .before in
-    let ask = told .before .before in
-    let a = ask .before .before .before .before .args in
-    rw (sym (ask .ask-for .ensures))
-    (nothing-said (a .book .now) (a .m .now) _ (c .say-found .ensures) (told .enum-told .given .1)
-    (none .no-place .ensures _ (none .before .check .ensures)))
+    let known = c .before .before in
+    let made = known .before .before .before .prepare-octets .ensures in
+    place-refused (book-refused _ _ _ _ (omega arith) (rw (known .refusal .given .1) at made))
+    _ (c .say-found .ensures)
 
 returns-2 : tie.Need-returns-2
+unfolding placeAsked
 returns-2 c =
-    let known = c .before .before in
-    let ask = known .before .before .before in
-    let a = ask .before .before .before .before .args in
-    rw (sym (ask .ask-for .ensures))
-    (place-said (a .book .now) (a .m .now) _ (c .say-found2 .ensures) _ (known .before .x .given .1)
-    (c .before .place .ensures))
+    place-accepted (has (c .before .before .before) .prepared .back) _ (c .siphonbard-stream-place .ensures)
 
 pub siphonbard-place-spec : {M : Type 1} → statement M
 siphonbard-place-spec =
     tie.close
-    (tie.spec (λ c κs. search needs) (λ c. search needs) (λ c. search needs) (λ c κs. search needs)
-    (λ c κs. search needs) (λ c κs. search needs) returns (λ c κs. search needs) (λ c κs. search needs) returns-2)
+    (tie.spec (λ c. search needs) (λ c κs. search needs) (λ c. search needs) (λ c κs. search needs) (λ c. search needs)
+    (λ c. has (c .before) .fits) (λ c. sym (length-take-le _ _ (has (c .before .before) .fits)))
+    siphonbard-stream-place-requires returns returns-2)

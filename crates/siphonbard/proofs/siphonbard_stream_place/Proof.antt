@@ -1,6 +1,7 @@
 -- The answer for the place that is asked for; 30 for none, after what the check refuses.
 use mathlib.Core.Path.{sym}
 use borrow.Author.Needs.{needs}
+use Rattle.prepared.specs.Books.{bookAt}
 use Rattle.siphonbard.proofs.Laws.{nothing-said, place-said}
 use Rattle.siphonbard.proofs.siphonbard_stream_place.Statement.{statement}
 use Rattle.siphonbard.proofs.siphonbard_stream_place.Tie as tie
@@ -12,7 +13,7 @@ returns c =
     let ask = told .before .before in
     let a = ask .before .before .before .before .args in
     rw (sym (ask .ask-for .ensures))
-    (nothing-said (a .book .now) (a .m .now) _ (c .say-found .ensures) (told .enum-told .given .1)
+    (nothing-said (bookAt (a .p .now)) (a .m .now) _ (c .say-found .ensures) (told .enum-told .given .1)
     (none .no-place .ensures _ (none .before .check .ensures)))
 
 returns-2 : tie.Need-returns-2
@@ -21,7 +22,7 @@ returns-2 c =
     let ask = known .before .before .before in
     let a = ask .before .before .before .before .args in
     rw (sym (ask .ask-for .ensures))
-    (place-said (a .book .now) (a .m .now) _ (c .say-found2 .ensures) _ (known .before .x .given .1)
+    (place-said (bookAt (a .p .now)) (a .m .now) _ (c .say-found2 .ensures) _ (known .before .x .given .1)
     (c .before .place .ensures))
 
 pub siphonbard-stream-place-spec : {M : Type 1} → statement M

@@ -1,28 +1,88 @@
--- The block's data are a row of the body.
+-- What is left of the data answers as all of them do, those passed being counted.
+use mathlib.Core.Path.{_≡_, refl, sym, _∙_}
+use mathlib.Core.Logic.{⊎-elim}
+use Prim.Native.Nat.{_+_, _-_, _*_, _≤_}
 use native.Mathlib.Omega.{arith}
-use Rattle.blocks.proofs.Laws.{block-fits}
+use borrow.Author.Needs.{needs}
+use lib.ListN.{length}
+use Rattle.wire.specs.Walks.{walked}
+use Rattle.wire.proofs.Laws.{lies-on}
+use Rattle.walk.specs.Walks.{datasEnd}
+use Rattle.walk.proofs.Datas.{datas-absent, datas-done, datas-next, datas-refused, datasAt}
+use Rattle.walk.proofs.Ways.{Way, way-ends, way-on, way-refused, way-starts}
 use Rattle.walk.proofs.walk_datas.Statement.{statement}
 use Rattle.walk.proofs.walk_datas.Tie as tie
 
-walk-data-row-requires : tie.Need-walk-data-row-requires
-walk-data-row-requires c κs =
-    let n = c .before .word .ensures .value in
-    let pre = c .before .before .before .before .pre in
-    (omega (arith, n, c .word2 .ensures .value, block-fits _ _ (pre .0)), omega (arith, n, pre .0 .fewDatas), pre .1)
+abbrev Inv-loop : tie.InvT-loop
+Inv-loop p from n m v start left₀ d₀ at₀ left d at =
+    (d + 2 * left ≤ length p) × (left ≤ n) × (n ≤ 16)
+    × Way m start 16 (walked (datasEnd 0) (datasAt m v p 0 n from start))
+    (walked (datasEnd (n - left)) (datasAt m v p 0 left d at)) (n - left) left at
 
-returns : tie.Need-returns
+abbrev μ-loop : tie.MeasureT-loop
+μ-loop p from n m v start left₀ d₀ at₀ left d at = left
+
+loop-holds : tie.Need-loop-holds Inv-loop μ-loop
+loop-holds c =
+    let pre = c .before .before .pre in
+    let none : c .before .before .args .n - c .before .before .args .n ≡ 0 = omega arith in
+    rw none (
+      pre .0,
+      omega arith,
+      pre .1,
+      way-on (way-starts _ _ 16 _ (pre .2 .inside)) _ _ _ refl (omega arith) (pre .2 .inside)
+          (omega arith),
+    )
+
+returns : tie.Need-returns Inv-loop μ-loop
 returns c =
-    let told = c .walk-data-row .ensures in
-    (rw (c .before .word2 .ensures .value, c .before .before .word .ensures .value) at (told .0), told .1)
+    let read = c .before .before in
+    let test = read .before in
+    let i = test .before .before in
+    let e = c .enum-told .given .1 in
+    way-refused (i .before .loop .inv .3) _ e
+    (datas-refused _ _ _ _ _ _ _ _ (i .loop-test .taken) (rw (test .before .number .ensures) at (test .if1 .taken)) _
+    (sym e ∙ read .read-data .ensures .0))
+
+loop-again : tie.Need-loop-again Inv-loop μ-loop
+loop-again c =
+    let i = c .before .before in
+    let inv = i .before .loop .inv in
+    let since = c .before .number .ensures in
+    let n = i .before .before .before .before .args .n in
+    let one : n - (i .before .loop .left - 1) ≡ n - i .before .loop .left + 1 = omega arith in
+    rw one
+    (⊎-elim
+    (λ k.
+    let e = k .3 .given .1 in
+    let on = lies-on _ _ _ _ _ (k .1 .ensures .1) e in (
+      omega arith,
+      omega arith,
+      omega arith,
+      rw (k .5)
+          (way-on (inv .3) _ _ _ (datas-next _ _ _ _ _ _ _ _ (i .loop-test .taken) (rw since at (k .0 .taken)) _ _
+          (sym e ∙ k .1 .ensures .0)) (on .0) (on .1) (omega (arith, on .0))),
+    ))
+    (λ k. (
+      omega arith,
+      omega arith,
+      omega arith,
+      rw (k .1)
+          (way-on (inv .3) _ _ _ (datas-absent _ _ _ _ _ _ _ _ (i .loop-test .taken) (rw since at (k .0 .left)))
+          (omega arith) (inv .3 .inside) (omega arith)),
+    ))
+    (c .if1 .came))
+
+returns-2 : tie.Need-returns-2 Inv-loop μ-loop
+returns-2 c =
+    let inv = c .before .loop .inv in
+    let n = c .before .before .before .before .args .n in
+    let all : n - c .before .loop .left ≡ n = omega arith in
+    rw all at (way-ends (inv .3) (datas-done _ _ _ _ _ _ _ (c .loop-test .left)))
 
 pub walk-datas-spec : {M : Type 1} → statement M
 walk-datas-spec =
     tie.close
-    (tie.spec (λ c. omega (arith, block-fits _ _ (c .before .before .pre .0)))
-    (λ c κs. omega (arith, block-fits _ _ (c .before .before .pre .0)))
-    (λ c. omega (arith, block-fits _ _ (c .before .before .before .pre .0)))
-    (λ c. omega (arith, block-fits _ _ (c .before .before .before .pre .0)))
-    (λ c κs. omega (arith, block-fits _ _ (c .before .before .before .pre .0)))
-    (λ c. omega (arith, c .word2 .ensures .small))
-    (λ c. omega (arith, c .word2 .ensures .value, block-fits _ _ (c .before .before .before .before .pre .0)))
-    walk-data-row-requires returns)
+    (tie.spec Inv-loop μ-loop
+    loop-holds (λ c. omega arith) (λ c κs. omega arith) (λ c κs. omega arith) (λ c. search needs) (λ c. search needs)
+    returns (λ c. omega arith) (λ c. omega arith) (λ c. omega arith) loop-again returns-2)

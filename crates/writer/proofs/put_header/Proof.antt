@@ -1,8 +1,8 @@
--- Two numbers at a time.
+-- Two numbers at a time; the counts are those of the tree.
 use native.Mathlib.Omega.{arith}
 use borrow.Author.Needs.{needs}
-use Rattle.blocks.proofs.Laws.{block-fits}
-use Rattle.writer.proofs.Laws.{header-laid}
+use Rattle.writer.proofs.Laws.{length-datas}
+use Rattle.writer.proofs.Message.{header-laid, length-groups}
 use Rattle.writer.proofs.put_header.Statement.{statement}
 use Rattle.writer.proofs.put_header.Tie as tie
 
@@ -10,26 +10,15 @@ returns : tie.Need-returns
 returns c =
     let third = c .before .before in
     let second = third .before .before .before .before .before .before in
-    let first = second .before .before .before .before in
-    rw (
-      ← (first .before .word .ensures .value),
-      ← (third .before .before .word2 .ensures .value),
-      ← (third .before .word3 .ensures .value),
-    )
+    let first = second .before .before .before .before .before .before in
+    let start = first .before .before .before .before .before .before in
+    rw (length-groups _ _ _ _ (start .pre .0 .row), length-datas)
     (header-laid _ _ _ _ _ _ _ _ _ _ (first .put-two .ensures) (second .put-two2 .ensures) (third .put-two3 .ensures))
 
 pub put-header-spec : {M : Type 1} → statement M
 put-header-spec =
     tie.close
-    (tie.spec (λ c κs. omega (arith, block-fits _ _ (c .before .before .before .pre .0))) (λ c κs. search needs)
-    (λ c κs. search needs)
-    (λ c κs. omega (
-      arith,
-      block-fits _ _ (c .before .before .before .before .before .before .before .before .before
-          .before .before .before .pre .0),
-    ))
-    (λ c κs. omega (
-      arith,
-      block-fits _ _ (c .before .before .before .before .before .before .before .before .before
-          .before .before .before .before .pre .0),
-    )) (λ c κs. search needs) (λ c. search needs) returns)
+    (tie.spec (λ c. omega arith) (λ c. omega arith) (λ c. omega arith) (λ c. omega arith) (λ c. omega arith)
+    (λ c κs. search needs) (λ c. omega arith) (λ c. omega arith) (λ c κs. search needs) (λ c. omega arith)
+    (λ c. omega arith) (λ c. omega arith) (λ c. omega arith) (λ c. omega arith) (λ c. omega arith)
+    (λ c κs. search needs) (λ c. search needs) returns)

@@ -4,7 +4,7 @@ use Prim.Native.Nat.{_+_, _-_, _≤_}
 use native.Mathlib.Omega.{arith}
 use lib.ListN.{drop, length, length-set, take}
 use lib.Seq.{sets}
-use Rattle.writer.proofs.Lent.{octets-end, octets-step}
+use Rattle.writer.proofs.Loops.{octets-end, octets-step}
 use Rattle.writer.proofs.put_octets.Statement.{statement}
 use Rattle.writer.proofs.put_octets.Tie as tie
 

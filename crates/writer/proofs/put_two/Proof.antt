@@ -1,6 +1,6 @@
 -- One number after the other.
 use borrow.Author.Needs.{needs}
-use Rattle.writer.proofs.Laws.{two-numbers}
+use Rattle.writer.proofs.Message.{two-numbers}
 use Rattle.writer.proofs.put_two.Statement.{statement}
 use Rattle.writer.proofs.put_two.Tie as tie
 

@@ -1,155 +1,120 @@
--- Some of the block's octets are written, and those from `at` on are to come.
-use mathlib.Core.Path.{_≡_}
+-- Some of the block's octets are written, and those from `at` on are to come: the octet after the last field.
+use mathlib.Core.Path.{_≡_, refl}
 use mathlib.Core.Bool.{true}
-use Prim.Native.Nat.{ℕ, _+_, _-_, _*_, _/_, _≤_}
+use Prim.Native.Nat.{ℕ, _+_, _-_, _*_, _≤_}
 use native.Mathlib.Omega.{arith}
 use borrow.Author.Needs.{needs}
-use lib.ListN.{length, length-replicate, replicate}
-use Rattle.layout.specs.Octets.{wordsOf}
+use lib.ListN.{length}
+use Rattle.layout.specs.Book.{end}
 use Rattle.layout.specs.BookRules.{fieldAt, fieldsGood, parseFields, word}
 use Rattle.layout.proofs.Fields.{FieldGood}
 use Rattle.layout.proofs.Results.{and-right}
-use Rattle.templates.specs.Positions.{shapeAt}
-use Rattle.blocks.proofs.Laws.{block-fits}
-use Rattle.store.specs.Prints.{Room, Stored}
-use Rattle.store.proofs.Going.{Going, going-end, going-first, going-none, going-room}
-use Rattle.writer.specs.Parts.{fieldPart, fieldsPart}
-use Rattle.writer.proofs.Laws.{field-ends, field-there, fields-end, fields-step, good-step}
-use Rattle.writer.proofs.Lent.{got-room, got-stored, lent-going, lent-within, part-long, part-put, part-room}
-use Rattle.writer.proofs.Lent.{partOf, stored-long}
+use Rattle.prepared.specs.Positions.{shapeAt}
+use Rattle.writer.specs.Prints.{andThen}
+use Rattle.writer.specs.Parts.{fieldsPart, valuePart}
+use Rattle.writer.proofs.Laws.{TableAt, fields-end, fields-step, good-step, table-first, table-rest}
+use Rattle.writer.proofs.Laws.{value-stored, value-there}
+use Rattle.writer.proofs.Way.{Way, way-ends, way-lends, way-long, way-on, way-pad, way-starts, way-to}
+use Rattle.writer.proofs.Way.{way-within}
 use Rattle.writer.proofs.write_fields.Statement.{statement}
 use Rattle.writer.proofs.write_fields.Tie as tie
 
 abbrev Inv-loop : tie.InvT-loop
-Inv-loop body w listing start pool room₀ left₀ f₀ i₀ at₀ room left f i at =
-    let b = wordsOf body in
-    let n = word b w in
-    (f + 6 * left ≤ length body / 2) × (at ≤ n) × (fieldsGood n at (parseFields b left f) ≡ true)
-    × Going (fieldsPart listing pool n 0 (shapeAt b w .fields) start)
-    (fieldsPart listing pool n at (parseFields b left f) i) 0 room₀ at room
+Inv-loop p a listing start pool room₀ left₀ f₀ t₀ i₀ room left f t i =
+    let n = word p (a + 2) in
+    (length p ≤ 65535) × (f + 6 * left ≤ length p) × (t + 5 * left ≤ length p) × TableAt p left f t
+    × ((at : ℕ) × (at ≤ n) × (fieldsGood n at (parseFields p left f) ≡ true)
+    × Way (fieldsPart listing pool n 0 (shapeAt p a .fields) start)
+    (fieldsPart listing pool n at (parseFields p left f) i) room₀ at room)
 
 abbrev μ-loop : tie.MeasureT-loop
-μ-loop body w listing start pool room₀ left₀ f₀ i₀ at₀ room left f i at = left
+μ-loop p a listing start pool room₀ left₀ f₀ t₀ i₀ room left f t i = left
 
 loop-holds : tie.Need-loop-holds Inv-loop μ-loop
 loop-holds c =
-    let pre = c .before .before .before .before .before .pre .0 in
-    rw (c .word .ensures .value)
-    (omega (arith, block-fits _ _ (pre .0)), omega arith, and-right _ _ (pre .1), going-none _ _ _)
+    let pre = c .before .before .before .before .before .before .pre in
+    let block = pre .0 in
+    rw (c .before .number .ensures, c .number2 .ensures) (
+      block .short,
+      block .fieldsFit,
+      block .tableFits,
+      block .derived,
+      (0, omega arith, and-right _ _ (block .good), way-starts _ _ (pre .1)),
+    )
 
--- The next field is good, and there is room for it.
+-- The next field is good, and the zeros up to its offset stand.
 good : (c : tie.In-loop Inv-loop μ-loop)
     → let l = c .before .loop in
-    let b = wordsOf (c .before .before .before .before .before .before .before .args .body .now) in
-    FieldGood (word b (c .before .before .before .before .before .before .before .args .w)) (l .at) (fieldAt b
-    (l .f)) (parseFields b (l .left - 1) (l .f + 6))
-good c = good-step _ _ _ _ _ (c .loop-test .taken) (c .before .loop .inv .2)
+    let a = c .before .before .before .before .before .before .before .before .args in
+    FieldGood (word (a .p .now) (a .a + 2)) (l .inv .4 .0) (fieldAt (a .p .now) (l .f))
+    (parseFields (a .p .now) (l .left - 1) (l .f + 6))
+good c = good-step _ _ _ _ _ (c .loop-test .taken) (c .before .loop .inv .4 .2)
 
-next : (c : tie.In-loop Inv-loop μ-loop)
-    → let a = c .before .before .before .before .before .before .before .args in
-    let l = c .before .loop in
-    let b = wordsOf (a .body .now) in
-    Room (fieldPart (a .listing .now) (a .pool .now) (word b (l .f + 3) - l .at) (fieldAt b (l .f)) (l .i)) (l .at)
-    (length (l .room))
-next c = going-first (c .before .loop .inv .3)
-    (c .before .before .before .before .before .before .before .pre .1) _ _ (fields-step _ _ _ _ _ _ _ _
-    (c .loop-test .taken))
-
-write-field-requires : tie.Need-write-field-requires Inv-loop μ-loop
-write-field-requires c κs =
-    let i = c .before .before in
-    rw (c .before .word2 .ensures .value)
-    (omega (arith, i .before .loop .inv .0), part-room _ (i .before .loop .room) _ (next i))
-
--- What the field's writer did.
-wrote : (c : tie.After-write-field Inv-loop μ-loop)
-    → let i = c .before .before .before in
-    let a = i .before .before .before .before .before .before .before .args in
+padded : (c : tie.After-number3 Inv-loop μ-loop)
+    → let l = c .before .before .loop in
+    let a = c .before .before .before .before .before .before .before .before .before .args in
+    let p = a .p .now in
+    let n = word p (a .a + 2) in
+    let field = fieldAt p (l .f) in
+    Way (fieldsPart (a .listing .now) (a .pool .now) n 0 (shapeAt p (a .a) .fields) (a .start))
+    (andThen (valuePart (a .listing .now) (a .pool .now) field (l .i))
+    (fieldsPart (a .listing .now) (a .pool .now) n (end field) (parseFields p (l .left - 1) (l .f + 6))))
+    (a .room .now) (c .number3 .result) (l .room)
+padded c =
+    let i = c .before in
     let l = i .before .loop in
-    let b = wordsOf (a .body .now) in
-    Stored (fieldPart (a .listing .now) (a .pool .now) (word b (l .f + 3) - l .at) (fieldAt b (l .f)) (l .i)) 0
-    (partOf (l .at) (l .room)) (l .i + 1) (c .write-field .result) (c .write-field .last .1 .1 .1 .1 .1 .1 .0)
-wrote c = rw (c .before .before .word2 .ensures .value) at (c .write-field .ensures)
+    let a = i .before .before .before .before .before .before .before .before .args in
+    way-pad (l .inv .4 .3) (word (a .p .now) (l .f + 3) - l .inv .4 .0) _ _
+    (fields-step _ _ _ _ _ _ _ _ (i .loop-test .taken)) (omega (arith, c .number3 .ensures, good i .placed))
 
-add-at : tie.Need-add-at Inv-loop μ-loop
-add-at c =
-    let call = c .before .before in
-    let i = call .before .before .before in
-    let start = i .before .before .before .before .before .before .before in
-    omega (
-      arith,
-      lent-within (i .before .loop .inv .3) (start .pre .1) _ _ (fields-step _ _ _ _ _ _ _ _ (i .loop-test .taken))
-          _ _ _ (wrote call),
-      start .good,
+write-value-requires : tie.Need-write-value-requires Inv-loop μ-loop
+write-value-requires c κs =
+    let at = c .before in
+    let inv = at .before .before .loop .inv in (
+      record {
+        field = omega arith;
+        table = omega arith;
+        derived = table-first _ _ _ _ (at .before .loop-test .taken) (inv .3);
+      },
+      way-lends (padded at) _ _ refl .room,
     )
 
 add-i : tie.Need-add-i Inv-loop μ-loop
 add-i c =
-    let i = c .before .before .before .before .before in
-    omega (arith, field-there _ _ _ _ _ _ _ (next i), i .before .before .before .before .before .before .before .good)
+    let at = c .before .before .before .before in
+    let start = at .before .before .before .before .before .before .before .before .before in
+    omega (arith, value-there _ _ _ _ _ (way-lends (padded at) _ _ refl .room), start .good)
 
 loop-again : tie.Need-loop-again Inv-loop μ-loop
 loop-again c =
     let call = c .before .before in
-    let i = call .before .before .before in
+    let at = call .before .before in
+    let i = at .before in
+    let inv = i .before .loop .inv in
     let g = good i in
-    let part = part-room _ (i .before .loop .room) _ (next i) in
-    let e = field-ends _ _ _ _ _ _ _ _ g part _ _ _ _ (wrote call) in
-    let going = lent-going (i .before .loop .inv .3)
-    (i .before .before .before .before .before .before .before .pre .1) _ _
-    (fields-step _ _ _ _ _ _ _ _ (i .loop-test .taken)) _ _ _ (wrote call) in
-    rw e (omega (arith, i .before .loop .inv .0), g .ended, g .rest, rw e at going)
-
--- What is left is padding.
-rest : (c : tie.After-loop Inv-loop μ-loop)
-    → let a = c .before .before .before .before .before .before .before .args in
-    let l = c .before .loop in
-    let n = word (wordsOf (a .body .now)) (a .w) in
-    l .at + (n - l .at) ≤ length (l .room)
-rest c =
-    let l = c .before .loop in
-    let n = word (wordsOf (c .before .before .before .before .before .before .before .args .body .now))
-    (c .before .before .before .before .before .before .before .args .w) in
-    omega (
-      arith,
-      got-room _ _ _ (fields-end _ _ _ _ _ _ _ _ (c .loop-test .left)) _ _
-          (going-room (l .inv .3) (c .before .before .before .before .before .before .before .pre .1)),
-      length-replicate {A = ℕ} (n - l .at) 0,
+    let way = padded at in
+    let stored = value-stored _ _ _ _ _ (way-lends way _ _ refl .room) (g .length) _ _ (call .write-value .ensures) in (
+      inv .0,
+      omega arith,
+      omega arith,
+      table-rest _ _ _ _ (i .loop-test .taken) (inv .3),
+      (_, g .ended, g .rest, way-to (way-on way _ _ refl stored) _ (rw (at .number3 .ensures) refl)),
     )
-
-put-zeros-requires : tie.Need-put-zeros-requires Inv-loop μ-loop
-put-zeros-requires c κs =
-    let end = c .before in
-    let l = end .before .before .loop in
-    omega (arith, end .word3 .ensures .value, rest (end .before), part-long (l .at) (l .room))
 
 returns : tie.Need-returns Inv-loop μ-loop
 returns c =
-    let call = c .before .before in
-    let end = call .before .before in
-    let l = end .before .before .loop in
-    let n = word (wordsOf (end .before .before .before .before .before .before .before .before .args .body .now))
-    (end .before .before .before .before .before .before .before .before .args .w) in
-    let long = length-replicate {A = ℕ} (n - l .at) 0 in
-    let zeros = rw (end .word3 .ensures .value) at (call .put-zeros .ensures) in
-    going-end (l .inv .3) (end .before .before .before .before .before .before .before .before .pre .1) _ _ _
-    (got-stored _ _ _ (fields-end _ _ _ _ _ _ _ _ (end .before .loop-test .left)) (l .at) _ (l .room) _
-    (omega (arith, end .word3 .ensures .value, long, l .inv .1))
-    (part-put (l .at) (l .room) (replicate (n - l .at) 0) _ (omega (arith, long, rest (end .before))) zeros))
+    let inv = c .before .loop .inv in
+    let a = c .before .before .before .before .before .before .before .before .args in
+    let n = word (a .p .now) (a .a + 2) in
+    way-ends (way-pad (inv .4 .3) (n - inv .4 .0) _ n (fields-end _ _ _ _ _ _ _ _ (c .loop-test .left)) (omega arith))
+    _ refl
 
 pub write-fields-spec : {M : Type 1} → statement M
 write-fields-spec =
     tie.close
     (tie.spec Inv-loop μ-loop
-    (λ c. omega (arith, block-fits _ _ (c .before .before .before .before .pre .0 .0)))
-    (λ c κs. omega (arith, block-fits _ _ (c .before .before .before .before .pre .0 .0)))
-    (λ c. omega (arith, block-fits _ _ (c .before .before .before .before .before .pre .0 .0))) loop-holds
-    (λ c. omega arith) (λ c κs. omega arith)
-    (λ c. omega (arith, c .word2 .ensures .value, good (c .before) .placed))
-    (λ c. omega (arith, next (c .before) .fits)) (λ c. omega (arith, next (c .before) .fits))
-    (λ c. search needs) write-field-requires
-    add-at (λ c. omega arith) add-i (λ c. omega arith) (λ c. omega arith) loop-again
-    (λ c κs. omega (arith, block-fits _ _ (c .before .before .before .before .before .before .before .pre .0 .0)))
-    (λ c. omega (arith, rest (c .before))) (λ c. omega (arith, rest (c .before))) (λ c. search needs)
-    (λ c. omega (arith, c .before .word3 .ensures .value, c .before .before .before .loop .inv .1))
-    put-zeros-requires (λ c. stored-long (returns c)) returns)
+    (λ c. omega arith) (λ c κs. omega arith) (λ c. omega arith) (λ c. omega arith) (λ c κs. omega arith)
+    loop-holds (λ c. omega arith) (λ c κs. omega arith)
+    (λ c. omega (arith, way-within (padded c))) (λ c. omega (arith, way-within (padded c))) (λ c. search needs)
+    write-value-requires (λ c. omega arith) (λ c. omega arith) add-i (λ c. omega arith) (λ c. omega arith) loop-again
+    (λ c. way-long (c .before .loop .inv .4 .3)) returns)

@@ -1,50 +1,51 @@
 -- The header, and then the root in the part that follows it.
+use mathlib.Core.Path.{refl}
 use native.Mathlib.Omega.{arith}
 use borrow.Author.Needs.{needs}
-use lib.ListN.{length}
-use Rattle.layout.specs.Octets.{wordsOf}
-use Rattle.store.specs.Prints.{Room}
-use Rattle.store.proofs.Going.{Going, going-end, going-room}
-use Rattle.writer.specs.Parts.{blockPart, messagePart}
-use Rattle.writer.proofs.Laws.{head-fits, head-going}
-use Rattle.writer.proofs.Lent.{part-room, part-stored}
+use Rattle.layout.specs.Writing.{headerOf}
+use Rattle.layout.proofs.Stands.{length-numbers}
+use Rattle.prepared.specs.Books.{bookAt, templateAt}
+use Rattle.writer.specs.Parts.{entriesAt}
+use Rattle.writer.proofs.Message.{header-fits, root-ready, root-same, rootPart}
+use Rattle.writer.proofs.Way.{Way, way-ends-by, way-lends-rest, way-put, way-starts, way-within}
 use Rattle.writer.proofs.write_message.Statement.{statement}
 use Rattle.writer.proofs.write_message.Tie as tie
 
-headed : (c : tie.After-put-header)
-    → let a = c .before .before .before .before .before .before .args in
-    let b = wordsOf (a .body .now) in
-    Going (messagePart (a .listing .now) (a .pool .now) b (a .head)) (blockPart (a .listing .now)
-    (a .pool .now) b 4 0 0) 0
-    (a .room .now) 12 (c .put-header .last .1 .1 .0)
-headed c = head-going _ _ _ _ _ _ (c .put-header .ensures)
+put-header-requires : tie.Need-put-header-requires
+put-header-requires c κs =
+    let start = c .before .before .before in
+    (start .pre .0, header-fits _ _ _ _ _ (start .pre .1))
 
-left : (c : tie.After-put-header)
-    → let a = c .before .before .before .before .before .before .args in
-    Room (blockPart (a .listing .now) (a .pool .now) (wordsOf (a .body .now)) 4 0 0) 12
-    (length (c .put-header .last .1 .1 .0))
-left c = going-room (headed c) (c .before .before .before .before .before .before .pre .1)
+headed : (c : tie.After-put-header)
+    → let a = c .before .before .before .before .args in
+    let p = a .p .now .now in
+    let listing = a .listing .now .now in
+    let pool = a .pool .now .now in
+    Way (rootPart listing pool (bookAt p) (templateAt p (a .a))) (entriesAt listing pool p 4 (a .a) 1 0) (a .room .now)
+    12 (c .put-header .last .1 .1 .0)
+headed c =
+    let start = c .before .before .before .before in
+    let p = start .args .p .now .now in
+    way-put (way-starts _ _ (root-ready _ _ _ _ _ (start .pre .1))) _ _ _ _ refl
+    (omega (arith, length-numbers (headerOf (bookAt p) (templateAt p (start .args .a))))) (c .put-header .ensures)
 
 returns : tie.Need-returns
 returns c =
     let call = c .before .before in
     let put = call .before .before .before .before in
-    going-end (headed put) (put .before .before .before .before .before .before .pre .1) _ _ _
-    (part-stored _ (put .put-header .last .1 .1 .0) _ _ _ _ (left put) (call .write-block .ensures)) .room
+    let pre = put .before .before .before .before .pre .1 in
+    rw (root-same _ _ _ _ _ _ (pre .room)) (way-ends-by (headed put) (call .write-entries .ensures) .room)
 
 pub write-message-spec : {M : Type 1} → statement M
 write-message-spec =
     tie.close
-    (tie.spec (λ c κs. (
-      c .before .before .before .before .before .pre .0 .stands .block,
-      head-fits _ _ _ _ _
-          (c .before .before .before .before .before .pre .1),
-    ))
-    (λ c. omega (arith, left (c .before .before) .fits)) (λ c. omega (arith, left (c .before .before) .fits))
+    (tie.spec put-header-requires
+    (λ c. omega (arith, way-within (headed (c .before .before))))
+    (λ c. omega (arith, way-within (headed (c .before .before))))
     (λ c. search needs)
     (λ c κs. (
-      c .before .before .before .before .before .before .before .before .before .pre .0,
-      part-room _
-          (c .before .before .before .put-header .last .1 .1 .0) _ (left (c .before .before .before)),
+      c .before .before .before .before .before .before .before .pre .0,
+      way-lends-rest (headed
+          (c .before .before .before)),
     ))
     (λ c. search needs) returns)

@@ -1,5 +1,5 @@
 //! Cases with a name: those of the rules' own examples, and borders. Each is asked of the plain reader and writer, of
-//! the library, and of the library with the book checked once.
+//! the library, and of the library with the book prepared once.
 
 mod books;
 mod borders;
@@ -8,6 +8,7 @@ mod counted;
 mod largest;
 mod longest;
 mod messages;
+mod prepared;
 mod readings;
 mod types;
 mod unwritten;
@@ -46,7 +47,8 @@ pub fn run(report: &mut Report) {
     let typed = types::cases();
     let passed = typed.iter().filter(|case| case.run(report)).count();
     println!("the nine types at their borders: {passed} of {}", typed.len());
-    let calls = calls::calls().into_iter().chain(counted::calls()).chain(largest::calls()).chain(longest::calls());
+    let calls = calls::calls().into_iter().chain(counted::calls()).chain(prepared::calls());
+    let calls = calls.chain(largest::calls()).chain(longest::calls());
     for (name, call) in calls {
         if report.check(call(), || name.into()) {
             println!("ok {name}");

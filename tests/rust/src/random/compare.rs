@@ -5,15 +5,16 @@ use super::seen::Seen;
 use super::written;
 use crate::readers::{own, stream_place, Free, Reader};
 use crate::report::same;
-use crate::rooms::{self, Listing};
+use crate::rooms::{self, prepared, Listing};
 use plain::{Book, Message, Place, Refusal, Rng};
+use siphonbard::ffi::PREPARED_MOST;
 use siphonbard::Answer;
 
 /// A book as both sides have it.
 pub struct BothBooks<'a> {
     pub octets: &'a [u8],
     pub plain: Result<Book, Refusal>,
-    pub library: Result<siphonbard::Book<'a>, Refusal>,
+    pub library: Result<siphonbard::Book, Refusal>,
 }
 
 impl<'a> BothBooks<'a> {
@@ -22,9 +23,18 @@ impl<'a> BothBooks<'a> {
         BothBooks { octets, plain: Book::read(octets), library }
     }
 
+    /// The verdict on the book, and its numbers in rooms that are exact, too small by one number, half so large, empty,
+    /// and larger.
     pub fn compare(&self, seen: &mut Seen) -> Result<(), String> {
         seen.outcome(&self.library);
-        same("check_book", self.library.map(drop), self.plain.as_ref().map(drop).map_err(|no| *no))
+        let verdict = self.plain.as_ref().map(drop).map_err(|no| *no);
+        same("check_book", Free.check_book(self.octets), verdict)?;
+        same("Book::checked", self.library.as_ref().map(drop).map_err(|no| *no), verdict)?;
+        let numbers = self.library.as_ref().map(siphonbard::Book::numbers).map_err(|no| *no);
+        let exact = numbers.map_or(6, <[u64]>::len);
+        same("most numbers", exact <= PREPARED_MOST, true)?;
+        let rooms = [exact, exact - 1, exact / 2, 0, exact + 3];
+        rooms.iter().try_for_each(|&room| prepared(self.octets, numbers, room))
     }
 }
 
@@ -64,7 +74,7 @@ impl Asked<'_> {
         let (expected, came) = (self.expected(|_| ()), Free.check(self.book.octets, self.octets));
         seen.outcome(&came);
         same("check", came, expected)?;
-        match self.book.library {
+        match &self.book.library {
             Ok(book) => same("Book::check", book.check(self.octets).map_err(own), expected),
             Err(_) => Ok(()),
         }
@@ -93,7 +103,7 @@ impl Asked<'_> {
             self.count(seen, &came);
             came
         })?;
-        match self.book.library {
+        match &self.book.library {
             Ok(book) => {
                 let list = |room: &mut [u64]| book.list(self.octets, room).map(|count| count as u64).map_err(own);
                 rooms::listed(listing, room, list).map_err(|failure| format!("Book, {failure}"))
@@ -106,7 +116,7 @@ impl Asked<'_> {
         let records = |all: Vec<Answer>| all.iter().map(Answer::record).collect();
         let all = siphonbard::list_all(self.book.octets, self.octets).map(records).map_err(own);
         same("list_all", &all, &listing)?;
-        match self.book.library {
+        match &self.book.library {
             Ok(book) => same("Book::list_all", book.list_all(self.octets).map(records).map_err(own), listing),
             Err(_) => Ok(()),
         }
@@ -128,8 +138,8 @@ impl Asked<'_> {
         let came = Free.place(self.book.octets, self.octets, place);
         self.count(seen, &came);
         same("place", came, expected)?;
-        match self.book.library {
-            Ok(book) => same("Book::place", stream_place(&book, self.octets, place), expected),
+        match &self.book.library {
+            Ok(book) => same("Book::place", stream_place(book, self.octets, place), expected),
             Err(_) => Ok(()),
         }
     }

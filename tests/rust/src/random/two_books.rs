@@ -11,8 +11,8 @@ use siphonbard::Answer;
 pub struct Pair<'a> {
     old_tree: &'a Book,
     new_tree: &'a Book,
-    old: siphonbard::Book<'a>,
-    new: siphonbard::Book<'a>,
+    old: &'a siphonbard::Book,
+    new: &'a siphonbard::Book,
 }
 
 /// How many messages had their template in both books, and of how many of these each half of the demand speaks.
@@ -29,7 +29,8 @@ const ASKED_BY_PLACE: u64 = 4;
 impl<'a> Pair<'a> {
     pub fn of(older: &'a BothBooks<'a>, newer: &'a BothBooks<'a>) -> Option<Pair<'a>> {
         let (old_tree, new_tree) = (older.plain.as_ref().ok()?, newer.plain.as_ref().ok()?);
-        let pair = Pair { old_tree, new_tree, old: older.library.ok()?, new: newer.library.ok()? };
+        let (old, new) = (older.library.as_ref().ok()?, newer.library.as_ref().ok()?);
+        let pair = Pair { old_tree, new_tree, old, new };
         extends(new_tree, old_tree).then_some(pair)
     }
 
@@ -68,8 +69,8 @@ impl<'a> Pair<'a> {
         let mut places = Vec::new();
         collect(message.block, &message.root, &mut Vec::new(), &mut places);
         for place in &places {
-            let old = stream_place(&self.old, octets, place);
-            let new = stream_place(&self.new, octets, place);
+            let old = stream_place(self.old, octets, place);
+            let new = stream_place(self.new, octets, place);
             same("place of two books", new, old).map_err(|failure| format!("{place:?}, {failure}"))?;
         }
         Ok(())

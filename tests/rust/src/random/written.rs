@@ -27,10 +27,10 @@ pub fn draft(rng: &mut Rng, seen: &mut Seen, book: &BothBooks, draft: &Draft) ->
     if rng.draw() % MADE_ROOM == 0 {
         asked.makes_room()?;
     }
-    match (&asked.plain, book.library) {
+    match (&asked.plain, &book.library) {
         (Ok(message), Ok(book)) => {
             seen.trips.read_back += 1;
-            reads_back(&book, draft, message)
+            reads_back(book, draft, message)
         }
         _ => Ok(()),
     }
@@ -62,11 +62,11 @@ impl<'a> Asked<'a> {
         let mut free = lent(room);
         let came = Free.write(self.book.octets, self.draft, &mut free);
         same("write", (came, &free), (expected, &left))?;
-        match self.book.library {
+        match &self.book.library {
             Ok(book) => {
                 seen.outcome(&came);
                 let mut stream = lent(room);
-                same("Book::write", (stream_write(&book, self.draft, &mut stream), &stream), (expected, &left))
+                same("Book::write", (stream_write(book, self.draft, &mut stream), &stream), (expected, &left))
             }
             Err(_) => Ok(()),
         }
@@ -76,7 +76,7 @@ impl<'a> Asked<'a> {
         let Draft { template, listing, pool } = self.draft;
         let came = siphonbard::write_all(self.book.octets, *template, listing, pool).map_err(own);
         same("write_all", &came, &self.plain)?;
-        match self.book.library {
+        match &self.book.library {
             Ok(book) => same("Book::write_all", book.write_all(*template, listing, pool).map_err(own), came),
             Err(_) => Ok(()),
         }
@@ -113,7 +113,7 @@ pub fn back(rng: &mut Rng, seen: &mut Seen, book: &BothBooks, message: &Message)
     same("as written", asked.plain.as_deref() == Ok(octets), as_written)?;
     let trip = if as_written { &mut seen.trips.written_back } else { &mut seen.trips.not_so };
     *trip += 1;
-    match book.library {
+    match &book.library {
         Ok(book) if *trip % MADE_ROOM == 0 => {
             let mut copied = Listing::new();
             for answer in book.list_all(octets).into_iter().flatten() {

@@ -1,4 +1,4 @@
-//! The nine exports by pointers and lengths alone, and what they return for an answer.
+//! The ten exports by pointers and lengths alone, and what they return for an answer.
 
 use crate::raw;
 use plain::{Record, Refusal};
@@ -18,16 +18,16 @@ impl<T> Lent<T> {
     }
 }
 
-/// The calls that check the book each time, or those for streams, whose book is to be accepted before.
-pub struct Way {
+/// The calls that check the book each time, of any octets, or those for streams, of a prepared book's numbers.
+pub struct Way<B: 'static> {
     pub name: &'static str,
-    check: raw::Check,
-    list: raw::List,
-    place: raw::Place,
-    write: raw::Write,
+    check: raw::Check<B>,
+    list: raw::List<B>,
+    place: raw::Place<B>,
+    write: raw::Write<B>,
 }
 
-pub static FREE: Way = Way {
+pub static FREE: Way<u8> = Way {
     name: "library",
     check: ffi::siphonbard_check,
     list: ffi::siphonbard_list,
@@ -35,8 +35,8 @@ pub static FREE: Way = Way {
     write: ffi::siphonbard_write,
 };
 
-pub static STREAM: Way = Way {
-    name: "library, book checked once",
+pub static STREAM: Way<u64> = Way {
+    name: "library, book prepared once",
     check: ffi::siphonbard_stream_check,
     list: ffi::siphonbard_stream_list,
     place: ffi::siphonbard_stream_place,
@@ -49,23 +49,44 @@ pub fn check_book(book: Lent<u8>) -> Checked {
     unsafe { ffi::siphonbard_check_book(book.start, book.len) }
 }
 
-impl Way {
-    pub fn check(&self, book: Lent<u8>, message: Lent<u8>) -> Checked {
-        unsafe { (self.check)(book.start, book.len, message.start, message.len) }
+pub fn prepare(book: Lent<u8>, room: Lent<u64>) -> Counted {
+    unsafe { ffi::siphonbard_prepare(book.start, book.len, room.start, room.len) }
+}
+
+impl<B> Way<B> {
+    pub fn by(&'static self, book: Lent<B>) -> By<B> {
+        By { way: self, book }
+    }
+}
+
+/// The calls by one book.
+pub struct By<B: 'static> {
+    way: &'static Way<B>,
+    book: Lent<B>,
+}
+
+impl<B> By<B> {
+    pub fn name(&self) -> &'static str {
+        self.way.name
     }
 
-    pub fn list(&self, book: Lent<u8>, message: Lent<u8>, room: Lent<u64>) -> Counted {
-        unsafe { (self.list)(book.start, book.len, message.start, message.len, room.start, room.len) }
+    pub fn check(&self, message: Lent<u8>) -> Checked {
+        unsafe { (self.way.check)(self.book.start, self.book.len, message.start, message.len) }
     }
 
-    pub fn place(&self, book: Lent<u8>, message: Lent<u8>, steps: Lent<u64>, (kind, element): (u64, u64)) -> Found {
-        let (octets, len) = (message.start, message.len);
-        unsafe { (self.place)(book.start, book.len, octets, len, steps.start, steps.len, kind, element) }
+    pub fn list(&self, message: Lent<u8>, room: Lent<u64>) -> Counted {
+        let (book, len) = (self.book.start, self.book.len);
+        unsafe { (self.way.list)(book, len, message.start, message.len, room.start, room.len) }
     }
 
-    pub fn write(&self, book: Lent<u8>, id: u64, listing: Lent<u64>, pool: Lent<u8>, room: Lent<u8>) -> Counted {
-        let (numbers, len) = (listing.start, listing.len);
-        unsafe { (self.write)(book.start, book.len, id, numbers, len, pool.start, pool.len, room.start, room.len) }
+    pub fn place(&self, message: Lent<u8>, steps: Lent<u64>, (kind, element): (u64, u64)) -> Found {
+        let (book, len) = (self.book.start, self.book.len);
+        unsafe { (self.way.place)(book, len, message.start, message.len, steps.start, steps.len, kind, element) }
+    }
+
+    pub fn write(&self, id: u64, listing: Lent<u64>, pool: Lent<u8>, room: Lent<u8>) -> Counted {
+        let (book, len, numbers, count) = (self.book.start, self.book.len, listing.start, listing.len);
+        unsafe { (self.way.write)(book, len, id, numbers, count, pool.start, pool.len, room.start, room.len) }
     }
 }
 

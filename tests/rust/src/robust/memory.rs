@@ -1,7 +1,6 @@
 //! Memory that a buffer is lent from.
 
 use super::exports::Lent;
-use plain::{refusal, Refusal};
 use std::{mem, ptr, slice};
 
 /// Memory for one buffer at a time.
@@ -16,33 +15,18 @@ pub trait Memory {
     fn seal(&mut self);
 }
 
-/// What a room is made of: numbers for a listing, octets for a message.
+/// What a room is made of: numbers or octets.
 pub trait Kept: Copy + PartialEq + std::fmt::Debug {
     /// What a room is full of before the call.
     const FILLER: Self;
-    /// How many of them there are to each that the call counts.
-    const EACH: usize;
-
-    /// The refusal where the room is too small for these.
-    fn too_small(elements: &[Self]) -> Refusal;
 }
 
 impl Kept for u64 {
     const FILLER: u64 = 0xa5a5_5a5a_c3c3_3c3c;
-    const EACH: usize = 3;
-
-    fn too_small(elements: &[u64]) -> Refusal {
-        refusal(40, elements.len() / Self::EACH)
-    }
 }
 
 impl Kept for u8 {
     const FILLER: u8 = 0xa5;
-    const EACH: usize = 1;
-
-    fn too_small(_: &[u8]) -> Refusal {
-        refusal(55, 0)
-    }
 }
 
 /// A buffer for reading with these elements and nothing else.

@@ -1,0 +1,89 @@
+-- The groups and the surplus ones were read, so the walks past them end where the data start.
+use mathlib.Core.Path.{ap, sym, _∙_}
+use native.Mathlib.Omega.{arith}
+use borrow.Author.Needs.{needs}
+use Rattle.walk.proofs.Ways.{leads}
+use Rattle.wire.proofs.Laws.{lies-on}
+use Rattle.places.specs.Elements.{dataRead}
+use Rattle.places.proofs.Elements.{datas-after, not-refused, rest-to, row-to}
+use Rattle.places.proofs.data_after.Statement.{statement}
+use Rattle.places.proofs.data_after.Tie as tie
+
+pass-row-requires : tie.Need-pass-row-requires
+pass-row-requires c κs =
+    let pre = c .before .before .before .before .pre in
+    (rw (c .before .number .ensures, c .number2 .ensures) (pre .0 .row), pre .1, omega arith)
+
+returns : tie.Need-returns
+returns c =
+    let pass = c .before .before in
+    let n = pass .before in
+    let after = datas-after _ _ _ _ _ _ _ (n .before .before .before .before .pre .3) in
+    absurd (not-refused _ _ (after .row) _
+    (sym (c .enum-told .given .1) ∙ rw (n .before .number .ensures, n .number2 .ensures)
+    at (pass .pass-row .ensures .0)))
+
+skip-groups-requires : tie.Need-skip-groups-requires
+skip-groups-requires c κs =
+    let pass = c .before .before .before in
+    leads _ _ _ _ _ _ (pass .pass-row .ensures .1) (c .before .row .given .1) .1
+
+returns-2 : tie.Need-returns-2
+returns-2 c =
+    let skip = c .before .before in
+    let told = skip .before .before in
+    let pass = told .before .before in
+    let n = pass .before in
+    let after = datas-after _ _ _ _ _ _ _ (n .before .before .before .before .pre .3) in
+    let walks =
+    sym (told .row .given .1) ∙ rw (n .before .number .ensures, n .number2 .ensures) at (pass .pass-row .ensures .0)
+    in
+    let skips = rw (row-to _ _ _ _ _ _ _ after _ _ walks) at (skip .skip-groups .ensures .0) in
+    absurd (not-refused _ _ (after .rest) _ (sym (c .enum-told2 .given .1) ∙ skips))
+
+data-at-requires : tie.Need-data-at-requires
+data-at-requires c κs =
+    let told2 = c .before .before .before in
+    let skip = told2 .before .before in
+    let told = skip .before .before in
+    let pass = told .before .before in
+    let n = pass .before in
+    let pre = n .before .before .before .before .pre in
+    let after = datas-after _ _ _ _ _ _ _ (pre .3) in
+    let walks =
+    sym (told .row .given .1) ∙ rw (n .before .number .ensures, n .number2 .ensures) at (pass .pass-row .ensures .0)
+    in
+    let skips = rw (row-to _ _ _ _ _ _ _ after _ _ walks) at (skip .skip-groups .ensures .0) in
+    let end = rest-to _ _ _ _ _ _ _ after _ _ (sym (told2 .rest .given .1) ∙ skips) in
+    let inside = lies-on _ _ _ _ _ (skip .skip-groups .ensures .1) (told2 .rest .given .1) in
+    rw (c .before .number3 .ensures, c .number4 .ensures) (
+      pre .0 .block .datasFit,
+      pre .0 .block .fewDatas,
+      pre .2,
+      record { short = pre .1 .short; inside = inside .1 },
+      rw end (after .datas),
+    )
+
+returns-3 : tie.Need-returns-3
+returns-3 c =
+    let told2 = c .before .before .before .before in
+    let skip = told2 .before .before in
+    let told = skip .before .before in
+    let pass = told .before .before in
+    let n = pass .before in
+    let after = datas-after _ _ _ _ _ _ _ (n .before .before .before .before .pre .3) in
+    let walks =
+    sym (told .row .given .1) ∙ rw (n .before .number .ensures, n .number2 .ensures) at (pass .pass-row .ensures .0)
+    in
+    let skips = rw (row-to _ _ _ _ _ _ _ after _ _ walks) at (skip .skip-groups .ensures .0) in
+    let end = rest-to _ _ _ _ _ _ _ after _ _ (sym (told2 .rest .given .1) ∙ skips) in
+    (rw (c .before .before .number3 .ensures, c .before .number4 .ensures, end) at (c .data-at .ensures))
+    ∙ ap (dataRead _) (sym (after .same))
+
+pub data-after-spec : {M : Type 1} → statement M
+data-after-spec =
+    tie.close
+    (tie.spec (λ c. omega arith) (λ c κs. omega arith) (λ c. omega arith) (λ c κs. omega arith) pass-row-requires
+    (λ c. search needs) (λ c. search needs) returns skip-groups-requires (λ c. search needs) (λ c. search needs)
+    returns-2
+    (λ c. omega arith) (λ c κs. omega arith) (λ c. omega arith) (λ c κs. omega arith) data-at-requires returns-3)

@@ -1,0 +1,91 @@
+-- One law for each kind of element.
+use mathlib.Core.Path.{sym, _∙_}
+use native.Mathlib.Omega.{arith}
+use borrow.Author.Needs.{needs}
+use Rattle.places.proofs.Elements.{data-less, element-data, element-field, element-group, entry-datas}
+use Rattle.places.proofs.Elements.{entry-fits}
+use Rattle.places.proofs.Elements.{entry-row, field-less, field-readable, group-less}
+use Rattle.places.proofs.element_at.Statement.{statement}
+use Rattle.places.proofs.element_at.Tie as tie
+
+add-field : tie.Need-add-read-field
+add-field c =
+    let pre = c .before .before .before .before .before .pre in
+    omega (arith, pre .0 .stands .block .fieldsFit, pre .0 .stands .block .short)
+
+mul-field : tie.Need-mul-read-field
+mul-field c =
+    let pre = c .before .before .before .before .before .pre in
+    omega (arith, field-less (pre .0) _ (pre .1) _ (c .before .x .given .1), pre .0 .stands .block .fewFields)
+
+add-field-2 : tie.Need-add-read-field-2
+add-field-2 c =
+    let pre = c .before .before .before .before .before .pre in
+    omega (
+      arith,
+      field-less (pre .0) _ (pre .1) _ (c .before .x .given .1),
+      pre .0 .stands .block .fieldsFit,
+      pre .0 .stands .block .short,
+    )
+
+read-field-requires : tie.Need-read-field-requires
+read-field-requires c κs =
+    let pre = c .before .before .before .before .before .pre in
+    let less = field-less (pre .0) _ (pre .1) _ (c .before .x .given .1) in
+    record {
+      whole = omega (arith, less, pre .0 .stands .block .fieldsFit);
+      fits = field-readable _ _ _ _ _ _ _ _ (pre .0 .stands) (pre .0 .enough) (entry-fits (pre .0)) less;
+    }
+
+add-group : tie.Need-add-group-at
+add-group c =
+    let pre = c .before .before .before .before .before .pre in
+    omega (arith, entry-fits (pre .0), pre .0 .short)
+
+group-at-requires : tie.Need-group-at-requires
+group-at-requires c κs =
+    let pre = c .before .before .before .before .before .pre in (
+      pre .0 .stands,
+      record { short = pre .0 .short; inside = entry-fits (pre .0) },
+      group-less (pre .0) _ (pre .1) _ (c .before .x2 .given .1),
+      entry-row (pre .0),
+    )
+
+add-data : tie.Need-add-data-after
+add-data c =
+    let pre = c .before .before .before .before .before .pre in
+    omega (arith, entry-fits (pre .0), pre .0 .short)
+
+data-after-requires : tie.Need-data-after-requires
+data-after-requires c κs =
+    let pre = c .before .before .before .before .before .pre in (
+      pre .0 .stands,
+      record { short = pre .0 .short; inside = entry-fits (pre .0) },
+      data-less (pre .0) _ (pre .1) _ (c .before .x3 .given .1),
+      entry-datas (pre .0),
+    )
+
+returns : tie.Need-returns
+returns c =
+    let told = c .before .before in
+    let pre = told .before .before .before .before .pre in
+    rw (told .x .given .1)
+    (c .read-field .ensures ∙ sym (element-field (pre .0) _ (field-less (pre .0) _ (pre .1) _ (told .x .given .1))))
+
+returns-2 : tie.Need-returns-2
+returns-2 c =
+    let told = c .before .before in
+    let pre = told .before .before .before .before .pre in
+    rw (told .x2 .given .1) (c .group-at .ensures ∙ sym (element-group (pre .0) _))
+
+returns-3 : tie.Need-returns-3
+returns-3 c =
+    let told = c .before .before in
+    let pre = told .before .before .before .before .pre in
+    rw (told .x3 .given .1) (c .data-after .ensures ∙ sym (element-data (pre .0) _))
+
+pub element-at-spec : {M : Type 1} → statement M
+element-at-spec =
+    tie.close
+    (tie.spec (λ c. search needs) add-field mul-field add-field-2 read-field-requires (λ c. search needs) add-group
+    group-at-requires (λ c. search needs) add-data data-after-requires returns returns-2 returns-3)

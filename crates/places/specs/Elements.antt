@@ -1,0 +1,83 @@
+-- The element that a place ends with: whether the template has it, and what it is in an entry that was accepted.
+use mathlib.Core.Path.{_≡_}
+use mathlib.Core.List.{List, [], _∷_}
+use Prim.Native.Nat.{ℕ, _≤_}
+use lib.Dec.{leb}
+use lib.ListN.{getD, length}
+use Rattle.layout.specs.Result.{Result, _>>=_, _and_, done, if_then_else_, refused}
+use Rattle.layout.specs.Book.{need}
+use Rattle.layout.specs.Message.{Entry, readBlock, readDatas, readGroups}
+use Rattle.layout.specs.Reading.{hasPlace}
+use Rattle.layout.specs.Values.{Step, Values, elementOf, groupOf}
+use Rattle.layout.specs.declared.Answer.{Answer}
+use Rattle.layout.specs.declared.Answer.the-variants.{Absent}
+use Rattle.layout.specs.declared.Element as Element
+use Rattle.layout.specs.declared.Element.{Element}
+use Rattle.prepared.specs.Positions.{BlockAt, dataCount, fieldCount, groupCount, groupsFrom, innerAt, shapeAt}
+use Rattle.prepared.specs.declared.Place.{Place}
+use Rattle.prepared.specs.declared.Place.the-variants.{At, Unknown}
+use Rattle.places.specs.Seeks.{rowAfter}
+
+-- ---- whether the template has it
+
+-- The number of the element, and how many of its kind the block at a has.
+unfoldable pub numberOf : Element → ℕ
+numberOf (Element.the-variants.Field k) = k
+numberOf (Element.the-variants.Group k) = k
+numberOf (Element.the-variants.Data k) = k
+
+unfoldable pub countOf : List ℕ → ℕ → Element → ℕ
+countOf p a (Element.the-variants.Field k) = fieldCount p a
+countOf p a (Element.the-variants.Group k) = groupCount p a
+countOf p a (Element.the-variants.Data k) = dataCount p a
+
+-- The block that steps lead to from the block at a.
+unfoldable pub blockAfter : List ℕ → List Step → ℕ → ℕ
+blockAfter p [] a = a
+blockAfter p (s ∷ ps) a = blockAfter p ps (rowAfter p (s .group) (groupsFrom p a))
+
+-- It has the place, as far as the block at a goes.
+abbrev pub placeIn : List ℕ → ℕ → ℕ → List Step → Element → Place
+placeIn p depth a ps x =
+    if hasPlace ps x (shapeAt p a) (innerAt p depth a) then At (blockAfter p ps a) else Unknown
+
+-- "A place is up to four steps", from the template's block.
+abbrev pub placeFrom : List ℕ → ℕ → List Step → Element → Place
+placeFrom p root ps x =
+    if leb (length ps) 4 and hasPlace ps x (shapeAt p root) (innerAt p 4 root) then At (blockAfter p ps root)
+    else Unknown
+
+-- ---- what it is
+
+-- It was not refused.
+pub record Done {A : Type 0} (r : Result A) : Type 0 where
+  pub value : A
+  pub is : r ≡ done value
+
+-- The groups of the block at a, which start at `at`, with n surplus ones; and then its data.
+module _ (p : List ℕ) (depth a : ℕ) (m : List ℕ) (v : ℕ) where
+  abbrev pub datasRead : ℕ → ℕ → Result (List Answer × ℕ)
+  datasRead n at = readGroups m v (innerAt p depth a) n at >>= λ g. readDatas m v (shapeAt p a .datas) 0 (g .1)
+
+  -- An entry of the block at a, with l octets from `at` on.
+  abbrev pub entryRead : ℕ → ℕ → ℕ → Result Entry
+  entryRead n l at = readBlock m v (shapeAt p a) (readGroups m v (innerAt p depth a) n) 0 l at
+
+  -- It was accepted.
+  pub record Accepted (n l at : ℕ) : Type 0 where
+    pub stands : BlockAt p depth a
+    pub short : length m ≤ 65535
+    pub enough : need v (shapeAt p a) ≤ l
+    pub reads : Done (entryRead n l at)
+
+unfoldable pub groupRead : ℕ → Result (Values × ℕ) → Answer
+groupRead k (done r) = groupOf k (r .0)
+groupRead k (refused n p) = Absent
+
+unfoldable pub dataRead : ℕ → Result (List Answer × ℕ) → Answer
+dataRead k (done r) = getD (r .0) k Absent
+dataRead k (refused n p) = Absent
+
+unfoldable pub elementRead : Element → Result Entry → Answer
+elementRead x (done e) = elementOf x (e .0) (e .1) (e .2)
+elementRead x (refused n p) = Absent

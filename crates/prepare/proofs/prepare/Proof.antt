@@ -1,0 +1,49 @@
+-- The numbers are counted, and stored if there is room for them.
+use mathlib.Core.Path.{_≡_, ap}
+use Prim.Native.Nat.{ℕ, _+_, _*_}
+use native.Mathlib.Omega.{arith}
+use borrow.Author.Needs.{needs}
+use Rattle.layout.specs.Octets.{wordsOf}
+use Rattle.book.proofs.RuleLaws.{head-says}
+use Rattle.templates.proofs.Found.{contents}
+use Rattle.prepare.specs.Templates.{IsPreparable, sizesOf, templatesAt}
+use Rattle.prepare.proofs.Accepted.{no-room, prepared, ready}
+use Rattle.prepare.proofs.prepare.Statement.{statement}
+use Rattle.prepare.proofs.prepare.Tie as tie
+
+is-ready : (c : tie.After-word) → IsPreparable (c .before .before .before .args .book .now) (c .word .result)
+is-ready c = ready _ (c .before .before .before .pre) _ (c .word .ensures .value)
+
+-- As many numbers as were counted.
+size-is : (c : tie.After-size-templates) → let n = c .before .word .result in
+    let b = wordsOf (c .before .before .before .before .args .book .now) in
+    67 + 2 * n + c .size-templates .result ≡ 67 + 2 * n + sizesOf (templatesAt b n 4)
+size-is c = ap (λ (x : ℕ). 67 + 2 * c .before .word .result + x) (c .size-templates .ensures)
+
+returns : tie.Need-returns
+returns c =
+    let size = c .before in
+    let n = size .before in
+    no-room _ (n .before .before .before .pre) _ (n .word .ensures .value) _ _ (size-is size) (c .if1 .taken)
+
+put-book-requires : tie.Need-put-book-requires
+put-book-requires c κs =
+    let size = c .before .before in
+    (is-ready (size .before), omega (arith, size .size-templates .ensures, c .before .if1 .left))
+
+returns-2 : tie.Need-returns-2
+returns-2 c =
+    let put = c .before .before in
+    let size = put .before .before .before in
+    let n = size .before in
+    prepared _ (n .before .before .before .pre) _ (n .word .ensures .value) _ _ (size-is size)
+    (put .before .before .if1 .left) _ (put .put-book .ensures)
+
+pub prepare-spec : {M : Type 1} → statement M
+prepare-spec =
+    tie.close
+    (tie.spec (λ c κs. omega (arith, head-says _ (contents _ (c .before .before .pre) .head) .fits))
+    (λ c. omega (arith, is-ready c .few)) (λ c. omega (arith, is-ready c .few))
+    (λ c κs. (is-ready c .templates, omega (arith, is-ready c .few)))
+    (λ c. omega (arith, is-ready (c .before) .few, c .size-templates .ensures))
+    returns put-book-requires (λ c. search needs) returns-2)

@@ -1,0 +1,43 @@
+-- What a pass over prepared numbers cites instead of a check.
+use mathlib.Core.Path.{_≡_, refl}
+use mathlib.Core.List.{List}
+use Prim.Native.Nat.{ℕ, zero, suc, _+_, _-_, _≤_, _<_}
+use native.Mathlib.Omega.{arith}
+use borrow.Author.Tests.{le-leb}
+use Rattle.layout.specs.Result.{if_then_else_}
+use Rattle.layout.specs.Book.{groupSinces, none, present}
+use Rattle.layout.specs.BookRules.{word}
+use Rattle.prepared.specs.Positions.{IsRow, Opened, groupsAt, nextFrom, versionAt}
+
+-- No groups are no tree.
+pub no-groups-at : (p : List ℕ) (depth n a : ℕ) → n ≤ 0 → groupsAt p depth n a ≡ none
+unfolding groupsAt
+no-groups-at p zero zero a h = refl
+no-groups-at p (suc depth) zero a h = refl
+no-groups-at p depth (suc n) a h = absurd (omega arith)
+
+-- The first of the groups that are left.
+pub open-row : (p : List ℕ) (depth n a : ℕ) → 0 < n → IsRow p depth n a → Opened p depth n a
+unfolding IsRow groupsAt
+open-row p depth zero a h row = absurd (omega arith)
+open-row p zero (suc n) a h row = absurd row
+open-row p (suc depth) (suc n) a h row =
+    let d : suc depth - 1 ≡ depth = omega arith in
+    let k : suc n - 1 ≡ n = omega arith in
+    record {
+      deep = omega arith;
+      first = record { block = row .0; row = rw d (row .1) };
+      rest = rw k (row .2);
+      tree = rw (d, k) refl;
+    }
+
+-- At the book's version and later all groups are present.
+pub groups-here : (p : List ℕ) (v depth n a : ℕ) → versionAt p ≤ v → IsRow p depth n a
+    → present v (groupSinces (groupsAt p depth n a)) ≡ n
+unfolding IsRow groupsAt groupSinces present if_then_else_
+groups-here p v zero zero a h row = refl
+groups-here p v (suc depth) zero a h row = refl
+groups-here p v zero (suc n) a h row = absurd row
+groups-here p v (suc depth) (suc n) a h row =
+    rw (le-leb (word p (a + 1)) v (omega (arith, row .0 .since)))
+    (omega (arith, groups-here p v (suc depth) n (nextFrom p a) h (row .2)))

@@ -1,0 +1,329 @@
+-- Where the numbers of a tree stand, the tree is read back, and everything that was worked out of it is right.
+use mathlib.Core.Path.{_≡_, refl, subst, sym, ap, _∙_}
+use mathlib.Core.Bool.{true}
+use mathlib.Core.List.{List, [], _∷_, _++_}
+use Prim.Native.Nat.{ℕ, zero, suc, _+_, _*_, _%_, _≤_, _<_}
+use native.Mathlib.Nat.{le-refl}
+use native.Mathlib.Omega.{arith}
+use lib.ListN.{getD, length, length-append, length-map, length-set}
+use lib.Seq.{getD-drop, getD-take}
+use borrow.Author.Tests.{le-leb, leb-true}
+use Rattle.layout.specs.Result.{Each, if_then_else_}
+use Rattle.layout.specs.Book.{Data, Field, Groups, Shape, dataSinces, end, fieldSinces, groupSinces, more, need}
+use Rattle.layout.specs.Book.{Template, needAfter, none, present}
+use Rattle.layout.specs.BookRules.{fieldAt, parseDatas, parseFields, rising, shapeGood, word}
+use Rattle.layout.proofs.Present.{present-up}
+use Rattle.layout.proofs.Results.{and-left, and-right}
+use Rattle.layout.proofs.Stands.{Stands, split-to}
+use Rattle.prepared.specs.Numbers.{blockOf, blockSize, contentsOf, count, datasOf, fieldsOf, groupsOf, groupsSize}
+use Rattle.prepared.specs.Numbers.{rowOf, slots, slotsOf, tableOf}
+use Rattle.prepared.specs.Positions.{Derived, IsBlock, IsRow, groupsAt, shapeAt, versionAt}
+use Rattle.prepared.specs.Fits.{Fits, FitsShape}
+
+-- ---- numbers that stand
+
+pub number-at : {m : List ℕ} {at to : ℕ} {xs : List ℕ} → Stands m at xs to → (i : ℕ) → i < length xs
+    → word m (at + i) ≡ getD xs i 0
+number-at {m} {at} {to} {xs} s i h =
+    let e = ap (λ (l : List ℕ). getD l i 0) (s .whole) in
+    rw (getD-take, getD-drop) at e
+
+-- The first k of them, and the rest.
+past : {m : List ℕ} {at to : ℕ} (ys xs : List ℕ) (k : ℕ) → k ≡ length ys → Stands m at (ys ++ xs) to
+    → Stands m (at + k) xs to
+past {m} {at} ys xs k e s = split-to ys xs (at + k) (omega arith) s .1
+
+-- ---- lengths
+
+length-fields : (fs : List Field) → length (fieldsOf fs) ≡ 6 * length fs
+unfolding fieldsOf
+length-fields [] = refl
+length-fields (f ∷ fs) = omega (arith, length-fields fs)
+
+length-datas : (ds : List Data) → length (datasOf ds) ≡ 2 * length ds
+unfolding datasOf
+length-datas [] = refl
+length-datas (d ∷ ds) = omega (arith, length-datas ds)
+
+length-table : (fs : List Field) → length (tableOf fs) ≡ 5 * length fs
+unfolding tableOf
+length-table [] = refl
+length-table (f ∷ fs) = omega (arith, length-table fs)
+
+pub length-block : (version i since : ℕ) (s : Shape) (g next at : ℕ)
+    → length (blockOf version i since s g next at) ≡ blockSize s
+length-block version i since s g next at =
+    omega (
+      arith,
+      length-append (fieldsOf (s .fields)) (datasOf (s .datas) ++ tableOf (s .fields)),
+      length-append (datasOf (s .datas)) (tableOf (s .fields)),
+      length-fields (s .fields),
+      length-datas (s .datas),
+      length-table (s .fields),
+    )
+
+pub length-groups : (version : ℕ) (gs : Groups) (at : ℕ) → length (groupsOf version gs at) ≡ groupsSize gs
+unfolding groupsOf groupsSize
+length-groups version none at = refl
+length-groups version (more i since s inner rest) at =
+    let x = at + blockSize s in
+    let y = x + groupsSize inner in
+    let b = blockOf version i since s (count inner) y at in
+    omega (
+      arith,
+      length-append b (groupsOf version inner x ++ groupsOf version rest y),
+      length-append (groupsOf version inner x) (groupsOf version rest y),
+      length-block version i since s (count inner) y at,
+      length-groups version inner x,
+      length-groups version rest y,
+    )
+
+pub length-slots : (ts : List Template) (at : ℕ) (ss : List ℕ) → length (slotsOf ts at ss) ≡ length ss
+unfolding slotsOf
+length-slots [] at ss = refl
+length-slots (t ∷ ts) at ss = length-slots ts _ _ ∙ length-set ss (t .id % slots) at
+
+pub length-contents : (ts : List Template) (at : ℕ) → length (contentsOf ts at) ≡ 2 * length ts
+unfolding contentsOf
+length-contents [] at = refl
+length-contents (t ∷ ts) at = omega (arith, length-contents ts (at + groupsSize (rowOf t)))
+
+-- ---- fields and data
+
+module _ (p : List ℕ) where
+  field-stands : (f : Field) (xs : List ℕ) (at to : ℕ)
+      → Stands p at (f .id ∷ f .type ∷ f .length ∷ f .offset ∷ f .presence ∷ f .since ∷ xs) to
+      → (fieldAt p at ≡ f) × Stands p (at + 6) xs to
+  field-stands f xs at to s =
+      let zero-is : at + 0 ≡ at = omega arith in
+      let e0 = rw zero-is at (number-at s 0 (omega arith)) in (
+        rw (
+          e0,
+          number-at s 1 (omega arith),
+          number-at s 2 (omega arith),
+          number-at s 3 (omega arith),
+          number-at s 4 (omega arith),
+          number-at s 5 (omega arith),
+        ) refl,
+        past (f .id ∷ f .type ∷ f .length ∷ f .offset ∷ f .presence ∷ f .since ∷ []) xs 6 refl s,
+      )
+
+  pub fields-stand : (fs : List Field) (at to : ℕ) → Stands p at (fieldsOf fs) to → parseFields p (length fs) at ≡ fs
+  unfolding fieldsOf parseFields
+  fields-stand [] at to s = refl
+  fields-stand (f ∷ fs) at to s =
+      let o = field-stands f (fieldsOf fs) at to s in
+      rw (o .0, fields-stand fs (at + 6) to (o .1)) refl
+
+  pub datas-stand : (ds : List Data) (at to : ℕ) → Stands p at (datasOf ds) to → parseDatas p (length ds) at ≡ ds
+  unfolding datasOf parseDatas
+  datas-stand [] at to s = refl
+  datas-stand (d ∷ ds) at to s =
+      let zero-is : at + 0 ≡ at = omega arith in
+      let e0 = rw zero-is at (number-at s 0 (omega arith)) in
+      let e1 = number-at s 1 (omega arith) in
+      rw (e0, e1, datas-stand ds (at + 2) to (past (d .id ∷ d .since ∷ []) (datasOf ds) 2 refl s)) refl
+
+  -- The table stands beside the fields.
+  first-derived : (f : Field) (at x y : ℕ) (xs : List ℕ) → fieldAt p at ≡ f
+      → Stands p x (tableOf (f ∷ []) ++ xs) y → Derived p (x + 5 * 0) (fieldAt p (at + 6 * 0))
+  unfolding tableOf
+  first-derived f at x y xs is s =
+      let zero-is : x + 0 ≡ x = omega arith in
+      let q : x ≡ x + 5 * 0 = omega arith in
+      let r : at ≡ at + 6 * 0 = omega arith in
+      subst (λ (z : ℕ). Derived p z (fieldAt p (at + 6 * 0))) q (subst (λ (z : ℕ). Derived p x (fieldAt p z)) r
+      (subst (λ (g : Field). Derived p x g) (sym is)
+      (record {
+        end = rw zero-is at (number-at s 0 (omega arith));
+        least = number-at s 1 (omega arith);
+        spread = number-at s 2 (omega arith);
+        null = number-at s 3 (omega arith);
+        width = number-at s 4 (omega arith);
+      })))
+
+  table-stands : (fs : List Field) (at to x y : ℕ) → Stands p at (fieldsOf fs) to → Stands p x (tableOf fs) y
+      → (i : ℕ) → i < length fs → Derived p (x + 5 * i) (fieldAt p (at + 6 * i))
+  unfolding fieldsOf tableOf
+  table-stands [] at to x y s e i h = absurd (omega arith)
+  table-stands (f ∷ fs) at to x y s e zero h =
+      first-derived f at x y (tableOf fs) (field-stands f (fieldsOf fs) at to s .0) e
+  table-stands (f ∷ fs) at to x y s e (suc i) h =
+      let q : at + 6 + 6 * i ≡ at + 6 * suc i = omega arith in
+      let r : x + 5 + 5 * i ≡ x + 5 * suc i = omega arith in
+      subst (λ (z : ℕ). Derived p z (fieldAt p (at + 6 * suc i))) r
+      (subst (λ (z : ℕ). Derived p (x + 5 + 5 * i) (fieldAt p z)) q
+      (table-stands fs (at + 6) to (x + 5) y (field-stands f (fieldsOf fs) at to s .1)
+      (past (tableOf (f ∷ [])) (tableOf fs) 5 refl e) i (omega arith)))
+
+-- ---- sinces
+
+pub rising-up : (v high low : ℕ) (ss : List ℕ) → high ≤ v → rising high low ss ≡ true → Each (λ since. since ≤ v) ss
+unfolding rising Each
+rising-up v high low [] h g = tt
+rising-up v high low (s ∷ ss) h g =
+    let r = and-right _ _ g in
+    (omega (arith, leb-true s high (and-left _ _ r)), rising-up v high s ss h (and-right _ _ r))
+
+-- The fields of which rule 6 holds: none is below `low`, and none falls.
+module _ (b : List ℕ) (high : ℕ) where
+  sinces-above : (n low w : ℕ) → rising high low (fieldSinces (parseFields b n w)) ≡ true → (i : ℕ) → i < n
+      → low ≤ word b (w + 6 * i + 5)
+  unfolding rising parseFields
+  sinces-above zero low w g i h = absurd (omega arith)
+  sinces-above (suc n) low w g zero h =
+      let q : w + 6 * 0 ≡ w = omega arith in
+      rw q (leb-true _ _ (and-left _ _ g))
+  sinces-above (suc n) low w g (suc i) h =
+      let q : w + 6 * suc i ≡ w + 6 + 6 * i = omega arith in
+      rw q (omega (
+        arith,
+        leb-true low (word b (w + 5)) (and-left _ _ g),
+        sinces-above n (word b (w + 5)) (w + 6) (and-right _ _ (and-right _ _ g)) i (omega arith),
+      ))
+
+  sinces-rise : (n low w : ℕ) → rising high low (fieldSinces (parseFields b n w)) ≡ true → (i j : ℕ) → i ≤ j → j < n
+      → word b (w + 6 * i + 5) ≤ word b (w + 6 * j + 5)
+  unfolding rising parseFields
+  sinces-rise zero low w g i j h k = absurd (omega arith)
+  sinces-rise (suc n) low w g zero zero h k = le-refl _
+  sinces-rise (suc n) low w g (suc i) zero h k = absurd (omega arith)
+  sinces-rise (suc n) low w g zero (suc j) h k =
+      let p : w + 6 * 0 ≡ w = omega arith in
+      let q : w + 6 * suc j ≡ w + 6 + 6 * j = omega arith in
+      rw (p, q) (sinces-above n (word b (w + 5)) (w + 6) (and-right _ _ (and-right _ _ g)) j (omega arith))
+  sinces-rise (suc n) low w g (suc i) (suc j) h k =
+      let p : w + 6 * suc i ≡ w + 6 + 6 * i = omega arith in
+      let q : w + 6 * suc j ≡ w + 6 + 6 * j = omega arith in
+      rw (p, q)
+      (sinces-rise n (word b (w + 5)) (w + 6) (and-right _ _ (and-right _ _ g)) i j (omega arith) (omega arith))
+
+-- At the book's version and later the need is one.
+need-up : (version v e : ℕ) (fs : List Field) → Each (λ since. since ≤ version) (fieldSinces fs) → version ≤ v
+    → needAfter version e fs ≡ needAfter v e fs
+unfolding needAfter Each if_then_else_
+need-up version v e [] u h = refl
+need-up version v e (f ∷ fs) u h =
+    rw (le-leb (f .since) version (u .0), le-leb (f .since) v (omega (arith, u .0)))
+    (need-up version v (end f) fs (u .1) h)
+
+-- ---- a block
+
+module _ (p : List ℕ) (short : length p ≤ 65535) (i since : ℕ) (s : Shape) (inner : Groups) (next at : ℕ)
+    (old : since ≤ versionAt p) (fits : FitsShape (versionAt p) s inner)
+    (stands : Stands p at (blockOf (versionAt p) i since s (count inner) next at) (at + blockSize s)) where
+  abbrev fields : ℕ
+  fields = length (s .fields)
+
+  abbrev datas : ℕ
+  datas = length (s .datas)
+
+  abbrev head : List ℕ
+  head =
+      i ∷ since ∷ s .length ∷ fields ∷ count inner ∷ datas ∷ need (versionAt p) s ∷ (count inner + datas) ∷ next
+      ∷ (at + blockSize s) ∷ (at + 12 + 6 * fields) ∷ (at + 12 + 6 * fields + 2 * datas) ∷ []
+
+  abbrev tables : List ℕ
+  tables = datasOf (s .datas) ++ tableOf (s .fields)
+
+  parts : Stands p at head (at + 12) × Stands p (at + 12) (fieldsOf (s .fields) ++ tables) (at + blockSize s)
+  parts = split-to head (fieldsOf (s .fields) ++ tables) (at + 12) refl stands
+
+  -- Number k of the block's head.
+  pub head-is : (k : ℕ) → k < 12 → word p (at + k) ≡ getD head k 0
+  head-is k h = number-at (parts .0) k h
+
+  fields-are : Stands p (at + 12) (fieldsOf (s .fields)) (at + 12 + 6 * fields)
+      × Stands p (at + 12 + 6 * fields) tables (at + blockSize s)
+  fields-are =
+      split-to (fieldsOf (s .fields)) tables (at + 12 + 6 * fields) (omega (arith, length-fields (s .fields)))
+      (parts .1)
+
+  datas-are : Stands p (at + 12 + 6 * fields) (datasOf (s .datas)) (at + 12 + 6 * fields + 2 * datas)
+      × Stands p (at + 12 + 6 * fields + 2 * datas) (tableOf (s .fields)) (at + blockSize s)
+  datas-are =
+      split-to (datasOf (s .datas)) (tableOf (s .fields)) (at + 12 + 6 * fields + 2 * datas)
+      (omega (arith, length-datas (s .datas))) (fields-are .1)
+
+  pub shape-is : shapeAt p at ≡ s
+  shape-is =
+      rw (head-is 2 (omega arith), head-is 3 (omega arith), head-is 5 (omega arith), head-is 10 (omega arith))
+      (rw (
+        fields-stand p (s .fields) (at + 12) _ (fields-are .0),
+        datas-stand p (s .datas) (at + 12 + 6 * fields) _ (datas-are .0),
+      ) refl)
+
+  pub block-is : IsBlock p at
+  block-is =
+      record {
+        short = short;
+        fewFields = rw (head-is 3 (omega arith)) (fits .fewFields);
+        fewGroups = rw (head-is 4 (omega arith)) (fits .fewGroups);
+        fewDatas = rw (head-is 5 (omega arith)) (fits .fewDatas);
+        fieldsFit = rw (head-is 3 (omega arith)) (fields-are .0 .fits);
+        datasFit = rw (head-is 10 (omega arith), head-is 5 (omega arith)) (datas-are .0 .fits);
+        tableFits = rw (head-is 11 (omega arith), head-is 3 (omega arith)) (omega (arith, datas-are .1 .fits));
+        good = subst (λ (z : Shape). shapeGood z ≡ true) (sym shape-is) (fits .good);
+        since = rw (head-is 1 (omega arith)) old;
+        rising = sinces-rise p (versionAt p) _ 0 (at + 12)
+            (subst (λ (z : Shape). rising (versionAt p) 0 (fieldSinces (z .fields)) ≡ true) (sym shape-is)
+            (fits .sinces));
+        datasHere = λ v h.
+            ap (λ (z : Shape). present v (dataSinces (z .datas))) shape-is
+            ∙ present-up v (versionAt p) _ (fits .dataSince) h ∙ length-map (s .datas) (λ (d : Data). d .since)
+            ∙ sym (head-is 5 (omega arith));
+        needs = λ v h.
+            head-is 6 (omega arith)
+            ∙ need-up (versionAt p) v 0 (s .fields) (rising-up _ _ _ _ (le-refl _) (fits .sinces)) h
+            ∙ ap (λ (z : Shape). need v z) (sym shape-is);
+        follow = rw (head-is 7 (omega arith), head-is 4 (omega arith), head-is 5 (omega arith)) refl;
+        derived = λ j h.
+            subst (λ (z : ℕ). Derived p (z + 5 * j) (fieldAt p (at + 12 + 6 * j))) (sym (head-is 11 (omega arith)))
+            (table-stands p (s .fields) (at + 12) _ _ _ (fields-are .0) (datas-are .1) j
+            (rw (head-is 3 (omega arith)) at h));
+      }
+
+-- ---- rows
+
+-- The groups stand at `at` as a row, and are read back.
+pub record Read (p : List ℕ) (depth at : ℕ) (gs : Groups) : Type 0 where
+  pub row : IsRow p depth (count gs) at
+  pub tree : groupsAt p depth (count gs) at ≡ gs
+
+pub row-stands : (p : List ℕ) → length p ≤ 65535 → (depth at to : ℕ) (gs : Groups) → Fits (versionAt p) depth gs
+    → Stands p at (groupsOf (versionAt p) gs at) to → Read p depth at gs
+unfolding IsRow groupsAt groupsOf groupsSize groupSinces Fits
+row-stands p short zero at to none f s = record { row = tt; tree = refl }
+row-stands p short (suc depth) at to none f s = record { row = tt; tree = refl }
+row-stands p short zero at to (more i since sh inner rest) f s = absurd f
+row-stands p short (suc depth) at to (more i since sh inner rest) f s =
+    let version = versionAt p in
+    let x = at + blockSize sh in
+    let y = x + groupsSize inner in
+    let b = blockOf version i since sh (count inner) y at in
+    let o = split-to b (groupsOf version inner x ++ groupsOf version rest y) x
+    (omega (arith, length-block version i since sh (count inner) y at)) s in
+    let q = split-to (groupsOf version inner x) (groupsOf version rest y) y
+    (omega (arith, length-groups version inner x)) (o .1) in
+    let l = row-stands p short depth x y inner (f .2) (q .0) in
+    let r = row-stands p short (suc depth) y to rest (f .3) (q .1) in
+    let is = head-is p short i since sh inner y at (f .0) (f .1) (o .0) in
+    let zero-is : at + 0 ≡ at = omega arith in
+    let id-is = rw zero-is at (is 0 (omega arith)) in
+    record {
+      row = (
+        block-is p short i since sh inner y at (f .0) (f .1) (o .0),
+        rw (is 4 (omega arith), is 9 (omega arith)) (l .row),
+        rw (is 8 (omega arith)) (r .row),
+      );
+      tree = rw (
+        id-is,
+        is 1 (omega arith),
+        shape-is p short i since sh inner y at (f .0) (f .1) (o .0),
+        is 4 (omega arith),
+        is 9 (omega arith),
+        is 8 (omega arith),
+        l .tree,
+        r .tree,
+      ) refl;
+    }

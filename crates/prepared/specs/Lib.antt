@@ -1,0 +1,6 @@
+pub mod Books
+pub mod Cases
+pub mod Fits
+pub mod Needs
+pub mod Numbers
+pub mod Positions

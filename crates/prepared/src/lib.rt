@@ -1,0 +1,123 @@
+// The prepared book: numbers that are made once of an accepted book, and what they say of a block.
+ghost use mathlib.Core.Path.{_≡_};
+ghost use Prim.Native.Nat.{_+_, _<_};
+ghost use lib.ListN.{length};
+ghost use Rattle.layout.specs.Book.{need as needOf};
+ghost use Rattle.layout.specs.BookRules.{word};
+ghost use Rattle.prepared.specs.Positions.{IsBlock, IsRow, Opened, shapeAt};
+ghost use Rattle.prepared.specs.Needs.{FieldsUpTo};
+ghost use Rattle.prepared.specs.Books.{HoldsBook, placeOf};
+
+// Where the slots start, and the contents; how many numbers are a block's head.
+const SLOTS: usize = 3;
+
+const CONTENTS: usize = 67;
+
+const HEAD: usize = 12;
+
+// Where a template's block stands.
+pub enum Place {
+    At(usize),
+    Unknown,
+}
+
+// Number i.
+pub fn value(p: &[u64], i: usize) -> u64
+    requires { ⌜ i < length (now p) ⌝ }
+    ensures { λ r. ⌜ r ≡ word (now (p .entry)) i ⌝ }
+{
+    p[i]
+}
+
+// Number i, which is a count or a place.
+pub fn number(p: &[u64], i: usize) -> usize
+    requires { ⌜ i < length (now p) ⌝ }
+    ensures { λ r. ⌜ r ≡ word (now (p .entry)) i ⌝ }
+{
+    p[i] as usize
+}
+
+// Does nothing. Its contract is a law: what the first of the n groups at a is good for.
+pub fn open_row(p: &[u64], a: usize, n: usize, depth: usize)
+    requires { ⌜ IsRow (now p) depth n a × (0 < n) ⌝ }
+    ensures { λ _. ⌜ Opened (now (p .entry)) depth n a ⌝ }
+{}
+
+// How many fields of the block at a are present at a version before the book's: sinces never fall, so half of them is
+// passed at each step.
+fn older_fields(p: &[u64], a: usize, v: usize) -> usize
+    requires { ⌜ IsBlock (now p) a ⌝ }
+    ensures { λ r. ⌜ FieldsUpTo (now (p .entry)) a v r ⌝ }
+{
+    let mut low = 0;
+    let mut high = number(p, a + 3);
+    while low < high {
+        let mid = (low + high) / 2;
+        if number(p, a + HEAD + 6 * mid + 5) <= v {
+            low = mid + 1;
+        } else {
+            high = mid;
+        }
+    }
+    low
+}
+
+// The need of the block at a, at a version before the book's: the end of its last field that is present.
+fn older_need(p: &[u64], a: usize, v: usize) -> usize
+    requires { ⌜ IsBlock (now p) a ⌝ }
+    ensures { λ r. ⌜ r ≡ needOf v (shapeAt (now (p .entry)) a) ⌝ }
+{
+    let n = older_fields(p, a, v);
+    if n == 0 {
+        return 0;
+    }
+    number(p, number(p, a + 11) + 5 * (n - 1))
+}
+
+// The need of the block at a, at version v.
+pub fn need(p: &[u64], a: usize, v: usize) -> usize
+    requires { ⌜ IsBlock (now p) a ⌝ }
+    ensures { λ r. ⌜ r ≡ needOf v (shapeAt (now (p .entry)) a) ⌝ }
+{
+    if number(p, 1) <= v {
+        return number(p, a + 6);
+    }
+    older_need(p, a, v)
+}
+
+// The place of the template with this id, searched in the contents: ids rise, so half of the rows is passed at each
+// step.
+fn search(p: &[u64], id: usize) -> Place
+    requires { ⌜ HoldsBook (now p) ⌝ }
+    ensures { λ r. ⌜ r ≡ placeOf (now (p .entry)) id ⌝ }
+{
+    let mut low = 0;
+    let mut high = number(p, 2);
+    while low < high {
+        let mid = (low + high) / 2;
+        let here = number(p, CONTENTS + 2 * mid);
+        if here == id {
+            return Place::At(number(p, CONTENTS + 2 * mid + 1));
+        }
+        if here < id {
+            low = mid + 1;
+        } else {
+            high = mid;
+        }
+    }
+    Place::Unknown
+}
+
+// The place of the template with this id: its slot mostly leads there.
+pub fn find(p: &[u64], id: usize) -> Place
+    requires { ⌜ HoldsBook (now p) ⌝ }
+    ensures { λ r. ⌜ r ≡ placeOf (now (p .entry)) id ⌝ }
+{
+    let a = number(p, SLOTS + id % 64);
+    if 0 < a {
+        if number(p, a) == id {
+            return Place::At(a);
+        }
+    }
+    search(p, id)
+}

@@ -1,0 +1,438 @@
+-- The walk calls itself: a row's groups, a group's entries with their rows. The measure of a call is the depth left,
+-- and within a depth the order of the calls.
+use mathlib.Core.Path.{_≡_, sym, _∙_, refl}
+use Prim.Native.Nat.{ℕ, _+_, _*_, _<_, _≤_}
+use native.Mathlib.Nat.{mul-le-mul-right}
+use native.Mathlib.Omega.{arith}
+use borrow.Author.Needs.{needs}
+use borrow.Fn.Kinds.{In, Out}
+use borrow.Fn.PlainCycle.{Measures, is, falls, and}
+use lib.ListN.{length}
+use Rattle.prepared.specs.Positions.{BlockAt, IsRow, fieldCount}
+use Rattle.prepared.proofs.Open.{no-groups-at}
+use Rattle.prepared.proofs.number.Reads as number-reads
+use Rattle.prepared.proofs.need.Reads as need-reads
+use Rattle.prepared.proofs.open_row.Reads as open-row-reads
+use Rattle.wire.specs.Walks.{walked}
+use Rattle.wire.proofs.Dimensions.{good}
+use Rattle.wire.proofs.refuse.Reads as refuse-reads
+use Rattle.wire.proofs.open_group.Reads as open-group-reads
+use Rattle.walk.specs.Walks.{entriesAt, rowAt, valuesEnd}
+use Rattle.walk.proofs.Blocks.{length-fields}
+use Rattle.walk.proofs.Entries.{entries-end, entry-datas, entry-next, entry-row, entry-short, plain-walked}
+use Rattle.walk.proofs.Rows.{groups-done, row-absent, row-dimension, row-entries, row-next}
+use Rattle.walk.proofs.Ways.{Way, leads, way-ends, way-on, way-refused, way-starts}
+use Rattle.walk.proofs.walk_datas.Reads as walk-datas-reads
+use Rattle.walk.proofs.pass_row.Reads as pass-reads
+use Rattle.walk.proofs.pass_row.Kinds as pass-kinds
+use Rattle.walk.proofs.+pass_row+walk_entries+walk_row.Lts-pass_row as pass-lts
+use Rattle.walk.proofs.walk_entries.Reads as entries-reads
+use Rattle.walk.proofs.walk_entries.Kinds as entries-kinds
+use Rattle.walk.proofs.+pass_row+walk_entries+walk_row.Lts-walk_entries as entries-lts
+use Rattle.walk.proofs.walk_row.Reads as row-reads
+use Rattle.walk.proofs.walk_row.Kinds as row-kinds
+use Rattle.walk.proofs.+pass_row+walk_entries+walk_row.Lts-walk_row as row-lts
+use Rattle.walk.proofs.+pass_row+walk_entries+walk_row.{statement}
+use Rattle.walk.proofs.+pass_row+walk_entries+walk_row.Tie.{close}
+
+abbrev entries-μ : Measures 4 entries-kinds.ps ℕ
+entries-μ κs a = 3 * a .1 .1 .0 + 2
+
+abbrev pass-μ : Measures 4 pass-kinds.ps ℕ
+pass-μ κs a = 3 * a .1 .1 .1 .0 + 1
+
+abbrev row-μ : Measures 4 row-kinds.ps ℕ
+row-μ κs a = 3 * a .1 .1 .1 .0
+
+-- Whatever is known at the start and used later stands in the invariant, so that no need looks further back than it.
+abbrev entries-Inv : entries-lts.InvT-loop
+entries-Inv p a depth m v l k start s t fields due₀ at₀ seen₀ due at seen =
+    BlockAt (p .now) depth a × (length (m .now) ≤ 65535) × (due ≤ k) × (k ≤ 65535) × (fields ≡ fieldCount (p .now) a)
+    × Way (m .now) start (96 * k) (walked (valuesEnd 0) (entriesAt (p .now) depth a (m .now) v l k start))
+    (walked (valuesEnd seen) (entriesAt (p .now) depth a (m .now) v l due at)) seen (96 * due) at
+
+abbrev entries-μ-loop : entries-lts.MeasureT-loop
+entries-μ-loop p a depth m v l k start s t fields due₀ at₀ seen₀ due at seen = due
+
+abbrev row-Inv : row-lts.InvT-loop
+row-Inv p first n depth m v start s t a₀ left₀ at₀ seen₀ a left at seen =
+    IsRow (p .now) depth left a × (length (m .now) ≤ 65535) × (n ≤ 16)
+    × Way (m .now) start n (walked (valuesEnd 0) (rowAt (p .now) depth n first (m .now) v start))
+    (walked (valuesEnd seen) (rowAt (p .now) depth left a (m .now) v at)) seen left at
+
+abbrev row-μ-loop : row-lts.MeasureT-loop
+row-μ-loop p first n depth m v start s t a₀ left₀ at₀ seen₀ a left at seen = left
+
+module _ (t : ℕ) where
+  abbrev entries-at : In 4 entries-kinds.ps
+  entries-at = and 4 entries-kinds.ps (is 4 entries-kinds.ps entries-μ t) entries-reads.Pre
+
+  abbrev entries-below : In 4 entries-kinds.ps
+  entries-below = and 4 entries-kinds.ps (falls 4 entries-kinds.ps _<_ entries-μ t) entries-reads.Pre
+
+  abbrev pass-at : In 4 pass-kinds.ps
+  pass-at = and 4 pass-kinds.ps (is 4 pass-kinds.ps pass-μ t) pass-reads.Pre
+
+  abbrev pass-below : In 4 pass-kinds.ps
+  pass-below = and 4 pass-kinds.ps (falls 4 pass-kinds.ps _<_ pass-μ t) pass-reads.Pre
+
+  abbrev row-at : In 4 row-kinds.ps
+  row-at = and 4 row-kinds.ps (is 4 row-kinds.ps row-μ t) row-reads.Pre
+
+  abbrev row-below : In 4 row-kinds.ps
+  row-below = and 4 row-kinds.ps (falls 4 row-kinds.ps _<_ row-μ t) row-reads.Pre
+
+  abbrev pass-Need : (pass-lts.Claims → In 4 pass-lts.ps → Out 4 pass-lts.ps pass-lts.r → Type 0) → Type 0
+  pass-Need n = n (row-below, row-reads.Post) pass-at pass-reads.Post
+
+  pass-returns : pass-Need pass-lts.Need-returns
+  pass-returns c =
+      let pre = c .before .pre .1 in
+      way-ends (way-starts _ _ _ _ (pre .1 .inside))
+      (groups-done _ _ _ _ _ (no-groups-at _ _ _ _ (omega (arith, c .if1 .taken))))
+
+  abbrev entries-claims : entries-lts.Claims
+  entries-claims = (
+    number-reads.Asked,
+    number-reads.Learnt,
+    refuse-reads.Asked,
+    refuse-reads.Learnt,
+    pass-below,
+    pass-reads.Post,
+    walk-datas-reads.Asked,
+    walk-datas-reads.Learnt,
+  )
+
+  abbrev entries-Need : (entries-lts.Claims → In 4 entries-lts.ps → Out 4 entries-lts.ps entries-lts.r
+      → entries-lts.InvT-loop → entries-lts.MeasureT-loop → Type 0) → Type 0
+  entries-Need n = n entries-claims entries-at entries-reads.Post entries-Inv entries-μ-loop
+
+  entries-mul-if2 : entries-Need entries-lts.Need-mul-if2
+  entries-mul-if2 c =
+      let start = c .before .before .before .before .before in
+      omega (arith, mul-le-mul-right (start .args .k) (start .pre .1 .2))
+
+  entries-mul-t28 : entries-Need entries-lts.Need-mul-t28
+  entries-mul-t28 c = omega arith
+
+  entries-mul-t30 : entries-Need entries-lts.Need-mul-t30
+  entries-mul-t30 c =
+      let start = c .before .before .before .before .before .before in
+      let few = mul-le-mul-right (start .args .k) (start .pre .1 .0 .block .fewFields) in
+      rw (c .before .before .before .number .ensures) (omega arith)
+
+  entries-returns : entries-Need entries-lts.Need-returns
+  entries-returns c =
+      let test = c .before .before in
+      let start = test .before .before .before .before in
+      plain-walked _ _ _ _ _ _ _ _ _ _ (start .pre .1 .0 .block) (test .before .number .ensures)
+      (test .number2 .ensures) (c .before .if1 .taken) (omega arith)
+
+  entries-loop-holds : entries-Need entries-lts.Need-loop-holds
+  entries-loop-holds c =
+      let start = c .before .before .before .before .before in (
+        start .pre .1 .0,
+        omega arith,
+        omega arith,
+        omega arith,
+        c .before .before .number .ensures,
+        way-starts _ _ _ _ (omega arith),
+      )
+
+  entries-returns-2 : entries-Need entries-lts.Need-returns-2
+  entries-returns-2 c =
+      let i = c .before .before in
+      way-refused (i .before .loop .inv .5) _ (c .refuse .ensures)
+      (entry-short _ _ _ _ _ _ _ _ (i .loop-test .taken) (omega arith))
+
+  entries-pass-row-requires : entries-Need entries-lts.Need-pass-row-requires
+  entries-pass-row-requires c κs =
+      let inv = c .before .before .before .before .loop .inv in (
+        omega arith,
+        (
+          rw (c .before .number3 .ensures, c .number4 .ensures) (inv .0 .row),
+          record { short = inv .1; inside = omega arith },
+          omega arith,
+        ),
+      )
+
+  entries-returns-3 : entries-Need entries-lts.Need-returns-3
+  entries-returns-3 c =
+      let call = c .before .before in
+      let at-row = call .before .before in
+      let i = at-row .before .before in
+      let row = rw (at-row .number3 .ensures, call .before .number4 .ensures) at (call .pass-row .ensures .0) in
+      way-refused (i .before .loop .inv .5) _ (c .enum-told .given .1)
+      (entry-row _ _ _ _ _ _ _ _ (i .loop-test .taken) (omega arith) _ (sym (c .enum-told .given .1) ∙ row))
+
+  entries-walk-datas-requires : entries-Need entries-lts.Need-walk-datas-requires
+  entries-walk-datas-requires c κs =
+      let told = c .before .before .before in
+      let call-row = told .before .before in
+      let inv = call-row .before .before .before .before .before .loop .inv in
+      let on = leads _ _ _ _ _ _ (call-row .pass-row .ensures .1) (told .row .given .1) in
+      (omega arith, omega arith, record { short = inv .1; inside = on .1 })
+
+  entries-returns-4 : entries-Need entries-lts.Need-returns-4
+  entries-returns-4 c =
+      let call = c .before .before in
+      let at-datas = call .before .before in
+      let told = at-datas .before .before in
+      let call-row = told .before .before in
+      let at-row = call-row .before .before in
+      let i = at-row .before .before in
+      let row = rw (at-row .number3 .ensures, call-row .before .number4 .ensures) at (call-row .pass-row .ensures .0) in
+      let datas = rw (at-datas .number5 .ensures, call .before .number6 .ensures) at (call .walk-datas .ensures .0) in
+      way-refused (i .before .loop .inv .5) _ (c .enum-told2 .given .1)
+      (entry-datas _ _ _ _ _ _ _ _ (i .loop-test .taken) (omega arith) _ _ (sym (told .row .given .1) ∙ row) _
+      (sym (c .enum-told2 .given .1) ∙ datas))
+
+  entries-add-seen : entries-Need entries-lts.Need-add-seen
+  entries-add-seen c =
+      let call = c .before .before .before in
+      let told = call .before .before .before .before in
+      let call-row = told .before .before in
+      let inv = call-row .before .before .before .before .before .loop .inv in
+      let on = leads _ _ _ _ _ _ (call-row .pass-row .ensures .1) (told .row .given .1) in
+      let end = leads _ _ _ _ _ _ (call .walk-datas .ensures .1) (c .before .datas .given .1) in
+      omega (arith, call-row .before .number4 .ensures)
+
+  entries-add-seen-2 : entries-Need entries-lts.Need-add-seen-2
+  entries-add-seen-2 c =
+      let call = c .before .before .before in
+      let told = call .before .before .before .before in
+      let call-row = told .before .before in
+      let inv = call-row .before .before .before .before .before .loop .inv in
+      let on = leads _ _ _ _ _ _ (call-row .pass-row .ensures .1) (told .row .given .1) in
+      let end = leads _ _ _ _ _ _ (call .walk-datas .ensures .1) (c .before .datas .given .1) in
+      omega (arith, call-row .before .number4 .ensures)
+
+  entries-add-seen-3 : entries-Need entries-lts.Need-add-seen-3
+  entries-add-seen-3 c =
+      let call = c .before .before .before in
+      let told = call .before .before .before .before in
+      let call-row = told .before .before in
+      let inv = call-row .before .before .before .before .before .loop .inv in
+      let on = leads _ _ _ _ _ _ (call-row .pass-row .ensures .1) (told .row .given .1) in
+      let end = leads _ _ _ _ _ _ (call .walk-datas .ensures .1) (c .before .datas .given .1) in
+      omega (arith, call-row .before .number4 .ensures)
+
+  entries-loop-again : entries-Need entries-lts.Need-loop-again
+  entries-loop-again c =
+      let call = c .before .before .before in
+      let at-datas = call .before .before in
+      let told = at-datas .before .before in
+      let call-row = told .before .before in
+      let at-row = call-row .before .before in
+      let i = at-row .before .before in
+      let inv = i .before .loop .inv in
+      let row = rw (at-row .number3 .ensures, call-row .before .number4 .ensures) at (call-row .pass-row .ensures .0) in
+      let datas = rw (at-datas .number5 .ensures, call .before .number6 .ensures) at (call .walk-datas .ensures .0) in
+      let on = leads _ _ _ _ _ _ (call-row .pass-row .ensures .1) (told .row .given .1) in
+      let end = leads _ _ _ _ _ _ (call .walk-datas .ensures .1) (c .before .datas .given .1) in (
+        inv .0,
+        inv .1,
+        omega arith,
+        omega arith,
+        inv .4,
+        way-on (inv .5) _ _ _
+            (entry-next _ _ _ _ _ _ _ _ (i .loop-test .taken) (omega arith) _ _ (sym (told .row .given .1) ∙ row)
+            _ _ _ (sym (c .before .datas .given .1) ∙ datas) (inv .4 ∙ sym (length-fields _ _ _)))
+            (omega arith) (end .1) (omega arith),
+      )
+
+  entries-returns-5 : entries-Need entries-lts.Need-returns-5
+  entries-returns-5 c =
+      way-ends (c .before .loop .inv .5) (entries-end _ _ _ _ (c .loop-test .left))
+
+  abbrev row-claims : row-lts.Claims
+  row-claims = (
+    open-row-reads.Asked,
+    open-row-reads.Learnt,
+    number-reads.Asked,
+    number-reads.Learnt,
+    need-reads.Asked,
+    need-reads.Learnt,
+    open-group-reads.Asked,
+    open-group-reads.Learnt,
+    entries-below,
+    entries-reads.Post,
+  )
+
+  abbrev row-Need : (row-lts.Claims → In 4 row-lts.ps → Out 4 row-lts.ps row-lts.r → row-lts.InvT-loop
+      → row-lts.MeasureT-loop → Type 0) → Type 0
+  row-Need n = n row-claims row-at row-reads.Post row-Inv row-μ-loop
+
+  row-loop-holds : row-Need row-lts.Need-loop-holds
+  row-loop-holds c =
+      let pre = c .before .before .pre .1 in
+      (pre .0, pre .1 .short, pre .2, way-starts _ _ _ _ (pre .1 .inside))
+
+  row-loop-again : row-Need row-lts.Need-loop-again
+  row-loop-again c =
+      let test = c .before in
+      let opened = test .before .before .open-row .ensures in
+      let inv = test .before .before .before .before .loop .inv in
+      rw (c .number2 .ensures) (
+        opened .rest,
+        inv .1,
+        inv .2,
+        way-on (inv .3) _ _ _
+            (row-absent _ _ _ _ _ _ _ _ _ (opened .tree) _ (rw (test .before .number .ensures) at (test .if1 .taken)))
+            (omega arith) (inv .3 .inside) (omega arith),
+      )
+
+  row-returns : row-Need row-lts.Need-returns
+  row-returns c =
+      let told = c .before in
+      let call = told .before .before in
+      let test = call .before .before in
+      let at-row = test .before .before in
+      way-refused (at-row .before .before .loop .inv .3) _ refl
+      (row-dimension _ _ _ _ _ _ _ _ _ (at-row .open-row .ensures .tree) _
+      (rw (test .before .number .ensures) at (test .if1 .left)) _ (call .before .need .ensures) _
+      (sym (told .refusal .given .1) ∙ call .open-group .ensures))
+
+  row-walk-entries-requires : row-Need row-lts.Need-walk-entries-requires
+  row-walk-entries-requires c κs =
+      let told = c .before in
+      let call = told .before .before in
+      let at-row = call .before .before .before .before in
+      let dimension = good _ _ _ _ _ (sym (told .length .given .1) ∙ call .open-group .ensures) in (
+        omega (arith, at-row .open-row .ensures .deep),
+        (
+          at-row .open-row .ensures .first,
+          record { short = at-row .before .before .loop .inv .1; inside = dimension .fits },
+          omega (arith, dimension .short),
+          omega (arith, dimension .few),
+        ),
+      )
+
+  row-returns-2 : row-Need row-lts.Need-returns-2
+  row-returns-2 c =
+      let walk = c .before .before in
+      let told = walk .before .before in
+      let call = told .before .before in
+      let test = call .before .before in
+      let at-row = test .before .before in
+      way-refused (at-row .before .before .loop .inv .3) _ (c .enum-told .given .1)
+      (row-entries _ _ _ _ _ _ _ _ _ (at-row .open-row .ensures .tree) _
+      (rw (test .before .number .ensures) at (test .if1 .left)) _ (call .before .need .ensures) _ _
+      (sym (told .length .given .1) ∙ call .open-group .ensures) _
+      (sym (c .enum-told .given .1) ∙ walk .walk-entries .ensures .0))
+
+  row-add-seen-2 : row-Need row-lts.Need-add-seen-2
+  row-add-seen-2 c =
+      let told2 = c .before .before in
+      let walk = told2 .before .before in
+      let told = walk .before .before in
+      let call = told .before .before in
+      let inv = call .before .before .before .before .before .before .loop .inv in
+      let dimension = good _ _ _ _ _ (sym (told .length .given .1) ∙ call .open-group .ensures) in
+      let on = leads _ _ _ _ _ _ (walk .walk-entries .ensures .1) (told2 .walked .given .1) in
+      omega (arith, dimension .few)
+
+  row-loop-again-2 : row-Need row-lts.Need-loop-again-2
+  row-loop-again-2 c =
+      let told2 = c .before .before in
+      let walk = told2 .before .before in
+      let told = walk .before .before in
+      let call = told .before .before in
+      let test = call .before .before in
+      let at-row = test .before .before in
+      let opened = at-row .open-row .ensures in
+      let inv = at-row .before .before .loop .inv in
+      let is = sym (told .length .given .1) ∙ call .open-group .ensures in
+      let on = leads _ _ _ _ _ _ (walk .walk-entries .ensures .1) (told2 .walked .given .1) in
+      rw (c .number3 .ensures) (
+        opened .rest,
+        inv .1,
+        inv .2,
+        way-on (inv .3) _ _ _
+            (row-next _ _ _ _ _ _ _ _ _ (opened .tree) _ (rw (test .before .number .ensures) at (test .if1 .left)) _
+            (call .before .need .ensures) _ _ is _ _ (sym (told2 .walked .given .1) ∙ walk .walk-entries .ensures .0))
+            (omega arith) (on .1)
+            (omega (arith, good _ _ _ _ _ is .few, at-row .before .loop-test .taken)),
+      )
+
+  row-returns-3 : row-Need row-lts.Need-returns-3
+  row-returns-3 c =
+      way-ends (c .before .loop .inv .3) (groups-done _ _ _ _ _ (no-groups-at _ _ _ _ (c .loop-test .left)))
+
+pub +pass-row+walk-entries+walk-row-spec : {M : Type 1} → statement M
++pass-row+walk-entries+walk-row-spec =
+    close pass-μ entries-μ row-μ
+    (λ t.
+    pass-lts.spec (row-below t, row-reads.Post) (pass-at t) pass-reads.Post
+    (pass-returns t)
+    (λ c κs. (omega arith, c .before .pre .1))
+    (λ c. c .walk-row .ensures))
+    (λ t.
+    entries-lts.spec (entries-claims t) (entries-at t) entries-reads.Post entries-Inv entries-μ-loop
+    (λ c. omega arith)
+    (λ c κs. omega arith)
+    (λ c. omega arith)
+    (λ c κs. omega arith)
+    (entries-mul-if2 t)
+    (λ c. omega arith)
+    (entries-mul-t28 t)
+    (λ c. omega arith)
+    (entries-mul-t30 t)
+    (entries-returns t)
+    (entries-loop-holds t)
+    (λ c. omega arith)
+    (λ c κs. tt)
+    (entries-returns-2 t)
+    (λ c. omega arith)
+    (λ c κs. omega arith)
+    (λ c. omega arith)
+    (λ c κs. omega arith)
+    (λ c. omega arith)
+    (entries-pass-row-requires t)
+    (λ c. search needs)
+    (λ c. search needs)
+    (entries-returns-3 t)
+    (λ c. omega arith)
+    (λ c κs. omega arith)
+    (λ c. omega arith)
+    (λ c κs. omega arith)
+    (entries-walk-datas-requires t)
+    (λ c. search needs)
+    (λ c. search needs)
+    (entries-returns-4 t)
+    (entries-add-seen t)
+    (entries-add-seen-2 t)
+    (entries-add-seen-3 t)
+    (λ c. omega arith)
+    (λ c. omega arith)
+    (entries-loop-again t)
+    (entries-returns-5 t))
+    (λ t.
+    row-lts.spec (row-claims t) (row-at t) row-reads.Post row-Inv row-μ-loop
+    (row-loop-holds t)
+    (λ c κs. search needs)
+    (λ c. omega arith)
+    (λ c. omega arith)
+    (λ c. omega arith)
+    (λ c κs. omega arith)
+    (λ c. omega arith)
+    (λ c κs. omega arith)
+    (λ c. omega arith)
+    (row-loop-again t)
+    (λ c κs. search needs)
+    (λ c κs. omega arith)
+    (λ c. search needs)
+    (row-returns t)
+    (λ c. search needs)
+    (λ c. omega arith)
+    (λ c. omega arith)
+    (row-walk-entries-requires t)
+    (λ c. search needs)
+    (λ c. search needs)
+    (row-returns-2 t)
+    (λ c. omega arith)
+    (λ c κs. omega arith)
+    (row-add-seen-2 t)
+    (λ c. omega arith)
+    (row-loop-again-2 t)
+    (row-returns-3 t))

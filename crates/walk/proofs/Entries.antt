@@ -1,0 +1,147 @@
+-- Entries in a row: one law for each way that reading them ends or goes on.
+use mathlib.Core.Path.{_≡_, refl, sym, ap, _∙_}
+use mathlib.Core.List.{List, [], map}
+use Prim.Native.Nat.{ℕ, zero, suc, _+_, _-_, _*_, _≤_, _<_}
+use native.Mathlib.Nat.{mul-le-mul-right}
+use native.Mathlib.Numerals.{unary-clauses}
+use native.Mathlib.Omega.{arith}
+use lib.ListN.{length, length-map}
+use borrow.Author.Tests.{le-leb}
+use Rattle.layout.specs.Result.{Result, done, must, _>>=_}
+use Rattle.layout.specs.Book.{Groups, Shape, none}
+use Rattle.layout.specs.BookRules.{word}
+use Rattle.layout.specs.Contracts.{refusal}
+use Rattle.layout.specs.Values.{Values, entry, measure, nil}
+use Rattle.layout.specs.Message.{Entry, readBlock, readDatas, readEntries, readField, readGroups, skipDatas, skipGroups}
+use Rattle.layout.specs.declared.Answer.{Answer}
+use Rattle.layout.specs.declared.Refusal.{Refusal}
+use Rattle.prepared.specs.Positions.{IsBlock, dataCount, datasFrom, fieldCount, fieldsFrom, groupCount, groupsFrom}
+use Rattle.prepared.specs.Positions.{innerAt, shapeAt}
+use Rattle.prepared.proofs.Open.{no-groups-at}
+use Rattle.wire.specs.Walks.{walked}
+use Rattle.wire.specs.declared.Walked.the-variants.{To, Refused}
+use Rattle.wire.proofs.Laws.{refused-on}
+use Rattle.walk.specs.Walks.{Bounded, datasEnd, entriesAt, entryEnd, valuesEnd}
+use Rattle.walk.proofs.Ways.{Answers, reached, then-to, told}
+use Rattle.walk.proofs.Datas.{no-datas-at}
+use Rattle.walk.proofs.Blocks.{block-datas, block-groups, block-short, block-whole, length-fields}
+
+-- ---- entries that f reads
+
+pub entries-step : (f : ℕ → Result Entry) (n at : ℕ) → 0 < n → readEntries n f at
+    ≡ (f at >>= λ e. readEntries (n - 1) f (e .3) >>= λ r. done (entry (e .0) (e .1) (e .2) (r .0), r .1))
+unfolding readEntries
+entries-step f zero at h = absurd (omega arith)
+entries-step f (suc n) at h = let q : suc n - 1 ≡ n = omega arith in rw q refl
+
+pub entries-end : (f : ℕ → Result Entry) (seen n at : ℕ) → n ≤ 0
+    → walked (valuesEnd seen) (readEntries n f at) ≡ To at seen
+unfolding readEntries measure
+entries-end f seen zero at h = reached (valuesEnd seen) (nil, at) refl (omega arith)
+entries-end f seen (suc n) at h = absurd (omega arith)
+
+module _ (f : ℕ → Result Entry) (seen n at : ℕ) (h : 0 < n) where
+  pub entries-refused : (z : Refusal) → Refused z ≡ walked entryEnd (f at)
+      → walked (valuesEnd seen) (readEntries n f at) ≡ Refused z
+  entries-refused z e = rw (entries-step f n at h) (refused-on _ entryEnd _ _ z e)
+
+  pub entries-next : (x k : ℕ) → To x k ≡ walked entryEnd (f at)
+      → walked (valuesEnd seen) (readEntries n f at) ≡ walked (valuesEnd (seen + k)) (readEntries (n - 1) f x)
+  unfolding measure
+  entries-next x k e =
+      rw (entries-step f n at h)
+      (then-to _ entryEnd x k e _ _ _ λ a p q.
+      rw p (told _ _ _ _ λ r. ap (λ (i : ℕ). (r .1, i)) (omega (arith, q))))
+
+-- ---- entries of a block
+
+-- Of n entries of l octets, with the block s and the groups gs, the first is at `at`.
+module _ (m : List ℕ) (v : ℕ) (s : Shape) (gs : Groups) (l seen n at : ℕ) (h : 0 < n) where
+  abbrev entriesOf : Result (Values × ℕ)
+  entriesOf = readEntries n (readBlock m v s (readGroups m v gs 0) 0 l) at
+
+  pub entry-short : length m < at + l → walked (valuesEnd seen) entriesOf ≡ Refused (refusal 16 at)
+  entry-short e = entries-refused _ seen n at h _ (sym (block-short m v s _ 0 l at e))
+
+  module _ (fit : at + l ≤ length m) where
+    pub entry-row : (z : Refusal) → Refused z ≡ walked (valuesEnd 0) (readGroups m v gs 0 (at + l))
+        → walked (valuesEnd seen) entriesOf ≡ Refused z
+    entry-row z e = entries-refused _ seen n at h z (sym (block-groups m v s _ 0 l at fit z e))
+
+    module _ (x k : ℕ) (g : To x k ≡ walked (valuesEnd 0) (readGroups m v gs 0 (at + l))) where
+      pub entry-datas : (z : Refusal) → Refused z ≡ walked (datasEnd 0) (readDatas m v (s .datas) 0 x)
+          → walked (valuesEnd seen) entriesOf ≡ Refused z
+      entry-datas z e = entries-refused _ seen n at h z (sym (block-datas m v s _ 0 l at fit x k g z e))
+
+      pub entry-next : (y j i : ℕ) → To y j ≡ walked (datasEnd 0) (readDatas m v (s .datas) 0 x)
+          → i ≡ length (s .fields) → walked (valuesEnd seen) entriesOf
+          ≡ walked (valuesEnd (seen + i + k + j)) (readEntries (n - 1) (readBlock m v s (readGroups m v gs 0) 0 l) y)
+      entry-next y j i e c =
+          let r : seen + i + k + j ≡ seen + (i + k + j) = omega arith in
+          rw r (entries-next _ seen n at h y (i + k + j) (sym (block-whole m v s _ 0 l at fit x k g y j i e c)))
+
+-- ---- plain entries
+
+-- Blocks of l octets with neither groups nor data.
+module _ (m : List ℕ) (v : ℕ) (s : Shape) (l : ℕ) where
+  -- The fields' answers, of a block that starts at `at`.
+  abbrev pub fieldsRead : ℕ → List Answer
+  fieldsRead at = map (readField m v at) (s .fields)
+
+  -- k such entries, the first at `at`.
+  unfoldable pub plainRow : ℕ → ℕ → Values
+  plainRow zero at = nil
+  plainRow (suc k) at = entry (fieldsRead at) nil [] (plainRow k (at + l))
+
+  -- They have a record for each field.
+  pub plain-measure : (k at : ℕ) → measure (plainRow k at) ≡ length (s .fields) * k
+  unfolding plainRow measure
+  plain-measure zero at = omega arith
+  plain-measure (suc k) at = omega (arith, plain-measure k (at + l), length-map (s .fields) (readField m v at))
+
+  module _ (gs : Groups) (no-groups : gs ≡ none) (no-datas : s .datas ≡ []) where
+    abbrev entryIs : ℕ → Result Entry
+    entryIs = readBlock m v s (readGroups m v gs 0) 0 l
+
+    -- A plain block is its octets.
+    pub block-plain : (at : ℕ) → at + l ≤ length m → entryIs at ≡ done (fieldsRead at, nil, [], at + l)
+    unfolding readBlock readGroups readDatas skipGroups skipDatas must _>>=_
+    block-plain at h = rw (le-leb (at + l) (length m) h, no-groups, no-datas) refl
+
+    -- Plain entries are their octets, where all of these are there.
+    pub entries-plain : (k at : ℕ) → at + l * k ≤ length m
+        → readEntries k entryIs at ≡ done (plainRow k at, at + l * k)
+    unfolding readEntries plainRow _>>=_
+    entries-plain zero at h = simp unary-clauses refl
+    entries-plain (suc k) at h =
+        let on : at + l + l * k ≡ at + l * suc k = omega arith in
+        rw (block-plain at (omega arith), entries-plain k (at + l) (omega arith), on) refl
+
+    pub plain-entries : (k seen at : ℕ) → at + l * k ≤ length m
+        → walked (valuesEnd seen) (readEntries k entryIs at) ≡ To (at + l * k) (seen + length (s .fields) * k)
+    plain-entries k seen at h =
+        rw (entries-plain k at h) (reached (valuesEnd seen) _ refl (omega (arith, plain-measure k at)))
+
+-- What makes the block at a plain.
+module _ (p : List ℕ) (depth a : ℕ) (b : IsBlock p a) (plain : word p (a + 7) ≡ 0) where
+  pub no-groups : innerAt p depth a ≡ none
+  no-groups = no-groups-at p depth (groupCount p a) (groupsFrom p a) (omega (arith, b .follow, plain))
+
+  pub no-datas : shapeAt p a .datas ≡ []
+  no-datas = no-datas-at p (dataCount p a) (datasFrom p a) (omega (arith, b .follow, plain))
+
+-- Entries of a block that nothing follows are passed at once where all of them fit.
+pub plain-walked : (p : List ℕ) (depth a : ℕ) (m : List ℕ) (v l k start fields follow : ℕ) → IsBlock p a
+    → fields ≡ fieldCount p a → follow ≡ word p (a + 7) → follow ≡ 0 → start + l * k ≤ length m
+    → Answers m start (96 * k) (walked (valuesEnd 0) (entriesAt p depth a m v l k start))
+    (To (start + l * k) (fields * k))
+unfolding Bounded
+plain-walked p depth a m v l k start fields follow b f w z h =
+    let few : fields * k ≤ 64 * k = mul-le-mul-right k (omega (arith, f, b .fewFields)) in
+    let s = shapeAt p a in
+    let plain = sym w ∙ z in
+    let zero-plus : length (s .fields) * k ≡ 0 + length (s .fields) * k = omega arith in
+    let q : fields ≡ length (s .fields) = f ∙ sym (length-fields p (fieldCount p a) (fieldsFrom p a)) in
+    let walk = plain-entries m v s l (innerAt p depth a) (no-groups p depth a b plain) (no-datas p depth a b plain) k 0
+    start h in
+    (rw (q, zero-plus) (sym walk), (omega arith, h, omega (arith, few)))

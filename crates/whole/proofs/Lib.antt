@@ -1,0 +1,4 @@
+pub mod Entries
+pub mod Messages
+pub mod Rests
+pub mod Roots

@@ -1,0 +1,50 @@
+-- A message is read as it is walked: its header, the root's groups, and what follows them.
+use mathlib.Core.Path.{_≡_, _∙_, ap, refl, sym}
+use mathlib.Core.List.{List, map}
+use mathlib.Core.Option.{some, none as no}
+use Prim.Native.Nat.{ℕ, _+_}
+use lib.Dec.{eqb, leb}
+use lib.ListN.{length}
+use Rattle.layout.specs.Result.{Result, _>>=_, done, must, orRefuse, refused}
+use Rattle.layout.specs.Book.{findTemplate}
+use Rattle.layout.specs.BookRules.{word}
+use Rattle.layout.specs.Message.{blockLength, checkHeader, headerSize, readBlock, readDatas, readField, readGroups}
+use Rattle.layout.specs.Message.{readMessage, readRoot, readWhole, skipGroups, surplusOf, templateId, versionOf}
+use Rattle.layout.specs.Values.{entry, nil}
+use Rattle.layout.proofs.Results.{bind-assoc, bind-done}
+use Rattle.prepared.specs.Positions.{innerAt, shapeAt}
+use Rattle.prepared.specs.Books.{HoldsBook, bookAt, placeOf, templateAt}
+use Rattle.prepared.specs.declared.Place.{Place}
+use Rattle.prepared.specs.declared.Place.the-variants as Place
+use Rattle.prepared.proofs.Found.{found, not-found}
+use Rattle.walk.proofs.Rows.{surplus-after}
+use Rattle.messages.specs.Openings.{known, knownAt, openAt}
+use Rattle.whole.specs.Wholes.{restAt, rootAt, treeAt, wholeAt}
+
+bind-refused : {A B : Type 0} (n q : ℕ) (k : A → Result B) → (refused n q >>= k) ≡ refused n q
+unfolding _>>=_
+bind-refused n q k = refl
+
+bind-same : {A B : Type 0} (x : Result A) (k h : A → Result B) → ((a : A) → k a ≡ h a) → (x >>= k) ≡ (x >>= h)
+unfolding _>>=_
+bind-same (done a) k h e = e a
+bind-same (refused n q) k h e = refl
+
+module _ (p m : List ℕ) where
+  pub root-read : (a : ℕ) (x : ℕ × ℕ) → readWhole (templateAt p a) m x
+      ≡ (rootAt p a m (versionOf m) (blockLength m) >>= λ r. restAt p a m (versionOf m) (x .0) (x .1) (r .1)
+      >>= λ s. done (treeAt p m (a, x .0, r .0, s .0)))
+  unfolding readWhole readBlock rootAt restAt
+  root-read a (g, d) = rw (surplus-after m g (versionOf m) (innerAt p 4 a) _) (simp (bind-assoc, bind-done) refl)
+
+  module _ (book : HoldsBook p) where
+    by-place : (r : Place) → placeOf p (templateId m) ≡ r
+        → readMessage (bookAt p) m ≡ (wholeAt p m >>= λ w. done (treeAt p m w))
+    unfolding readMessage readRoot openAt knownAt wholeAt known orRefuse
+    by-place (Place.At a) e =
+        let whole = bind-same (surplusOf (word p 1) (templateAt p a) m) _ _ (root-read a) in
+        rw (found p book (templateId m) a e .template, e) (simp (bind-assoc, bind-done) (bind-same _ _ _ (λ _. whole)))
+    by-place Place.Unknown e = rw (not-found p book (templateId m) e, e) (simp (bind-assoc, bind-done, bind-refused) refl)
+
+    pub message-read : readMessage (bookAt p) m ≡ (wholeAt p m >>= λ w. done (treeAt p m w))
+    message-read = by-place (placeOf p (templateId m)) refl

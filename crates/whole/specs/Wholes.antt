@@ -1,0 +1,85 @@
+-- The whole message by prepared numbers p.
+use mathlib.Core.List.{List, [], _∷_, map}
+use Prim.Native.Nat.{ℕ, _+_, _*_, _≤_}
+use lib.Dec.{eqb, leb}
+use lib.ListN.{length}
+use Rattle.layout.specs.Result.{Result, done, refused, must, _>>=_}
+use Rattle.layout.specs.Contracts.{refusal, stepsOf}
+use Rattle.layout.specs.Message.{blockLength, headerSize, readDatas, readField, skipGroups, versionOf}
+use Rattle.layout.specs.Values.{Values, entry, measure, nil}
+use Rattle.layout.specs.declared.Answer.{Answer}
+use Rattle.prepared.specs.Positions.{groupCount, groupsFrom, innerAt, shapeAt}
+use Rattle.walk.specs.Walks.{rate, rowAt}
+use Rattle.places.specs.Spots.{Spot, spotIn}
+use Rattle.messages.specs.Openings.{openAt}
+use Rattle.whole.specs.declared.Entered as Entered
+use Rattle.whole.specs.declared.Entered.{Entered}
+use Rattle.whole.specs.declared.Root as Root
+use Rattle.whole.specs.declared.Root.{Root}
+
+-- ---- the root block
+
+-- Its l octets are there, and then its groups.
+unfoldable pub rootAt : List ℕ → ℕ → List ℕ → ℕ → ℕ → Result (Values × ℕ)
+rootAt p a m v l = do
+  _ ← must (leb (headerSize + l) (length m)) 16 headerSize
+  rowAt p 4 (groupCount p a) (groupsFrom p a) m v (headerSize + l)
+
+-- The records of a row, where no path is to be followed.
+unfoldable pub recordsIn : List ℕ → Values → ℕ
+recordsIn [] r = measure r
+recordsIn (g ∷ path) r = 0
+
+-- Where the entry starts that the path leads to.
+abbrev pub spotAt : List ℕ → ℕ → List ℕ → ℕ → ℕ → List ℕ → Spot
+spotAt p a m v l path = spotIn m v (stepsOf path) (innerAt p 4 a) l headerSize
+
+unfoldable pub rooted : List ℕ → Spot → Result (Values × ℕ) → Root
+rooted path s (done r) = Root.the-variants.To (r .1) (recordsIn path (r .0)) (s .0) (s .1)
+rooted path s (refused n q) = Root.the-variants.Refused (refusal n q)
+
+-- More records than the groups of any message have.
+abbrev pub most : ℕ
+most = 16 + rate * 65535
+
+-- It does not lead past the end, nor count more than that.
+unfoldable pub Ends : List ℕ → Root → Type 0
+Ends m (Root.the-variants.To x k f l) = (x ≤ length m) × (k ≤ most)
+Ends m (Root.the-variants.Refused z) = Unit {0}
+
+-- What follows the groups of the root block at a: n surplus groups, its data, k surplus data, and the message's end.
+unfoldable pub restAt : List ℕ → ℕ → List ℕ → ℕ → ℕ → ℕ → ℕ → Result (List Answer × ℕ)
+restAt p a m v n k at = do
+  x ← skipGroups m n at
+  (ds, y) ← readDatas m v (shapeAt p a .datas) k x
+  _ ← must (eqb y (length m)) 20 y
+  done (ds, y)
+
+abbrev pub restEnd : List Answer × ℕ → ℕ × ℕ
+restEnd (ds, y) = (y, length ds)
+
+-- ---- the message
+
+-- Where the template's block stands, how many groups are surplus, and what the root's groups and data are.
+unfoldable pub wholeAt : List ℕ → List ℕ → Result (ℕ × ℕ × Values × List Answer)
+wholeAt p m = do
+  (a, g, d) ← openAt p m
+  (gs, x) ← rootAt p a m (versionOf m) (blockLength m)
+  (ds, y) ← restAt p a m (versionOf m) g d x
+  done (a, g, gs, ds)
+
+unfoldable pub entered : List ℕ → List ℕ → List ℕ → Result (ℕ × ℕ × Values × List Answer) → Entered
+entered p m path (done (a, g, gs, ds)) =
+    let s = spotAt p a m (versionOf m) (blockLength m) path in
+    Entered.the-variants.At a (versionOf m) (blockLength m) g (recordsIn path gs) (s .0) (s .1)
+entered p m path (refused n q) = Entered.the-variants.Refused (refusal n q)
+
+-- The records of its groups are not too many.
+unfoldable pub Few : Entered → Type 0
+Few (Entered.the-variants.At a v l g k f n) = k ≤ most
+Few (Entered.the-variants.Refused z) = Unit {0}
+
+-- The message's tree.
+abbrev pub treeAt : List ℕ → List ℕ → ℕ × ℕ × Values × List Answer → Values
+treeAt p m (a, g, gs, ds) =
+    entry (map (readField m (versionOf m) headerSize) (shapeAt p a .fields)) gs ds nil
