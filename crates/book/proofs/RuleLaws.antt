@@ -10,7 +10,7 @@ use borrow.Author.Tests.{leb-true}
 use Rattle.layout.specs.Result.{_and_}
 use Rattle.layout.specs.Octets.{wordsOf}
 use Rattle.layout.specs.Book.{Field, dataSinces, end, fieldSinces}
-use Rattle.layout.specs.BookRules.{contentsGood, fieldAt, fieldsGood, fieldsSince, lengthGood, parseContents}
+use Rattle.layout.specs.BookRules.{contentsGood, fieldAt, fieldsGood, fieldsSince, parseContents}
 use Rattle.layout.specs.BookRules.{parseDatas, parseFields, rising, word}
 use Rattle.book.specs.Answers.{BookHead, allRules, fieldOf, fieldsRules, rulesAre}
 use Rattle.book.proofs.Words.{length-words}
@@ -43,14 +43,7 @@ fields-rules : (version low high l e : ℕ) (f : Field) (fs : List Field)
     ≡ allRules (fieldOf l e low high f .rules) (fieldsRules version (f .since) version l (end f) fs)
 unfolding fieldsGood fieldsSince allRules
 fields-rules version low high l e f fs =
-    rw (
-      ← (later-fields version (f .since) (fieldSinces fs)),
-      and-assoc (ltb (f .type) 9),
-      and-assoc (lengthGood f),
-      and-assoc (leb (f .presence) 1),
-      and-assoc (leb e (f .offset)),
-      and-assoc (leb low (f .since)),
-    ) refl
+    rw (← (later-fields version (f .since) (fieldSinces fs)), and-assoc (leb low (f .since))) refl
 
 fields-step : (b : List ℕ) (n w : ℕ) → 0 < n → parseFields b n w ≡ fieldAt b w ∷ parseFields b (n - 1) (w + 6)
 unfolding parseFields

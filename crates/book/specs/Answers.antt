@@ -8,8 +8,8 @@ use lib.ListN.{length}
 use Rattle.layout.specs.Result.{Result, _>>=_, _and_, done, if_then_else_, refused}
 use Rattle.layout.specs.Octets.{wordsOf}
 use Rattle.layout.specs.Book.{Field, Groups, Shape, Template, end, fieldSinces}
-use Rattle.layout.specs.BookRules.{contentsGood, eachMust, fieldsGood, fieldsSince, groupsGood, groupsSince, headGood}
-use Rattle.layout.specs.BookRules.{layoutGood, lengthGood, parseBodies, parseContents, shapeGood, shapeSince, sinceGood}
+use Rattle.layout.specs.BookRules.{contentsGood, eachMust, fieldGood, fieldsGood, fieldsSince, groupsGood, groupsSince}
+use Rattle.layout.specs.BookRules.{headGood, layoutGood, parseBodies, parseContents, shapeGood, shapeSince, sinceGood}
 use Rattle.layout.specs.BookRules.{word}
 use Rattle.layout.specs.Contracts.{checked}
 use Rattle.layout.specs.declared.Checked.{Checked}
@@ -36,14 +36,10 @@ unfoldable pub allRules : Rules → Rules → Rules
 allRules a b = rulesAre (a .layout and b .layout) (a .since and b .since)
 
 -- A field of a block of l octets, after one that ends at e, with a since from `low` to `high`.
-abbrev pub fieldKept : ℕ → ℕ → Field → Bool
-fieldKept l e f =
-    ltb (f .type) 9 and lengthGood f and leb (f .presence) 1 and leb e (f .offset) and leb (end f) l
-
 abbrev pub fieldOf : ℕ → ℕ → ℕ → ℕ → Field → FieldChecked
 fieldOf l e low high f =
     record {
-      rules = rulesAre (fieldKept l e f) (leb low (f .since) and leb (f .since) high);
+      rules = rulesAre (fieldGood l e f) (leb low (f .since) and leb (f .since) high);
       end = end f;
       since =
           f .since;

@@ -1,6 +1,6 @@
 -- The demands, said of the calls: of what each returns and leaves in the room that it was lent, which is what its
 -- contract is about (crates/layout/specs/Contracts.antt). `ChecksBook` is the contract of book::check; `Checks`,
--- `Lists`, `AnswersPlace` and `Writes` are those of reader::check, list, place and write, and of their like in stream.
+-- `Lists`, `AnswersPlace` and `Writes` are those of checking, listing, asking for a place and writing.
 -- A room is `before` at the call and `after` at the return; r and r′ are what is returned.
 use mathlib.Core.Path.{_∙_, _≡_, ap, refl, subst, sym}
 use mathlib.Core.Bool.{Bool, false, true}
@@ -17,11 +17,11 @@ use Rattle.layout.specs.Book.{Book, Template, findTemplate}
 use Rattle.layout.specs.BookRules.{bookOf}
 use Rattle.layout.specs.Values.{Values, answerAt, listing, measure}
 use Rattle.layout.specs.Message.{readMessage, templateId, versionOf}
-use Rattle.layout.specs.Reading.{checkOf, hasPlace, listOf, placeIn, placeOf}
+use Rattle.layout.specs.Reading.{checkOf, hasPlace, listOf, placeAsked, placeBy, stepsOf, wholeSteps}
 use Rattle.layout.specs.Writing.{judgeListing, messageOctets, writeOf, writtenLength}
 use Rattle.layout.specs.Extension.{Extends}
 use Rattle.layout.specs.Contracts.{AnswersPlace, Checks, ChecksBook, Lists, Writes, checked, counted, found, refusal}
-use Rattle.layout.specs.Contracts.{roomAfter, stepsOf}
+use Rattle.layout.specs.Contracts.{roomAfter}
 use Rattle.layout.specs.Demands.{AsWritten, contents}
 use Rattle.demands.proofs.Numbers.{book-refuses, check-refuses, forty-lacks-room, place-refuses, refuses-with}
 use Rattle.demands.proofs.Numbers.{write-refuses}
@@ -29,8 +29,9 @@ use Rattle.demands.proofs.Outcomes.{Reads, Wrote, accepted-of, answer-o
 use Rattle.demands.proofs.Outcomes.{first-is, goes-on, left, no-answer-of, not-listed, only-tested}
 use Rattle.demands.proofs.Outcomes.{refused-listing, refused-of, refused-writing, rest-is, same-length, stops}
 use Rattle.demands.proofs.Outcomes.{was-accepted, was-read, writes-on}
-use Rattle.demands.proofs.Theorems.{both-say-the-same, older-accepts, older-answers, read-writes-back}
+use Rattle.demands.proofs.Theorems.{both-say-the-same, older-accepts, read-writes-back}
 use Rattle.demands.proofs.Theorems.{written-length, written-reads-back}
+use Rattle.demands.proofs.TwoBooks.{same-answer}
 use Rattle.demands.proofs.Written.{lists-within, written-by}
 use Rattle.layout.proofs.Records.{listing-three}
 use Rattle.layout.proofs.Results.{and-left, and-right, done-inj, inv-bind}
@@ -93,7 +94,7 @@ pub place-is-refused-with : (book m steps : List ℕ) (x : Element) (z : Refusal
     → (30 ≤ z .number) × (z .number ≤ 31)
 place-is-refused-with book m steps x z a c =
     let t = was-accepted book m a in
-    refuses-with 30 31 _ _ _ (place-refuses book m (t .0) (t .1) (stepsOf steps) x) (no-answer-of _ z c)
+    refuses-with 30 31 _ _ _ (place-refuses book m (t .0) (t .1) steps x) (no-answer-of _ z c)
 
 pub writing-is-refused-with : (book : List ℕ) (id : ℕ) (l pool before after : List ℕ) (z : Refusal)
     → ChecksBook book Checked.Accepted
@@ -116,7 +117,7 @@ refused-book book z c =
 pub refused-message : (book m : List ℕ) (z : Refusal) → Checks book m (Checked.Refused z)
     → ((before : List ℕ) → Lists book m before (Counted.Refused z) before)
     × ((steps : List ℕ) (x : Element) → AnswersPlace book m steps x (Found.Refused z))
-unfolding listOf placeOf placeIn checked counted found roomAfter _>>=_
+unfolding listOf placeBy placeAsked checked counted found roomAfter _>>=_
 refused-message book m z c =
     let e = refused-of (checkOf book m) z c in (
       (λ before.
@@ -208,25 +209,26 @@ module _ (book m : List ℕ) where
 
   pub place-answers : (steps : List ℕ) (x : Element) (a : Answer) → AnswersPlace book m steps x (Found.Is a)
       → (t : Values) × Reads book m t × (answerAt (stepsOf steps) x t ≡ done a)
-  unfolding placeOf placeIn
+  unfolding placeBy placeAsked
   place-answers steps x a c =
       let w = was-read book m _ a (answer-of _ a c) in
       (w .0, w .1, inv-bind _ _ _ (inv-bind _ _ _ (w .2) .next) .next)
 
-  -- "30: .. a number that the book lacks", or more than four steps; else the layout's answer, or 31
+  -- "30: over four steps, or a number that the book lacks", or half a step; else the layout's answer, or 31
   module _ (b : Book) (t : Template) (v : Values) (isBook : bookOf book ≡ done b)
       (known : findTemplate (templateId m) (b .templates) ≡ some t)
       (reads : readMessage b m ≡ done v)
       (steps : List ℕ) (x : Element) (r : Found) (answers : AnswersPlace book m steps x r) where
     abbrev known-place : Bool
-    known-place = leb (length (stepsOf steps)) 4 and hasPlace (stepsOf steps) x (t .shape) (t .groups)
+    known-place =
+        wholeSteps steps and leb (length (stepsOf steps)) 4 and hasPlace (stepsOf steps) x (t .shape) (t .groups)
 
     pub place-is-known : known-place ≡ true → r ≡ found (answerAt (stepsOf steps) x v)
-    unfolding placeOf placeIn orRefuse must _>>=_
+    unfolding placeBy placeAsked orRefuse must _>>=_
     place-is-known h = answers ∙ rw (isBook, reads, known, h) refl
 
     pub place-is-unknown : known-place ≡ false → r ≡ Found.Refused (refusal 30 0)
-    unfolding placeOf placeIn found orRefuse must _>>=_
+    unfolding placeBy placeAsked found orRefuse must _>>=_
     place-is-unknown h = answers ∙ rw (isBook, reads, known, h) refl
 
 -- ---- demand 2, writing
@@ -356,9 +358,10 @@ module _
       → (steps : List ℕ) (x : Element)
       → hasPlace (stepsOf steps) x (t .shape) (t .groups) ≡ true
       → (r r′ : Found) → AnswersPlace older m steps x r → AnswersPlace newer m steps x r′ → r ≡ r′
+  unfolding placeBy
   both-calls-answer-alike a steps x has r r′ c c′ =
-      let same = older-answers older newer old new isOlder isNewer extends m t inBoth (accepted-of _ a .1) in
-      c ∙ ap found (same (stepsOf steps) x has) ∙ sym c′
+      let same = same-answer older newer old new isOlder isNewer extends m t inBoth (accepted-of _ a .1) in
+      c ∙ ap found (same (wholeSteps steps) (stepsOf steps) x has) ∙ sym c′
 
   -- The same, where the older has an element being told by its call: 30 is "a number that the book lacks".
   pub both-calls-answer-alike-but-for-30 : Checks newer m Checked.Accepted
@@ -367,11 +370,13 @@ module _
       → ¬ (r ≡ Found.Refused (refusal 30 0))
       → r ≡ r′
   both-calls-answer-alike-but-for-30 a steps x r r′ c c′ has =
-      go (leb (length (stepsOf steps)) 4 and hasPlace (stepsOf steps) x (t .shape) (t .groups)) refl
+      go (wholeSteps steps and leb (length (stepsOf steps)) 4 and has-it) refl
     where
-      go : (b : Bool) → (leb (length (stepsOf steps)) 4 and hasPlace (stepsOf steps) x (t .shape) (t .groups)) ≡ b
-          → r ≡ r′
-      go true e = both-calls-answer-alike a steps x (and-right _ _ e) r r′ c c′
+      has-it : Bool
+      has-it = hasPlace (stepsOf steps) x (t .shape) (t .groups)
+
+      go : (b : Bool) → (wholeSteps steps and leb (length (stepsOf steps)) 4 and has-it) ≡ b → r ≡ r′
+      go true e = both-calls-answer-alike a steps x (and-right _ _ (and-right _ _ e)) r r′ c c′
       go false e =
           let q = accepted-is-read older m (sym (older-call-accepts a _ refl)) in
           let is : q .1 .by ≡ old = done-inj (sym (q .1 .accepted) ∙ isOlder) in

@@ -15,7 +15,7 @@ use Rattle.layout.specs.Values.{Step, Values, answerAt, elementIn, entry, group
 use Rattle.layout.specs.Message.{Entry, checkHeader, headerNumbers, headerWhole, readBlock, readData, readDatas}
 use Rattle.layout.specs.Message.{readDimension, readEntries, readGroup, readGroups, readMessage, readRoot, skipDatas}
 use Rattle.layout.specs.Message.{readWhole, skipGroups, surplusOf}
-use Rattle.layout.specs.Reading.{checkOf, listOf, placeIn, placeOf}
+use Rattle.layout.specs.Reading.{checkOf, listOf, placeAsked, placeBy, stepsOf}
 use Rattle.layout.specs.Writing.{judgeBlock, judgeDatas, judgeEntries, judgeFields, judgeGroups, judgeListing}
 use Rattle.layout.specs.Writing.{judgeNumber, judgeOctets, writeOf}
 use Rattle.layout.specs.Contracts.{checked}
@@ -296,13 +296,13 @@ forty-lacks-room book m room n p e is = go (checkOf book m) refl
         let same : i ≡ n = cc in
         absurd (omega (arith, refuses-with 1 20 _ i j (check-refuses-any book m) q))
 
-pub place-refuses : (book m : List ℕ) (r : Values) → Reads book m r → (p : List Step) (x : Element)
-    → Refuses 30 31 (placeOf book m p x)
-unfolding placeOf placeIn readMessage
-place-refuses book m r q p x =
+pub place-refuses : (book m : List ℕ) (r : Values) → Reads book m r → (steps : List ℕ) (x : Element)
+    → Refuses 30 31 (placeBy book m steps x)
+unfolding placeBy placeAsked readMessage
+place-refuses book m r q steps x =
     let t = inv-bind _ _ _ (inv-bind _ _ _ (q .reads) .next) in
     subst (Refuses 30 31) (sym (goes-on book m _ q))
-    (rw (t .first, bind-done) (refuses-unless 30 31 _ 30 0 _ (omega arith) λ _. answer-refuses p x r))
+    (rw (t .first, bind-done) (refuses-unless 30 31 _ 30 0 _ (omega arith) λ _. answer-refuses (stepsOf steps) x r))
 
 pub write-refuses : (book : List ℕ) (id : ℕ) (l pool : List ℕ) (room : ℕ) (b : Book) → bookOf book ≡ done b
     → Refuses 50 55 (writeOf book id l pool room)

@@ -80,7 +80,8 @@ module _
       → (p : List Step) (x : Element)
       → hasPlace p x (t .shape) (t .groups) ≡ true
       → placeOf older m p x ≡ placeOf newer m p x
-  older-answers = same-answer older newer old new isOlder isNewer extends m t inBoth
+  unfolding placeOf
+  older-answers a = same-answer older newer old new isOlder isNewer extends m t inBoth a true
 
   -- "if the message's version is no later than the older book's, both accept or both refuse, with the same number and
   -- place"

@@ -16,7 +16,7 @@ use Rattle.layout.specs.BookRules.{bookOf, layoutGood}
 use Rattle.layout.specs.Values.{Step, Values, entry, nil}
 use Rattle.layout.specs.Message.{blockLength, countGood, readMessage, readRoot, readWhole, surplusOf, templateId}
 use Rattle.layout.specs.Message.{versionOf}
-use Rattle.layout.specs.Reading.{checkOf, groupHas, hasElement, hasPlace, placeIn, placeOf}
+use Rattle.layout.specs.Reading.{checkOf, groupHas, hasElement, hasPlace, placeAsked}
 use Rattle.layout.specs.Extension.{AddsDatas, Extends, ExtendsGroups, ExtendsShape, StandsIn}
 use Rattle.demands.proofs.Beside.{keptBlock, present-groups, sees-block, sees-groups}
 use Rattle.demands.proofs.Kept.{kept, kept-answer}
@@ -223,10 +223,11 @@ module _ (o n : List ℕ) (old new : Book) (ao : bookOf o ≡ done old) (an : bo
       let r = newer-reads a in
       rw (ao, older-reads (r .0) (r .1)) refl
 
-  pub same-answer : checkOf n m ≡ done tt → (p : List Step) (y : Element) → hasPlace p y (t .shape) (t .groups) ≡ true
-      → placeOf o m p y ≡ placeOf n m p y
-  unfolding placeOf placeIn orRefuse _>>=_ newer
-  same-answer a p y h =
+  pub same-answer : checkOf n m ≡ done tt → (whole : Bool) (p : List Step) (y : Element)
+      → hasPlace p y (t .shape) (t .groups) ≡ true
+      → (bookOf o >>= λ b. placeAsked b m whole p y) ≡ (bookOf n >>= λ b. placeAsked b m whole p y)
+  unfolding placeAsked orRefuse _>>=_ newer
+  same-answer a whole p y h =
       let s = stands .1 in
       let r = newer-reads a in
       let has = has-place (old .version) p y true (t .shape) (newer .shape) (t .groups) (newer .groups) (s .shape)

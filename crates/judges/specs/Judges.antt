@@ -1,16 +1,15 @@
 -- What judging a part of a listing by a prepared book comes to: the definition's answer, the next record, and the
 -- octets of what was judged, which stop at a limit.
 use mathlib.Core.List.{List}
-use Prim.Native.Nat.{ℕ, _+_, _/_, _≤_, min}
+use Prim.Native.Nat.{ℕ, _+_, _/_, min}
 use lib.ListN.{length}
 use Rattle.layout.specs.Result.{Result, done, refused}
 use Rattle.layout.specs.Book.{Groups, Shape}
-use Rattle.layout.specs.BookRules.{fieldAt}
 use Rattle.layout.specs.Contracts.{refusal}
 use Rattle.layout.specs.Values.{Values}
 use Rattle.layout.specs.Writing.{datasLength, judgeBlock, judgeEntries, judgeGroups, rowLength, spanOf}
 use Rattle.layout.specs.declared.Answer.{Answer}
-use Rattle.prepared.specs.Positions.{Derived, innerAt, shapeAt}
+use Rattle.prepared.specs.Positions.{innerAt, shapeAt}
 use Rattle.judges.specs.declared.Judged.{Judged}
 use Rattle.judges.specs.declared.Judged.the-variants.{To, Refused}
 
@@ -25,12 +24,6 @@ limit = 65536
 
 abbrev pub capped : ℕ → ℕ
 capped n = min n limit
-
--- A field stands at f, and what was worked out of it at t.
-pub record IsField (p : List ℕ) (f t : ℕ) : Type 0 where
-  pub fits : f + 6 ≤ length p
-  pub tableFits : t + 5 ≤ length p
-  pub derived : Derived p t (fieldAt p f)
 
 -- k entries of the block at a, `depth` more levels being left: l is the listing, n the pool's length.
 abbrev pub entriesAt : List ℕ → ℕ → ℕ → List ℕ → ℕ → ℕ → ℕ → Result (Values × ℕ)

@@ -13,8 +13,8 @@ ghost use Rattle.layout.specs.Contracts.{refusal};
 ghost use Rattle.layout.specs.Writing.{isGroup, isNumber, judgeDatas, judgeField, judgeFields, judgeGroups};
 ghost use Rattle.layout.specs.Writing.{judgeListing, judgeNumber, judgeOctets, numberFits, second};
 ghost use Rattle.prepared.specs.Books.{templateAt};
-ghost use Rattle.prepared.specs.Positions.{BlockAt, IsBlock, innerAt, shapeAt};
-ghost use Rattle.judges.specs.Judges.{IsField, capped, datasEnd, entriesAt, fieldEnd, fieldsEnd, judged};
+ghost use Rattle.prepared.specs.Positions.{BlockAt, IsBlock, IsField, innerAt, shapeAt};
+ghost use Rattle.judges.specs.Judges.{capped, datasEnd, entriesAt, fieldEnd, fieldsEnd, judged};
 ghost use Rattle.judges.specs.Judges.{limit, listingEnd, octetsEnd, rowEnd};
 
 // What judging comes to: the number of the next record and the octets of what was judged, which stop at LIMIT.

@@ -11,7 +11,8 @@ use Rattle.layout.specs.Values.{groupsIn, elementOf, elementIn, answerAt
 use Rattle.layout.specs.Message.{readData, skipDatas, readDimension, skipGroups, readEntries, readField}
 use Rattle.layout.specs.Message.{readDatas, readBlock, readGroup, readGroups, headerWhole, checkHeader}
 use Rattle.layout.specs.Message.{countGood, surplusOf, readWhole, readRoot, readMessage}
-use Rattle.layout.specs.Reading.{checkOf, listOf, hasElement, groupHas, hasPlace, placeIn, placeOf}
+use Rattle.layout.specs.Reading.{checkOf, listOf, hasElement, groupHas, hasPlace, placeAsked, placeBy, placeOf}
+use Rattle.layout.specs.Reading.{stepsOf, wholeSteps}
 use Rattle.layout.specs.Writing.{judgeOctets, judgeNumber, judgeFields, judgeDatas, judgeEntries, judgeBlock}
 use Rattle.layout.specs.Writing.{judgeGroups, judgeListing, numbers16, spanOf, entriesIn, fieldOctets}
 use Rattle.layout.specs.Writing.{blockOctets, dataOctets, rowOctets, messageOctets, datasLength, rowLength}
@@ -28,7 +29,7 @@ unfolding
     recordOf recordsOf listing measure groupOf entriesOf entriesFrom groupsIn elementOf elementIn answerAt
     readData skipDatas readDimension skipGroups readEntries readField readDatas readBlock readGroup readGroups
     headerWhole checkHeader countGood surplusOf readWhole readRoot readMessage
-    checkOf listOf hasElement groupHas hasPlace placeIn placeOf
+    checkOf listOf hasElement groupHas hasPlace placeAsked placeOf stepsOf wholeSteps placeBy
     judgeOctets judgeNumber judgeFields judgeDatas judgeEntries judgeBlock judgeGroups judgeListing
     numbers16 spanOf entriesIn fieldOctets blockOctets dataOctets rowOctets messageOctets datasLength rowLength writeOf
 all = tt

@@ -76,13 +76,15 @@ abbrev pub lengthGood : Field → Bool
 lengthGood f =
     eqb (f .length) 1 or (leb 2 (f .length) and leb (f .length) 1024 and (eqb (f .type) 0 or eqb (f .type) 2))
 
--- "An offset is at least the end of the field before it; every end is at most the declared block length": fields of a
+-- "An offset is at least the end of the field before it; every end is at most the declared block length": a field of a
 -- block of l octets, after one that ends at e.
+abbrev pub fieldGood : ℕ → ℕ → Field → Bool
+fieldGood l e f =
+    ltb (f .type) 9 and lengthGood f and leb (f .presence) 1 and leb e (f .offset) and leb (end f) l
+
 unfoldable pub fieldsGood : ℕ → ℕ → List Field → Bool
 fieldsGood l e [] = true
-fieldsGood l e (f ∷ fs) =
-    ltb (f .type) 9 and lengthGood f and leb (f .presence) 1 and leb e (f .offset) and leb (end f) l
-    and fieldsGood l (end f) fs
+fieldsGood l e (f ∷ fs) = fieldGood l e f and fieldsGood l (end f) fs
 
 -- "No block length .. is 65535."
 abbrev pub shapeGood : Shape → Bool

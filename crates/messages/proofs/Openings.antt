@@ -1,59 +1,46 @@
--- What the header's numbers come to, test by test, in the code's terms.
+-- The root block by the template's, in the code's terms.
 use mathlib.Core.Path.{_≡_, refl}
-use mathlib.Core.Bool.{Bool, false, not, true}
+use mathlib.Core.Bool.{Bool, false, true}
 use mathlib.Core.List.{List}
 use Prim.Native.Nat.{ℕ}
 use lib.Dec.{leb}
-use lib.ListN.{length}
 use Rattle.layout.specs.Result.{_>>=_, done, if_then_else_, must}
-use Rattle.layout.specs.Book.{dataSinces, groupSinces, need, present}
+use Rattle.layout.specs.Book.{dataSinces, groupSinces, need}
 use Rattle.layout.specs.Contracts.{refusal}
-use Rattle.layout.specs.Message.{blockLength, countGood, dataCount, groupCount, surplusOf, versionOf}
-use Rattle.prepared.specs.Positions.{innerAt, shapeAt}
-use Rattle.prepared.specs.Books.{templateAt}
-use Rattle.messages.specs.Openings.{leftOver, openedBy}
+use Rattle.layout.specs.Message.{surplusOf}
+use Rattle.prepared.specs.Positions.{innerAt, shapeAt, versionAt}
+use Rattle.wire.specs.Headers.{IsHeader}
+use Rattle.wire.specs.declared.Header.{Header}
+use Rattle.messages.specs.Openings.{leftOver, opened, rootBy}
 use Rattle.messages.specs.declared.Opened.{Opened}
 use Rattle.messages.specs.declared.Opened.the-variants as Opened
 use Rattle.messages.specs.declared.Surplus.{Surplus}
 use Rattle.messages.specs.declared.Surplus.the-variants.{Is, Wrong}
 
--- The answer by what the code finds: whether the block is too short, its version and length, and what is left over.
-unfoldable pub openBy : ℕ → Bool → ℕ → ℕ → Surplus → Surplus → Opened
-openBy a true v l g d = Opened.Refused (refusal 14 0)
-openBy a false v l Wrong d = Opened.Refused (refusal 15 8)
-openBy a false v l (Is x) Wrong = Opened.Refused (refusal 15 10)
-openBy a false v l (Is x) (Is y) = Opened.At a v l x y
+-- The answer by what the code finds: whether the block is long enough, and what is left over.
+unfoldable pub openBy : ℕ → Header → Bool → Surplus → Surplus → Opened
+openBy a h false g d = Opened.Refused (refusal 14 0)
+openBy a h true Wrong d = Opened.Refused (refusal 15 8)
+openBy a h true (Is x) Wrong = Opened.Refused (refusal 15 10)
+openBy a h true (Is x) (Is y) = Opened.At a (h .version) (h .length) x y
 
-module _ (a : ℕ) (m : List ℕ) (v l : ℕ) (is : v ≡ versionOf m) (long : l ≡ blockLength m) where
-  -- t: it is too short; u and w: the counts are right.
-  decided : (t u w : Bool) (x y : ℕ)
-      → openBy a t v l (if u then Is x else Wrong) (if w then Is y else Wrong)
-      ≡ openedBy a m (must (not t) 14 0 >>= λ _. must u 15 8 >>= λ _. must w 15 10 >>= λ _. done (x, y))
-  unfolding openBy openedBy must _>>=_ if_then_else_
-  decided true u w x y = refl
-  decided false false w x y = refl
-  decided false true false x y = refl
-  decided false true true x y = rw (is, long) refl
+module _ (p : List ℕ) (a : ℕ) (m : List ℕ) (h : Header) (is : IsHeader m h) where
+  -- u and w: the counts are right.
+  decided : (t u w : Bool) (s : ℕ × ℕ)
+      → opened m (must t 14 0 >>= (λ _. must u 15 8 >>= λ _. must w 15 10 >>= λ _. done s)
+      >>= λ x. done (a, x .0, x .1))
+      ≡ openBy a h t (if u then Is (s .0) else Wrong) (if w then Is (s .1) else Wrong)
+  unfolding openBy opened must _>>=_ if_then_else_
+  decided false u w s = refl
+  decided true false w s = refl
+  decided true true false s = refl
+  decided true true true s = rw (is .version .value, is .length .value) refl
 
-  module _ (p : List ℕ) (version : ℕ) where
-    abbrev groups : List ℕ
-    groups = groupSinces (innerAt p 4 a)
-
-    abbrev datas : List ℕ
-    datas = dataSinces (shapeAt p a .datas)
-
-    by-tests : (t : Bool) → leb (need v (shapeAt p a)) l ≡ not t
-        → openBy a t v l (leftOver version v (length groups) (present v groups) (groupCount m))
-        (leftOver version v (length datas) (present v datas) (dataCount m))
-        ≡ openedBy a m (surplusOf version (templateAt p a) m)
-    unfolding leftOver countGood surplusOf
-    by-tests t e = rw (← is, ← long, e) (decided t _ _ _ _)
-
-    -- Of ag groups hg are here, of ad data hd; n and k are counted.
-    pub opens : (t : Bool) → leb (need v (shapeAt p a)) l ≡ not t → (g d : Surplus) (ag hg n ad hd k : ℕ)
-        → ag ≡ length groups → hg ≡ present v groups → n ≡ groupCount m
-        → ad ≡ length datas → hd ≡ present v datas → k ≡ dataCount m
-        → g ≡ leftOver version v ag hg n → d ≡ leftOver version v ad hd k
-        → openBy a t v l g d ≡ openedBy a m (surplusOf version (templateAt p a) m)
-    opens t e g d ag hg n ad hd k ga gh gn da dh dk og od =
-        rw (og, od, ga, gh, gn, da, dh, dk) (by-tests t e)
+  pub opens-by : (t : Bool) (g d : Surplus) → leb (need (h .version) (shapeAt p a)) (h .length) ≡ t
+      → g ≡ leftOver (versionAt p) (h .version) (groupSinces (innerAt p 4 a)) (h .groups)
+      → d ≡ leftOver (versionAt p) (h .version) (dataSinces (shapeAt p a .datas)) (h .datas)
+      → opened m (rootBy p a m) ≡ openBy a h t g d
+  unfolding leftOver surplusOf
+  opens-by t g d e og od =
+      rw (og, od, ← (is .length .value), ← (is .version .value), ← (is .groups .value), ← (is .datas .value), e)
+      (decided t _ _ _)

@@ -1,48 +1,47 @@
 -- A message up to its root block, by prepared numbers p.
+use mathlib.Core.Path.{_≡_}
 use mathlib.Core.Bool.{Bool}
-use mathlib.Core.List.{List}
+use mathlib.Core.List.{List, _∷_}
 use Prim.Native.Nat.{ℕ, _+_, _-_, _≤_}
 use lib.Dec.{leb, eqb, ltb}
-use lib.ListN.{length}
 use Rattle.layout.specs.Result.{Result, done, refused, if_then_else_, _and_, _>>=_}
 use Rattle.layout.specs.Octets.{null16}
+use Rattle.layout.specs.Book.{present}
 use Rattle.layout.specs.BookRules.{word}
 use Rattle.layout.specs.Contracts.{refusal}
-use Rattle.layout.specs.Message.{blockLength, checkHeader, dataCount, groupCount, headerSize, schemaId, surplusOf}
-use Rattle.layout.specs.Message.{templateId, versionOf}
-use Rattle.prepared.specs.Books.{placeOf, templateAt}
-use Rattle.prepared.specs.declared.Place as Place
-use Rattle.prepared.specs.declared.Place.{Place}
+use Rattle.layout.specs.Message.{blockLength, checkHeader, countGood, surplusOf, templateId, versionOf}
+use Rattle.prepared.specs.Books.{locationOf, templateAt}
+use Rattle.prepared.specs.declared.Located as Located
+use Rattle.prepared.specs.declared.Located.{Located}
+use Rattle.wire.specs.Headers.{IsHeader}
+use Rattle.wire.specs.declared.Header.{Header}
 use Rattle.messages.specs.declared.Opened as Opened
 use Rattle.messages.specs.declared.Opened.{Opened}
 use Rattle.messages.specs.declared.Surplus as Surplus
 use Rattle.messages.specs.declared.Surplus.{Surplus}
 
--- It has a header.
-abbrev pub Long : List ℕ → Type 0
-Long m = headerSize ≤ length m
+-- Before an element with this since `seen` were counted that are present at version v, and with it r.
+pub record Counts (v seen since r : ℕ) : Type 0 where
+  pub more : (ss : List ℕ) → seen + present v (since ∷ ss) ≡ r + present v ss
+  pub few : r ≤ seen + 1
 
--- Of `all` elements `here` are present, and the header counts n.
-unfoldable pub leftOver : ℕ → ℕ → ℕ → ℕ → ℕ → Surplus
-leftOver version v all here n =
-    if (if leb v version then eqb n here else leb all n) then Surplus.the-variants.Is (n - here)
-    else Surplus.the-variants.Wrong
-
-unfoldable pub openedBy : ℕ → List ℕ → Result (ℕ × ℕ) → Opened
-openedBy a m (done s) = Opened.the-variants.At a (versionOf m) (blockLength m) (s .0) (s .1)
-openedBy a m (refused n p) = Opened.the-variants.Refused (refusal n p)
+-- Of the elements with these sinces the header counts n.
+unfoldable pub leftOver : ℕ → ℕ → List ℕ → ℕ → Surplus
+leftOver version v ss n =
+    if countGood version v ss n then Surplus.the-variants.Is (n - present v ss) else Surplus.the-variants.Wrong
 
 -- The block of the template, or 13.
-unfoldable pub known : Place → Result ℕ
-known (Place.the-variants.At a) = done a
-known Place.the-variants.Unknown = refused 13 2
+unfoldable pub known : Located → Result ℕ
+known (Located.the-variants.At a) = done a
+known Located.the-variants.Unknown = refused 13 2
 
--- 13 to 15: where the template's block stands, and how many groups and data are surplus.
+-- 14 and 15, by the template's block at a: that place, and how many groups and data are surplus.
+abbrev pub rootBy : List ℕ → ℕ → List ℕ → Result (ℕ × ℕ × ℕ)
+rootBy p a m = surplusOf (word p 1) (templateAt p a) m >>= λ s. done (a, s .0, s .1)
+
+-- 13 to 15.
 unfoldable pub knownAt : List ℕ → List ℕ → Result (ℕ × ℕ × ℕ)
-knownAt p m = do
-  a ← known (placeOf p (templateId m))
-  (g, d) ← surplusOf (word p 1) (templateAt p a) m
-  done (a, g, d)
+knownAt p m = known (locationOf p (templateId m)) >>= λ a. rootBy p a m
 
 -- 10 to 15.
 unfoldable pub openAt : List ℕ → List ℕ → Result (ℕ × ℕ × ℕ)
@@ -52,9 +51,13 @@ unfoldable pub opened : List ℕ → Result (ℕ × ℕ × ℕ) → Opened
 opened m (done (a, g, d)) = Opened.the-variants.At a (versionOf m) (blockLength m) g d
 opened m (refused n p) = Opened.the-variants.Refused (refusal n p)
 
--- A block stands at a, and the header is as a writer by the book has it for that template; its block may be longer.
-unfoldable pub isOwn : List ℕ → ℕ → List ℕ → Bool
-isOwn p a m =
-    ltb 0 a and eqb (templateId m) (word p a) and eqb (schemaId m) (word p 0) and eqb (versionOf m) (word p 1)
-    and eqb (groupCount m) (word p (a + 4)) and eqb (dataCount m) (word p (a + 5)) and leb (word p (a + 6)) (blockLength m)
-    and ltb (blockLength m) null16
+-- r opens whatever message has these numbers for its header, by the template's block at a.
+abbrev pub OpensBy : List ℕ → ℕ → Header → Opened → Type 0
+OpensBy p a h r = (m : List ℕ) → IsHeader m h → r ≡ opened m (rootBy p a m)
+
+-- The header is as a writer by the book has it for the template whose block stands at a; its block may be longer.
+unfoldable pub isOwn : List ℕ → ℕ → Header → Bool
+isOwn p a h =
+    (eqb (h .schema) (word p 0) and eqb (h .version) (word p 1))
+    and (eqb (h .groups) (word p (a + 4)) and eqb (h .datas) (word p (a + 5)))
+    and leb (word p (a + 6)) (h .length) and ltb (h .length) null16

@@ -1,18 +1,28 @@
 // Opens a message by a prepared book: what its root block is, or the refusal 10 to 15.
 use layout::Refusal;
-use prepared::Place;
+use prepared::Located;
 use prepared::number;
-use prepared::value;
+use wire::Header;
 use wire::Walked;
 ghost use mathlib.Core.Path.{_≡_};
-ghost use Prim.Native.Nat.{_<_, _≤_};
+ghost use mathlib.Core.Bool.{true};
+ghost use Prim.Native.Nat.{_-_, _≤_};
 ghost use Rattle.layout.specs.Book.{dataSinces, groupSinces, present};
 ghost use Rattle.layout.specs.Contracts.{refusal};
-ghost use Rattle.layout.specs.Message.{surplusOf};
+ghost use Rattle.layout.specs.Result.{if_then_else_, _and_};
 ghost use Rattle.prepared.specs.Positions.{BlockAt, IsBlock, innerAt, shapeAt, versionAt};
-ghost use Rattle.prepared.specs.Books.{HoldsBook, templateAt};
+ghost use Rattle.prepared.specs.Books.{HoldsBook, locationOf};
+ghost use Rattle.wire.specs.Headers.{IsHeader};
 ghost use Rattle.walk.specs.Walks.{Lent};
-ghost use Rattle.messages.specs.Openings.{Long, isOwn, knownAt, leftOver, openAt, opened, openedBy};
+ghost use Rattle.messages.specs.Openings.{Counts, OpensBy, isOwn, leftOver, openAt, opened};
+
+// ---- the groups and data that the header counts
+
+fn both(a: bool, b: bool) -> bool
+    ensures { λ r. ⌜ r ≡ (a and b) ⌝ }
+{
+    if a { b } else { false }
+}
 
 // How many groups or data the wire has more than are present, or that the header's count of them is wrong.
 enum Surplus {
@@ -20,39 +30,38 @@ enum Surplus {
     Wrong,
 }
 
-// Of `all` elements `here` are present, and the header counts n.
-fn left_over(version: usize, v: usize, all: usize, here: usize, n: usize) -> Surplus
-    requires { ⌜ here ≤ all ⌝ }
-    ensures { λ r. ⌜ r ≡ leftOver version v all here n ⌝ }
+// The header counts n of which `here` are present, if its count is good.
+fn over(good: bool, n: usize, here: usize) -> Surplus
+    requires { ⌜ (good ≡ true → here ≤ n) ⌝ }
+    ensures { λ r. ⌜ r ≡ (if good then Surplus.Is (n - here) else Surplus.Wrong) ⌝ }
 {
-    if v <= version {
-        if n == here {
-            return Surplus::Is(0);
-        }
-        return Surplus::Wrong;
+    if good {
+        return Surplus::Is(n - here);
     }
-    if n < all {
-        return Surplus::Wrong;
-    }
-    Surplus::Is(n - here)
+    Surplus::Wrong
 }
 
-// How many data of the block at a are present at version v. All are at the book's version and later.
+// One element more is seen, and counted if it is present at version v.
+fn count(seen: usize, since: usize, v: usize) -> usize
+    requires { ⌜ seen ≤ 65535 ⌝ }
+    ensures { λ r. ⌜ Counts v seen since r ⌝ }
+{
+    if since <= v {
+        return seen + 1;
+    }
+    seen
+}
+
+// How many data of the block at a are present at version v.
 fn datas_here(p: &[u64], a: usize, v: usize) -> usize
     requires { ⌜ IsBlock (now p) a ⌝ }
     ensures { λ r. ⌜ r ≡ present v (dataSinces (shapeAt (now (p .entry)) a .datas)) ⌝ }
 {
-    let all = number(p, a + 5);
-    if number(p, 1) <= v {
-        return all;
-    }
-    let mut left = all;
+    let mut left = number(p, a + 5);
     let mut d = number(p, a + 10);
     let mut seen = 0;
     while 0 < left {
-        if number(p, d + 1) <= v {
-            seen = seen + 1;
-        }
+        seen = count(seen, number(p, d + 1), v);
         d = d + 2;
         left = left - 1;
     }
@@ -64,26 +73,48 @@ fn groups_here(p: &[u64], a: usize, v: usize) -> usize
     requires { ⌜ BlockAt (now p) 4 a ⌝ }
     ensures { λ r. ⌜ r ≡ present v (groupSinces (innerAt (now (p .entry)) 4 a)) ⌝ }
 {
-    let all = number(p, a + 4);
-    if number(p, 1) <= v {
-        return all;
-    }
-    let mut left = all;
+    let mut left = number(p, a + 4);
     let mut g = number(p, a + 9);
     let mut seen = 0;
     while 0 < left {
         prepared::open_row(p, g, left, 4);
-        if number(p, g + 1) <= v {
-            seen = seen + 1;
-        }
+        seen = count(seen, number(p, g + 1), v);
         g = number(p, g + 8);
         left = left - 1;
     }
     seen
 }
 
-// The root block of a message: where its template's block stands, the message's version, the root's octets, and how many
-// surplus groups and data follow its own; or the refusal.
+// Of the data of the block at a the header counts n: to a newer version than the book's all are present.
+fn datas_over(p: &[u64], a: usize, v: usize, n: usize) -> Surplus
+    requires { ⌜ IsBlock (now p) a ⌝ }
+    ensures { λ r. ⌜ r ≡ leftOver (versionAt (now (p .entry))) v (dataSinces (shapeAt (now (p .entry)) a .datas)) n ⌝ }
+{
+    if number(p, 1) < v {
+        let all = number(p, a + 5);
+        return over(all <= n, n, all);
+    }
+    let here = datas_here(p, a, v);
+    over(n == here, n, here)
+}
+
+// Of the groups of the template's block at a it counts n.
+fn groups_over(p: &[u64], a: usize, v: usize, n: usize) -> Surplus
+    requires { ⌜ BlockAt (now p) 4 a ⌝ }
+    ensures { λ r. ⌜ r ≡ leftOver (versionAt (now (p .entry))) v (groupSinces (innerAt (now (p .entry)) 4 a)) n ⌝ }
+{
+    if number(p, 1) < v {
+        let all = number(p, a + 4);
+        return over(all <= n, n, all);
+    }
+    let here = groups_here(p, a, v);
+    over(n == here, n, here)
+}
+
+// ---- the root block
+
+// The root block of a message: where its template's block stands, the message's version, the root's octets, and how
+// many surplus groups and data follow its own; or the refusal.
 pub enum Opened {
     At {
         block: usize,
@@ -102,113 +133,78 @@ fn refuse(number: u8, place: usize) -> Opened
 }
 
 // By the template's block at a: 14 and 15.
-fn open_by(p: &[u64], a: usize, m: &[u8]) -> Opened
-    requires { ⌜ BlockAt (now p) 4 a × Long (now m) ⌝ }
-    ensures { λ r. ⌜ r ≡ openedBy a (now (m .entry)) (surplusOf (versionAt (now (p .entry))) (templateAt
-        (now (p .entry)) a) (now (m .entry))) ⌝ }
+fn open_by(p: &[u64], a: usize, h: Header) -> Opened
+    requires { ⌜ BlockAt (now p) 4 a ⌝ }
+    ensures { λ r. ⌜ OpensBy (now (p .entry)) a h r ⌝ }
 {
-    let own = number(p, 1);
-    let version = octets::get2(m, 6) as usize;
-    let length = octets::get2(m, 0) as usize;
-    if length < prepared::need(p, a, version) {
+    if h.length < prepared::need(p, a, h.version) {
         return refuse(14, 0);
     }
-    let n = octets::get2(m, 8) as usize;
-    let Surplus::Is(groups) = left_over(
-        own,
-        version,
-        number(p, a + 4),
-        groups_here(p, a, version),
-        n,
-    ) else {
+    let Surplus::Is(groups) = groups_over(p, a, h.version, h.groups) else {
         return refuse(15, 8);
     };
-    let k = octets::get2(m, 10) as usize;
-    let Surplus::Is(datas) = left_over(own, version, number(p, a + 5), datas_here(p, a, version), k)
-    else {
+    let Surplus::Is(datas) = datas_over(p, a, h.version, h.datas) else {
         return refuse(15, 10);
     };
     Opened::At {
         block: a,
-        version,
-        length,
+        version: h.version,
+        length: h.length,
         groups,
         datas,
     }
 }
 
-// By the template's id, the header being good so far: 13 to 15.
-fn open_known(p: &[u64], m: &[u8]) -> Opened
-    requires { ⌜ HoldsBook (now p) × Long (now m) ⌝ }
-    ensures { λ r. ⌜ r ≡ opened (now (m .entry)) (knownAt (now (p .entry)) (now (m .entry))) ⌝ }
-{
-    let Place::At(a) = prepared::find(p, octets::get2(m, 2) as usize) else {
-        return refuse(13, 2);
-    };
-    open_by(p, a, m)
-}
-
-// Test by test, in their order.
-fn open_any(p: &[u64], m: &[u8]) -> Opened
-    requires { ⌜ HoldsBook (now p) ⌝ }
+// Test by test, in their order: 11 to 15. The place is that of the template.
+fn open_any(p: &[u64], m: &[u8], h: Header, place: Located) -> Opened
+    requires { ⌜ HoldsBook (now p) × Lent (now m) 12 × IsHeader (now m) h
+        × (place ≡ locationOf (now p) (h .template)) ⌝ }
     ensures { λ r. ⌜ r ≡ opened (now (m .entry)) (openAt (now (p .entry)) (now (m .entry))) ⌝ }
 {
     let Walked::Refused(refusal) = wire::read_header(m, number(p, 0)) else {
-        return open_known(p, m);
+        let Located::At(a) = place else {
+            return refuse(13, 2);
+        };
+        return open_by(p, a, h);
     };
     Opened::Refused(refusal)
 }
 
-// Whether a block stands at a, and the header is as a writer by this book has it for that template; its block may be longer.
-fn is_own(p: &[u64], a: usize, m: &[u8]) -> bool
-    requires { ⌜ (0 < a → IsBlock (now p) a) × Long (now m) ⌝ }
-    ensures { λ r. ⌜ r ≡ isOwn (now (p .entry)) a (now (m .entry)) ⌝ }
+// Whether the header is as a writer by this book has it for the template whose block stands at a; its block may be
+// longer.
+fn is_own(p: &[u64], a: usize, h: Header) -> bool
+    requires { ⌜ IsBlock (now p) a ⌝ }
+    ensures { λ r. ⌜ r ≡ isOwn (now (p .entry)) a h ⌝ }
 {
-    if a == 0 {
-        return false;
-    }
-    if octets::get2(m, 2) != value(p, a) {
-        return false;
-    }
-    if octets::get2(m, 4) != value(p, 0) {
-        return false;
-    }
-    if octets::get2(m, 6) != value(p, 1) {
-        return false;
-    }
-    if octets::get2(m, 8) != value(p, a + 4) {
-        return false;
-    }
-    if octets::get2(m, 10) != value(p, a + 5) {
-        return false;
-    }
-    let length = octets::get2(m, 0);
-    if length < value(p, a + 6) {
-        return false;
-    }
-    length < 65535
+    let book = both(h.schema == number(p, 0), h.version == number(p, 1));
+    let counts = both(h.groups == number(p, a + 4), h.datas == number(p, a + 5));
+    let block = both(number(p, a + 6) <= h.length, h.length < 65535);
+    both(book, both(counts, block))
 }
 
-// The root block that the header's numbers give, where they are the book's own.
-fn open_own(p: &[u64], m: &[u8]) -> Opened
-    requires { ⌜ HoldsBook (now p) × Lent (now m) 12 ⌝ }
+// By the numbers of the header. Most are as a writer by the same book has them, and no test of 11 to 15 is asked of
+// those by itself.
+fn open_by_header(p: &[u64], m: &[u8], h: Header) -> Opened
+    requires { ⌜ HoldsBook (now p) × Lent (now m) 12 × IsHeader (now m) h ⌝ }
     ensures { λ r. ⌜ r ≡ opened (now (m .entry)) (openAt (now (p .entry)) (now (m .entry))) ⌝ }
 {
-    let a = number(p, 3 + octets::get2(m, 2) as usize % 64);
-    if !is_own(p, a, m) {
-        return open_any(p, m);
+    let place = prepared::find(p, h.template);
+    let Located::At(a) = place else {
+        return open_any(p, m, h, place);
+    };
+    if !is_own(p, a, h) {
+        return open_any(p, m, h, place);
     }
     Opened::At {
         block: a,
-        version: octets::get2(m, 6) as usize,
-        length: octets::get2(m, 0) as usize,
+        version: h.version,
+        length: h.length,
         groups: 0,
         datas: 0,
     }
 }
 
-// A message up to its root block. Most headers are as a writer by the same book has them, and no test of 11 to 15 is
-// asked of those by itself.
+// A message up to its root block.
 pub fn open(p: &[u64], m: &[u8]) -> Opened
     requires { ⌜ HoldsBook (now p) ⌝ }
     ensures { λ r. ⌜ r ≡ opened (now (m .entry)) (openAt (now (p .entry)) (now (m .entry))) ⌝ }
@@ -219,5 +215,5 @@ pub fn open(p: &[u64], m: &[u8]) -> Opened
     if 65535 < m.len() {
         return refuse(10, 0);
     }
-    open_own(p, m)
+    open_by_header(p, m, wire::header_of(m))
 }

@@ -9,9 +9,8 @@ use lib.ListN.{length}
 use borrow.Author.Tests.{le-leb, leb-false, leb-true}
 use Rattle.layout.specs.Result.{Result, _>>=_, done, must, refused}
 use Rattle.layout.specs.Book.{Data, Groups, Shape, need}
-use Rattle.layout.specs.Contracts.{stepsOf}
 use Rattle.layout.specs.Message.{Entry, readBlock, readDatas, readGroups, skipDatas}
-use Rattle.layout.specs.Reading.{groupHas, hasElement, hasPlace}
+use Rattle.layout.specs.Reading.{groupHas, hasElement, hasPlace, stepsOf}
 use Rattle.layout.specs.Values.{Step, Values, answerAt, elementOf, entry}
 use Rattle.layout.specs.declared.Answer.{Answer}
 use Rattle.layout.specs.declared.Element.{Element}

@@ -1,49 +1,35 @@
 -- The block that steps lead to, and whether the template has the place.
-use mathlib.Core.Path.{_≡_, ap, refl}
-use mathlib.Core.Bool.{Bool, false}
+use mathlib.Core.Path.{_≡_, refl}
+use mathlib.Core.Bool.{Bool, false, true}
 use mathlib.Core.List.{List, [], _∷_}
 use Prim.Native.Nat.{ℕ, zero, suc, _+_, _-_, _*_, _%_, _≤_, _<_}
 use native.Mathlib.Omega.{arith}
 use lib.Dec.{ltb}
 use lib.ListN.{length}
-use borrow.Author.Tests.{le-leb, lt-leb}
-use Rattle.layout.specs.Result.{if_then_else_, _and_}
-use Rattle.layout.specs.Book.{Groups, Shape, groupSinces, more, none}
-use Rattle.layout.specs.BookRules.{parseDatas, word}
-use Rattle.layout.specs.Contracts.{stepsOf}
-use Rattle.layout.specs.Reading.{groupHas, hasElement, hasPlace}
+use Rattle.layout.specs.Result.{if_then_else_}
+use Rattle.layout.specs.Book.{Groups, Shape, more, none}
+use Rattle.layout.specs.BookRules.{word}
+use Rattle.layout.specs.Reading.{groupHas, hasElement, hasPlace, stepsOf, wholeSteps}
 use Rattle.layout.specs.declared.Element.{Element}
 use Rattle.layout.specs.declared.Element.the-variants.{Data as DataAt, Field, Group}
-use Rattle.prepared.specs.Positions.{BlockAt, IsRow, groupCount, groupsAt, groupsFrom, innerAt, shapeAt}
-use Rattle.prepared.specs.declared.Place.the-variants.{At, Unknown}
-use Rattle.prepared.proofs.Open.{no-groups-at, open-row}
+use Rattle.prepared.specs.Positions.{BlockAt, groupCount, groupsFrom, innerAt, shapeAt}
+use Rattle.prepared.specs.declared.Located.the-variants.{At, Unknown}
+use Rattle.prepared.proofs.Accepted.{datas-length}
+use Rattle.prepared.proofs.Open.{length-row}
 use Rattle.walk.proofs.Blocks.{length-fields}
 use Rattle.places.specs.Spots.{Block, dropGroups, firstBlock}
 use Rattle.places.specs.Seeks.{rowAfter, stepsFrom}
-use Rattle.places.specs.Elements.{blockAfter, countOf, numberOf, placeFrom, placeIn}
+use Rattle.places.specs.Elements.{blockAfter, blockFor, countOf, numberOf}
 use Rattle.places.proofs.Places.{group-is, row-drops-all, steps-done, steps-next}
 
 -- ---- the element
-
-length-datas : (p : List ℕ) (n a : ℕ) → length (parseDatas p n a) ≡ n
-unfolding parseDatas
-length-datas p zero a = refl
-length-datas p (suc n) a = ap suc (length-datas p n (a + 2))
-
-length-groups : (p : List ℕ) (depth n a : ℕ) → IsRow p depth n a → length (groupSinces (groupsAt p depth n a)) ≡ n
-unfolding groupSinces
-length-groups p depth zero a row = rw (no-groups-at p depth 0 a (omega arith)) refl
-length-groups p depth (suc n) a row =
-    let o = open-row p depth (suc n) a (omega arith) row in
-    let q : suc n - 1 ≡ n = omega arith in
-    rw (o .tree, q) (ap suc (length-groups p depth n _ (rw q at (o .rest))))
 
 pub has-element : (p : List ℕ) (depth a : ℕ) (x : Element) → BlockAt p depth a
     → hasElement x (shapeAt p a) (innerAt p depth a) ≡ ltb (numberOf x) (countOf p a x)
 unfolding hasElement numberOf countOf
 has-element p depth a (Field k) at = rw (length-fields p _ _) refl
-has-element p depth a (Group k) at = rw (length-groups p depth _ _ (at .row)) refl
-has-element p depth a (DataAt k) at = rw (length-datas p _ _) refl
+has-element p depth a (Group k) at = rw (length-row p depth _ _ (at .row)) refl
+has-element p depth a (DataAt k) at = rw (datas-length p _ _) refl
 
 -- ---- the group
 
@@ -82,43 +68,42 @@ module _ (p : List ℕ) (depth a g : ℕ) (stands : BlockAt p depth a) (less : g
 
 -- ---- the place
 
--- There is a step for every two numbers, and five for one left over.
-pub steps-many : (l : List ℕ) → 2 * length (stepsOf l) ≡ length l + 9 * (length l % 2)
+-- There is a step for every two numbers.
+pub steps-many : (l : List ℕ) → 2 * length (stepsOf l) + length l % 2 ≡ length l
 unfolding stepsOf
 steps-many [] = refl
 steps-many (g ∷ []) = refl
 steps-many (g ∷ e ∷ l) = omega (arith, steps-many l)
 
-module _ (p : List ℕ) (root : ℕ) (l : List ℕ) (x : Element) where
-  pub place-long : 8 < length l → placeFrom p root (stepsOf l) x ≡ Unknown
-  unfolding _and_ if_then_else_
-  place-long h = rw (lt-leb (length (stepsOf l)) 4 (omega (arith, steps-many l))) refl
+pub steps-whole : (l : List ℕ) → length l % 2 ≡ 0 → wholeSteps l ≡ true
+unfolding wholeSteps
+steps-whole [] h = refl
+steps-whole (g ∷ []) h = absurd (omega arith)
+steps-whole (g ∷ e ∷ l) h = steps-whole l (omega arith)
 
-  pub place-half : length l % 2 ≡ 1 → placeFrom p root (stepsOf l) x ≡ Unknown
-  unfolding _and_ if_then_else_
-  place-half h = rw (lt-leb (length (stepsOf l)) 4 (omega (arith, steps-many l))) refl
-
-  pub place-within : length l ≤ 8 → length l % 2 ≡ 0 → placeFrom p root (stepsOf l) x ≡ placeIn p 4 root (stepsOf l) x
-  unfolding _and_
-  place-within h q = rw (le-leb (length (stepsOf l)) 4 (omega (arith, steps-many l))) refl
+pub steps-half : (l : List ℕ) → length l % 2 ≡ 1 → wholeSteps l ≡ false
+unfolding wholeSteps
+steps-half [] h = absurd (omega arith)
+steps-half (g ∷ []) h = refl
+steps-half (g ∷ e ∷ l) h = steps-half l (omega arith)
 
 -- What is left of the steps from the block at a.
 module _ (p : List ℕ) (depth a : ℕ) (stands : BlockAt p depth a) (path : List ℕ) (i : ℕ) (x : Element) where
   pub place-ends : length path ≤ i
-      → placeIn p depth a (stepsFrom path i) x ≡ (if ltb (numberOf x) (countOf p a x) then At a else Unknown)
+      → blockFor p depth a (stepsFrom path i) x ≡ (if ltb (numberOf x) (countOf p a x) then At a else Unknown)
   unfolding hasPlace blockAfter
   place-ends h = rw (steps-done path i h, has-element p depth a x stands) refl
 
   module _ (some : i + 2 ≤ length path) where
-    pub place-lacks : groupCount p a ≤ word path i → placeIn p depth a (stepsFrom path i) x ≡ Unknown
+    pub place-lacks : groupCount p a ≤ word path i → blockFor p depth a (stepsFrom path i) x ≡ Unknown
     unfolding hasPlace if_then_else_
     place-lacks h =
         let has = hasPlace (stepsFrom path (i + 2)) x in
         rw (steps-next path i some, has-none (word path i) (innerAt p depth a) has (row-drops-all p depth _ _ _ h)) refl
 
     pub place-on : (h : word path i < groupCount p a)
-        → placeIn p depth a (stepsFrom path i) x
-        ≡ placeIn p (depth - 1) (rowAfter p (word path i) (groupsFrom p a)) (stepsFrom path (i + 2)) x
+        → blockFor p depth a (stepsFrom path i) x
+        ≡ blockFor p (depth - 1) (rowAfter p (word path i) (groupsFrom p a)) (stepsFrom path (i + 2)) x
     unfolding hasPlace blockAfter
     place-on h =
         let has = hasPlace (stepsFrom path (i + 2)) x in

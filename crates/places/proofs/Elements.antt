@@ -24,11 +24,11 @@ use Rattle.prepared.specs.Positions.{BlockAt, dataCount, fieldCount, fieldsFrom
 use Rattle.prepared.specs.Positions.{shapeAt}
 use Rattle.wire.specs.Walks.{skipEnd, walked}
 use Rattle.wire.specs.declared.Walked as Walked
-use Rattle.wire.proofs.Laws.{inv-to}
+use Rattle.wire.proofs.Answers.{inv-to}
 use Rattle.walk.specs.Walks.{datasEnd, rowAt, valuesEnd}
 use Rattle.walk.proofs.Rows.{surplus-after}
 use Rattle.fields.specs.Readable.{Fits}
-use Rattle.fields.proofs.Laws.{fields-fit}
+use Rattle.fields.proofs.Fields.{fields-fit}
 use Rattle.places.specs.Seeks.{rowAfter}
 use Rattle.places.specs.Elements.{Accepted, Done, countOf, dataRead, datasRead, elementRead, entryRead}
 use Rattle.places.specs.Elements.{groupRead, numberOf}

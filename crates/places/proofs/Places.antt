@@ -5,8 +5,8 @@ use Prim.Native.Nat.{ℕ, zero, suc, _+_, _-_, _≤_, _<_}
 use native.Mathlib.Omega.{arith}
 use lib.ListN.{drop, getD, length}
 use Rattle.layout.specs.Book.{more, none}
+use Rattle.layout.specs.Reading.{stepsOf}
 use Rattle.layout.specs.BookRules.{word}
-use Rattle.layout.specs.Contracts.{stepsOf}
 use Rattle.prepared.specs.Positions.{BlockAt, IsRow, Opened, groupCount, groupsAt, groupsFrom, innerAt, nextFrom}
 use Rattle.prepared.specs.Positions.{shapeAt}
 use Rattle.prepared.proofs.Open.{no-groups-at, open-row}

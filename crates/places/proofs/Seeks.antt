@@ -24,7 +24,7 @@ use Rattle.wire.specs.declared.Dimension as Dimension
 use Rattle.wire.specs.declared.Walked as Walked
 use Rattle.wire.specs.declared.Walked.{Walked}
 use Rattle.wire.proofs.Dimensions.{good}
-use Rattle.wire.proofs.Laws.{inv-refused, inv-to}
+use Rattle.wire.proofs.Answers.{inv-refused, inv-to}
 use Rattle.walk.specs.Walks.{Bounded, datasEnd, entryEnd, rowAt, valuesEnd}
 use Rattle.walk.proofs.Blocks.{block-whole}
 use Rattle.walk.proofs.Datas.{no-datas-at}

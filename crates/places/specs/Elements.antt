@@ -2,9 +2,8 @@
 use mathlib.Core.Path.{_≡_}
 use mathlib.Core.List.{List, [], _∷_}
 use Prim.Native.Nat.{ℕ, _≤_}
-use lib.Dec.{leb}
 use lib.ListN.{getD, length}
-use Rattle.layout.specs.Result.{Result, _>>=_, _and_, done, if_then_else_, refused}
+use Rattle.layout.specs.Result.{Result, _>>=_, done, if_then_else_, refused}
 use Rattle.layout.specs.Book.{need}
 use Rattle.layout.specs.Message.{Entry, readBlock, readDatas, readGroups}
 use Rattle.layout.specs.Reading.{hasPlace}
@@ -14,8 +13,8 @@ use Rattle.layout.specs.declared.Answer.the-variants.{Absent}
 use Rattle.layout.specs.declared.Element as Element
 use Rattle.layout.specs.declared.Element.{Element}
 use Rattle.prepared.specs.Positions.{BlockAt, dataCount, fieldCount, groupCount, groupsFrom, innerAt, shapeAt}
-use Rattle.prepared.specs.declared.Place.{Place}
-use Rattle.prepared.specs.declared.Place.the-variants.{At, Unknown}
+use Rattle.prepared.specs.declared.Located.{Located}
+use Rattle.prepared.specs.declared.Located.the-variants.{At, Unknown}
 use Rattle.places.specs.Seeks.{rowAfter}
 
 -- ---- whether the template has it
@@ -36,16 +35,10 @@ unfoldable pub blockAfter : List ℕ → List Step → ℕ → ℕ
 blockAfter p [] a = a
 blockAfter p (s ∷ ps) a = blockAfter p ps (rowAfter p (s .group) (groupsFrom p a))
 
--- It has the place, as far as the block at a goes.
-abbrev pub placeIn : List ℕ → ℕ → ℕ → List Step → Element → Place
-placeIn p depth a ps x =
+-- That block, if the block at a has the place.
+abbrev pub blockFor : List ℕ → ℕ → ℕ → List Step → Element → Located
+blockFor p depth a ps x =
     if hasPlace ps x (shapeAt p a) (innerAt p depth a) then At (blockAfter p ps a) else Unknown
-
--- "A place is up to four steps", from the template's block.
-abbrev pub placeFrom : List ℕ → ℕ → List Step → Element → Place
-placeFrom p root ps x =
-    if leb (length ps) 4 and hasPlace ps x (shapeAt p root) (innerAt p 4 root) then At (blockAfter p ps root)
-    else Unknown
 
 -- ---- what it is
 

@@ -6,8 +6,9 @@ use Prim.Native.Nat.{ℕ, zero, suc, _+_, _-_, _*_, _%_, _≤_}
 use lib.Dec.{ltb}
 use lib.ListN.{drop, length}
 use Rattle.layout.specs.Result.{Result, done, refused, if_then_else_}
+use Rattle.layout.specs.Reading.{stepsOf}
 use Rattle.layout.specs.BookRules.{word}
-use Rattle.layout.specs.Contracts.{refusal, stepsOf}
+use Rattle.layout.specs.Contracts.{refusal}
 use Rattle.layout.specs.Values.{Step, Values}
 use Rattle.prepared.specs.Positions.{groupCount, groupsAt, groupsFrom, innerAt, nextFrom}
 use Rattle.wire.specs.declared.Walked as Walked

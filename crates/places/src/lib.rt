@@ -3,7 +3,7 @@
 use layout::Answer;
 use layout::Element;
 use layout::Refusal;
-use prepared::Place;
+use prepared::Located;
 use prepared::number;
 use walk::pass_row;
 use walk::walk_datas;
@@ -14,17 +14,17 @@ ghost use mathlib.Core.Bool.{true};
 ghost use Prim.Native.Nat.{_+_, _-_, _*_, _≤_, _<_};
 ghost use lib.ListN.{length};
 ghost use Rattle.layout.specs.BookRules.{parseDatas, word};
-ghost use Rattle.layout.specs.Contracts.{refusal, stepsOf};
+ghost use Rattle.layout.specs.Contracts.{refusal};
 ghost use Rattle.layout.specs.Message.{readDatas};
-ghost use Rattle.layout.specs.Reading.{hasElement};
+ghost use Rattle.layout.specs.Reading.{hasElement, stepsOf};
 ghost use Rattle.prepared.specs.Positions.{BlockAt, IsBlock, IsRow, dataCount, groupCount, groupsFrom, innerAt};
 ghost use Rattle.prepared.specs.Positions.{shapeAt};
 ghost use Rattle.walk.specs.Walks.{Lent, rowAt};
 ghost use Rattle.places.specs.Spots.{nowhere};
 ghost use Rattle.places.specs.Seeks.{Path, Within, entriesSought, foundAt, groupSought, innerSought, plainSpot};
 ghost use Rattle.places.specs.Seeks.{rowAfter, rowSought};
-ghost use Rattle.places.specs.Elements.{Accepted, Done, countOf, dataRead, datasRead, elementRead, entryRead};
-ghost use Rattle.places.specs.Elements.{groupRead, numberOf, placeFrom};
+ghost use Rattle.places.specs.Elements.{Accepted, Done, blockFor, countOf, dataRead, datasRead, elementRead};
+ghost use Rattle.places.specs.Elements.{entryRead, groupRead, numberOf};
 
 // What the walk past a row along a path comes to: where the row ends, and where the entry that the path leads to starts
 // and how many octets its block has, 0 and 0 if there is none; or the refusal.
@@ -294,32 +294,26 @@ fn count_of(p: &[u64], a: usize, x: Element) -> usize
 }
 
 // The block that the steps lead to from the template's block, if the template has the place.
-pub fn find_place(p: &[u64], root: usize, steps: &[u64], x: Element) -> Place
-    requires { ⌜ BlockAt (now p) 4 root ⌝ }
-    ensures { λ r. ⌜ r ≡ placeFrom (now (p .entry)) root (stepsOf (now (steps .entry))) x ⌝ }
+pub fn find_place(p: &[u64], root: usize, steps: &[u64], x: Element) -> Located
+    requires { ⌜ BlockAt (now p) 4 root × Path (now steps) 0 ⌝ }
+    ensures { λ r. ⌜ r ≡ blockFor (now (p .entry)) 4 root (stepsOf (now (steps .entry))) x ⌝ }
 {
-    if 8 < steps.len() {
-        return Place::Unknown;
-    }
-    if steps.len() % 2 == 1 {
-        return Place::Unknown;
-    }
     let mut a = root;
     let mut depth = 4;
     let mut i = 0;
     while i < steps.len() {
         let g = number(steps, i);
         if number(p, a + 4) <= g {
-            return Place::Unknown;
+            return Located::Unknown;
         }
         a = skip_row(p, number(p, a + 9), g, depth);
         depth = depth - 1;
         i = i + 2;
     }
     if number_of(x) < count_of(p, a, x) {
-        return Place::At(a);
+        return Located::At(a);
     }
-    Place::Unknown
+    Located::Unknown
 }
 
 // ---- the element of an entry that was accepted
@@ -350,7 +344,8 @@ fn group_at(
     if v < number(s, group + 1) {
         return Answer::Absent;
     }
-    Answer::Group(octets::get2(*m, next + 2))
+    let sizes = wire::sizes_at(*m, next);
+    Answer::Group(sizes.entries as u64)
 }
 
 // Data k of the n data at place `from`, which start at `start`.
@@ -368,7 +363,7 @@ fn data_at(p: &[u64], from: usize, n: usize, m: &[u8], v: usize, start: usize, k
     }
     Answer::Octets {
         start: next + 2,
-        len: octets::get2(m, next) as usize,
+        len: wire::data_length(m, next),
     }
 }
 

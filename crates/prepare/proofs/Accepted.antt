@@ -1,160 +1,160 @@
 -- What an accepted book is good for: its templates are read by position, and its prepared numbers are few.
-use mathlib.Core.Path.{_≡_, refl, subst, sym, _∙_, ap}
-use mathlib.Core.Bool.{true}
+use mathlib.Core.Path.{_≡_, refl, subst, sym, _∙_}
 use mathlib.Core.List.{List}
-use Prim.Native.Nat.{ℕ, zero, suc, _+_, _*_, _<_, _≤_}
+use Prim.Native.Nat.{ℕ, zero, suc, _+_, _-_, _*_, _/_, _<_, _≤_}
 use native.Mathlib.Nat.{zero-add}
 use native.Mathlib.Omega.{arith}
 use lib.Dec.{leb}
-use lib.ListN.{drop, length, length-drop}
-use lib.Seq.{length-take-le, sets, sets-eq}
+use lib.ListN.{length}
+use lib.Seq.{sets, sets-eq}
 use borrow.Author.Tests.{eqb-true, le-leb, leb-true, lt-leb}
-use Rattle.layout.specs.Result.{_>>=_, done, must, refused}
+use Rattle.layout.specs.Result.{Result, _>>=_, done, must, refused}
 use Rattle.layout.specs.Octets.{wordsOf}
-use Rattle.layout.specs.Book.{Groups, Shape, Template}
-use Rattle.layout.specs.BookRules.{bookOf, contentsGood, parseBodies, parseBody, parseContents, parseGroups, parseShape}
-use Rattle.layout.specs.BookRules.{word}
-use Rattle.layout.specs.Contracts.{counted, refusal, roomAfter}
+use Rattle.layout.specs.Book.{Book, Groups, Shape, Template}
+use Rattle.layout.specs.BookRules.{bookOf, parseBodies, parseBody, parseContents, parseGroups, parseShape, word}
+use Rattle.layout.specs.Contracts.{checked, counted, refusal, roomAfter}
+use Rattle.layout.specs.declared.Checked.the-variants.{Accepted}
 use Rattle.layout.specs.declared.Counted.the-variants.{Count, Refused}
-use Rattle.layout.proofs.Results.{and-left, and-right, bind-done, done-inj, inv-bind, inv-must, inv-refusal}
-use Rattle.book.proofs.Bodies.{contents-within}
+use Rattle.layout.proofs.Results.{bind-done, done-inj, inv-bind, inv-must, inv-refusal}
+use Rattle.book.proofs.Bodies.{Lies, lies-first}
 use Rattle.book.proofs.RuleLaws.{head-says}
-use Rattle.book.proofs.Words.{length-words}
-use Rattle.templates.specs.Lookup.{IsBook}
-use Rattle.templates.proofs.Found.{contents}
-use Rattle.templates.proofs.Open.{open-body}
-use Rattle.prepared.specs.Numbers.{blockSize, groupsSize, preparedOf}
-use Rattle.prepare.specs.Prepares.{Prepares, preparing}
-use Rattle.prepare.specs.Templates.{AreTemplates, IsBody, IsPreparable, bodyAt, bookAt, sizeOf, sizesOf}
-use Rattle.prepare.specs.Templates.{templateOf, templatesAt}
-use Rattle.prepare.proofs.Lengths.{block-size, length-prepared}
+use Rattle.book.proofs.Words.{length-words, words-between}
+use Rattle.prepared.specs.Numbers.{preparedOf, sizesOf}
+use Rattle.prepared.proofs.Books.{length-prepared}
+use Rattle.prepared.proofs.Prepared.{length-numbers}
+use Rattle.prepare.specs.Positions.{IsRow, groupCount, groupsAt, groupsEnd, groupsFrom, innerAt, innerEnd}
+use Rattle.prepare.specs.Positions.{shapeAt}
+use Rattle.prepare.specs.Prepares.{IsBook, Prepares, preparing}
+use Rattle.prepare.specs.Templates.{AreTemplates, IsBody, IsPreparable, bodyAt, bookAt, templatesAt}
+use Rattle.prepare.proofs.Templates.{length-templates}
 
--- ---- words against numbers: a field has six and eleven, data two and two, a group's head six and twelve
-
-shape-few : (b : List ℕ) (few w : ℕ) (r : Shape × ℕ × ℕ) → parseShape b few w ≡ done r
-    → blockSize (r .0) + 2 * w ≤ 2 * r .2 + 4
-unfolding parseShape
-shape-few b few w r e =
-    let q = inv-bind _ _ _ (inv-bind _ _ _ (inv-bind _ _ _ e .next) .next) in
-    subst (λ (x : Shape × ℕ × ℕ). blockSize (x .0) + 2 * w ≤ 2 * x .2 + 4) (done-inj (q .next))
-    (omega (arith, block-size b w))
-
-groups-few : (b : List ℕ) (depth n w : ℕ) (r : Groups × ℕ) → parseGroups b depth n w ≡ done r
-    → groupsSize (r .0) + 2 * w ≤ 2 * r .1
-unfolding parseGroups groupsSize
-groups-few b zero zero w r e =
-    subst (λ (x : Groups × ℕ). groupsSize (x .0) + 2 * w ≤ 2 * x .1) (done-inj e) (omega arith)
-groups-few b (suc depth) zero w r e =
-    subst (λ (x : Groups × ℕ). groupsSize (x .0) + 2 * w ≤ 2 * x .1) (done-inj e) (omega arith)
-groups-few b zero (suc n) w r e = absurd (let z : _≡_ {A = ℕ} 0 1 = cc in omega arith)
-groups-few b (suc depth) (suc n) w r e =
-    let p = inv-bind _ _ _ e in
-    let q = inv-bind _ _ _ (p .next) in
-    let k = inv-bind _ _ _ (q .next) in
-    subst (λ (x : Groups × ℕ). groupsSize (x .0) + 2 * w ≤ 2 * x .1) (done-inj (k .next))
-    (omega (
-      arith,
-      shape-few b 1 (w + 2) (p .value) (p .first),
-      groups-few b depth (p .value .1) (p .value .2) (q .value) (q .first),
-      groups-few b (suc depth) n (q .value .1) (k .value) (k .first),
-    ))
-
-body-few : (b : List ℕ) (r : Shape × Groups) → parseBody b ≡ done r
-    → blockSize (r .0) + groupsSize (r .1) ≤ 2 * length b + 4
-unfolding parseBody
-body-few b r e =
-    let p = inv-bind _ _ _ e in
-    let q = inv-bind _ _ _ (p .next) in
-    let k = inv-bind _ _ _ (q .next) in
-    let whole = eqb-true (q .value .1) (length b) (inv-must _ _ _ _ (k .first)) in
-    subst (λ (x : Shape × Groups). blockSize (x .0) + groupsSize (x .1) ≤ 2 * length b + 4) (done-inj (k .next))
-    (omega (
-      arith,
-      whole,
-      shape-few b 0 0 (p .value) (p .first),
-      groups-few b 4 (p .value .1) (p .value .2) (q .value) (q .first),
-    ))
+-- A checked book is a book.
+pub is-book : (s : List ℕ) → Accepted ≡ checked (bookOf s) → IsBook s
+is-book s e = go (bookOf s) refl e
+  where
+    go : (x : Result Book) → bookOf s ≡ x → Accepted ≡ checked x → IsBook s
+    go (done b) is e = record { tree = b; is = is }
+    go (refused n p) is e = absurd (let z : _≡_ {A = ℕ} 0 1 = unfold checked in cc in omega arith)
 
 -- ---- bodies
 
--- The body b of an accepted book reads as r.
-module _ (b : List ℕ) (r : Shape × Groups) (e : parseBody b ≡ done r) (short : length b ≤ 4096) where
-  body-tree : (id : ℕ) → record { id = id; shape = r .0; groups = r .1 } ≡ templateOf id b
-  body-tree id = let o = open-body b r e in rw (o .shape, o .groups) refl
-
-  body-size : sizeOf (templateOf 0 b) ≤ 2 * length b + 4
-  body-size = subst (λ (t : Template). sizeOf t ≤ 2 * length b + 4) (body-tree 0) (body-few b r e)
-
-  body-is : IsBody b
-  body-is =
-      let o = open-body b r e in
-      record { block = o .block; row = o .row; few = omega (arith, body-size) }
-
--- ---- the templates of n rows from word w on, the first body being at word `at`
-
-pub record Read (s : List ℕ) (n w at : ℕ) (ts : List Template) : Type 0 where
-  pub are : AreTemplates s n w
-  pub is : ts ≡ templatesAt (wordsOf s) n w
-  pub few : sizesOf (templatesAt (wordsOf s) n w) + 2 * at ≤ 2 * length (wordsOf s) + 4 * n
-
-module _ (s : List ℕ) (short : length (wordsOf s) ≤ 4096) where
+module _ (s : List ℕ) where
   abbrev b : List ℕ
   b = wordsOf s
 
-  rows-read : (t n low at w : ℕ) (ts : List Template) → w + 3 * n ≤ length b
-      → contentsGood (length b) low at (parseContents b n w) ≡ true → parseBodies b t (parseContents b n w) ≡ done ts
-      → Read s n w at ts
-  unfolding parseContents contentsGood parseBodies AreTemplates templatesAt sizesOf
-  rows-read t zero low at w ts h g e =
-      record { are = tt; is = sym (done-inj e); few = omega (arith, eqb-true at (length b) g) }
-  rows-read t (suc n) low at w ts h g e =
+  -- A shape that was parsed at word w, its number of groups, and the word after it.
+  record ShapeIs (w : ℕ) (r : Shape × ℕ × ℕ) : Type 0 where
+    fits : groupsFrom s w ≤ length s / 2
+    shape : shapeAt s w ≡ r .0
+    count : groupCount s w ≡ r .1
+    from : groupsFrom s w ≡ r .2
+
+  shape-is : (few w : ℕ) (r : Shape × ℕ × ℕ) → parseShape b few w ≡ done r → ShapeIs w r
+  unfolding parseShape
+  shape-is few w r e =
+      let p = inv-bind _ _ _ (inv-bind _ _ _ (inv-bind _ _ _ e .next) .next) in
+      subst (ShapeIs w) (done-inj (p .next))
+      (record {
+        fits = omega (arith, leb-true (groupsFrom s w) (length b) (inv-must _ _ _ _ (p .first)), length-words s);
+        shape = refl;
+        count = refl;
+        from = refl;
+      })
+
+  -- Groups that were parsed at word w, and the word after them.
+  record RowIs (depth n w : ℕ) (r : Groups × ℕ) : Type 0 where
+    row : IsRow s depth n w
+    tree : groupsAt s depth n w ≡ r .0
+    end : groupsEnd s depth n w ≡ r .1
+
+  row-is : (depth n w : ℕ) (r : Groups × ℕ) → parseGroups b depth n w ≡ done r → RowIs depth n w r
+  unfolding parseGroups IsRow groupsAt groupsEnd
+  row-is zero zero w r e = subst (RowIs 0 0 w) (done-inj e) (record { row = tt; tree = refl; end = refl })
+  row-is (suc depth) zero w r e =
+      subst (RowIs (suc depth) 0 w) (done-inj e) (record { row = tt; tree = refl; end = refl })
+  row-is zero (suc n) w r e = absurd (let z : _≡_ {A = ℕ} 0 1 = cc in omega arith)
+  row-is (suc depth) (suc n) w r e =
       let p = inv-bind _ _ _ e in
       let q = inv-bind _ _ _ (p .next) in
-      let g₂ = and-right _ _ (and-right _ _ g) in
-      let first : word b (w + 1) ≡ at = eqb-true _ _ (and-left _ _ g₂) in
-      let rest = and-right _ _ g₂ in
-      let within = contents-within (length b) (suc (word b w)) (at + word b (w + 2)) (parseContents b n (w + 3)) rest in
-      let long : length (bodyAt b w) ≡ word b (w + 2) =
-      length-take-le (word b (w + 2)) (drop (word b (w + 1)) b) (rw length-drop (omega arith)) in
-      let body : parseBody (bodyAt b w) ≡ done (p .value) = inv-refusal _ _ _ _ (p .first) in
-      let r = rows-read (suc t) n (suc (word b w)) (at + word b (w + 2)) (w + 3) (q .value) (omega arith) rest
-      (q .first) in
-      let size = body-size (bodyAt b w) (p .value) body (omega arith) in
-      let tree = body-tree (bodyAt b w) (p .value) body (omega arith) (word b w) in
-      record {
-        are = (
-          record {
-            fits = omega (arith, length-words s);
-            lies = omega (arith, length-words s);
-            body = body-is (bodyAt b w) (p .value) body (omega arith);
-          },
-          r .are,
-        );
-        is = sym (done-inj (q .next)) ∙ rw (r .is, tree) refl;
-        few = omega (arith, size, r .few);
-      }
+      let k = inv-bind _ _ _ (q .next) in
+      let o = shape-is 1 (w + 2) (p .value) (p .first) in
+      let inner = row-is depth (groupCount s (w + 2)) (groupsFrom s (w + 2)) (q .value)
+      (rw (o .count, o .from) (q .first)) in
+      let rest = row-is (suc depth) n (innerEnd s depth (w + 2)) (k .value) (rw (inner .end) (k .first)) in
+      subst (RowIs (suc depth) (suc n) w) (done-inj (k .next))
+      (record {
+        row = (o .fits, inner .row, rest .row);
+        tree = rw (o .shape, inner .tree, rest .tree) refl;
+        end = rest .end;
+      })
+
+  record BodyIs (r : Shape × Groups) : Type 0 where
+    body : IsBody s
+    shape : shapeAt s 0 ≡ r .0
+    groups : innerAt s 4 0 ≡ r .1
+
+  body-is : (r : Shape × Groups) → parseBody b ≡ done r → BodyIs r
+  unfolding parseBody
+  body-is r e =
+      let p = inv-bind _ _ _ e in
+      let q = inv-bind _ _ _ (p .next) in
+      let k = inv-bind _ _ _ (q .next) in
+      let o = shape-is 0 0 (p .value) (p .first) in
+      let inner = row-is 4 (groupCount s 0) (groupsFrom s 0) (q .value) (rw (o .count, o .from) (q .first)) in
+      let whole = eqb-true (q .value .1) (length b) (inv-must _ _ _ _ (k .first)) in
+      subst BodyIs (done-inj (k .next))
+      (record {
+        body = record {
+          block = record { fits = o .fits; row = inner .row };
+          end = inner .end ∙ whole ∙ length-words s;
+        };
+        shape = o .shape;
+        groups = inner .tree;
+      })
+
+-- ---- the templates of n rows from word w on
+
+rows-are : (s : List ℕ) (t n w : ℕ) (ts : List Template) → w + 3 * n ≤ length s / 2 → Lies (wordsOf s) n w
+    → parseBodies (wordsOf s) t (parseContents (wordsOf s) n w) ≡ done ts
+    → AreTemplates s n w × (ts ≡ templatesAt s n w)
+unfolding parseContents parseBodies AreTemplates templatesAt
+rows-are s t zero w ts h l e = (tt, sym (done-inj e))
+rows-are s t (suc n) w ts h l e =
+    let b = wordsOf s in
+    let p = inv-bind _ _ _ e in
+    let q = inv-bind _ _ _ (p .next) in
+    let j : suc n - 1 ≡ n = omega arith in
+    let lies = lies-first b (suc n) w (omega arith) l in
+    let body = body-is (bodyAt s w) (p .value)
+    (rw (words-between s (word b (w + 1)) (word b (w + 2))) (inv-refusal _ _ _ _ (p .first))) in
+    let rest = rows-are s (suc t) n (w + 3) (q .value) (omega arith) (subst (λ (x : ℕ). Lies b x (w + 3)) j (lies .1))
+    (q .first) in (
+      (record { fits = omega arith; lies = omega (arith, lies .0, length-words s); body = body .body }, rest .0),
+      sym (done-inj (q .next)) ∙ rw (body .shape, body .groups, rest .1) refl,
+    )
 
 -- ---- the book
 
-preparable : (s : List ℕ) (k : IsBook s) → IsPreparable s (word (wordsOf s) 2) × (k .tree ≡ bookAt (wordsOf s))
+preparable : (s : List ℕ) (k : IsBook s) → IsPreparable s (word (wordsOf s) 2) × (k .tree ≡ bookAt s)
 unfolding bookOf
 preparable s k =
-    let p₁ = inv-bind _ _ _ (k .is) in
-    let p₃ = inv-bind _ _ _ (inv-bind _ _ _ (p₁ .next) .next) in
+    let p₂ = inv-bind _ _ _ (inv-bind _ _ _ (k .is) .next) in
+    let p₃ = inv-bind _ _ _ (p₂ .next) in
     let p₄ = inv-bind _ _ _ (p₃ .next) in
     let p₆ = inv-bind _ _ _ (inv-bind _ _ _ (p₄ .next) .next) in
-    let head = head-says s (contents s k .head) in
-    let short = leb-true (length s) 8192 (and-right _ _ (and-right _ _ (inv-must _ _ _ _ (p₁ .first)))) in
+    let head = head-says s (record { good = inv-must _ _ _ _ (p₂ .first) }) in
     let n = word (wordsOf s) 2 in
-    let r = rows-read s (omega (arith, length-words s)) 0 n 0 (4 + 3 * n) 4 (p₄ .value)
-    (omega (arith, length-words s, head .fits)) (inv-must _ _ _ _ (p₃ .first)) (p₄ .first) in (
+    let lies : Lies (wordsOf s) n 4 = record { low = 0; at = 4 + 3 * n; good = inv-must _ _ _ _ (p₃ .first) } in
+    let r = rows-are s 0 n 4 (p₄ .value) (head .fits) lies (p₄ .first) in
+    let tree : k .tree ≡ bookAt s = sym (done-inj (p₆ .next)) ∙ rw (r .1) refl in
+    let short = length-prepared (record { octets = s; tree = k .tree; accepted = k .is; is = refl }) in (
       record {
         head = omega (arith, head .fits);
         count = refl;
-        templates = r .are;
-        few = omega (arith, r .few, head .few, length-words s);
+        templates = r .0;
+        few = omega (arith, rw (tree, length-numbers (bookAt s), length-templates s n 4) at short);
       },
-      sym (done-inj (p₆ .next)) ∙ rw (r .is) refl,
+      tree,
     )
 
 -- ---- the contract, n being the number of templates and `size` that of the numbers
@@ -163,14 +163,13 @@ module _ (s : List ℕ) (k : IsBook s) (n : ℕ) (count-is : n ≡ word (wordsOf
   pub ready : IsPreparable s n
   ready = subst (λ (x : ℕ). IsPreparable s x) (sym count-is) (preparable s k .0)
 
-  module _ (before : List ℕ) (size : ℕ) (is : size ≡ 67 + 2 * n + sizesOf (templatesAt (wordsOf s) n 4)) where
+  module _ (before : List ℕ) (size : ℕ) (is : size ≡ 67 + 2 * n + sizesOf (templatesAt s n 4)) where
     abbrev made : List ℕ
-    made = preparedOf (bookAt (wordsOf s))
+    made = preparedOf (bookAt s)
 
     long : length made ≡ size
     long =
-        length-prepared (wordsOf s)
-        ∙ sym (is ∙ ap (λ (x : ℕ). 67 + 2 * x + sizesOf (templatesAt (wordsOf s) x 4)) count-is)
+        length-numbers (bookAt s) ∙ rw (length-templates s (word (wordsOf s) 2) 4, ← count-is) (sym is)
 
     says : preparing s (length before) ≡ (must (leb size (length before)) 40 size >>= λ _. done made)
     unfolding preparing

@@ -1,10 +1,40 @@
--- The steps of filling the room: what is left to store, and where.
+-- The steps of filling the room: what is left to store, and where; and stores that do not meet, in either order.
 use mathlib.Core.Path.{_≡_, refl, sym, ap, _∙_}
 use mathlib.Core.List.{List, [], _∷_, _++_}
-use Prim.Native.Nat.{ℕ, _+_}
+use Prim.Native.Nat.{ℕ, zero, suc, _+_, _≤_, _<_}
+use native.Mathlib.Nat.{add-zero}
+use native.Mathlib.Omega.{arith}
 use lib.ListN.{length, set}
-use lib.Seq.{sets, length-sets}
+use lib.Seq.{length-sets, set-comm, set-set, sets}
 use Rattle.octets.proofs.Joined.{sets-append}
+
+-- ---- in either order
+
+pub set-past : (d : List ℕ) (i a n : ℕ) (xs : List ℕ) → i < n → set (sets d n xs) i a ≡ sets (set d i a) n xs
+set-past d i a n [] h = refl
+set-past d i a n (x ∷ xs) h =
+    set-past (set d n x) i a (suc n) xs (omega arith)
+    ∙ ap (λ (l : List ℕ). sets l (suc n) xs) (set-comm d n i x a (λ e. omega arith))
+
+pub sets-past : (d : List ℕ) (i : ℕ) (ys : List ℕ) (n : ℕ) (xs : List ℕ) → i + length ys ≤ n
+    → sets (sets d n xs) i ys ≡ sets (sets d i ys) n xs
+sets-past d i [] n xs h = refl
+sets-past d i (y ∷ ys) n xs h =
+    ap (λ (l : List ℕ). sets l (suc i) ys) (set-past d i y n xs (omega arith))
+    ∙ sets-past (set d i y) (suc i) ys n xs (omega arith)
+
+-- One of the numbers that are set is set anew.
+pub set-again : (d : List ℕ) (k : ℕ) (vs : List ℕ) (i x : ℕ) → i < length vs
+    → set (sets d k vs) (k + i) x ≡ sets d k (set vs i x)
+set-again d k [] i x h = absurd (omega arith)
+set-again d k (v ∷ vs) zero x h =
+    rw add-zero (set-past (set d k v) k x (suc k) vs (omega arith)
+    ∙ ap (λ (l : List ℕ). sets l (suc k) vs) (set-set d k v x))
+set-again d k (v ∷ vs) (suc i) x h =
+    let q : k + suc i ≡ suc k + i = omega arith in
+    rw q (set-again (set d k v) (suc k) vs i x (omega arith))
+
+-- ---- what is left
 
 -- The numbers `all` are stored from n₀ on in the room d₀ once `rest` is stored from n on in the room d.
 pub record Filling (d₀ : List ℕ) (n₀ : ℕ) (all : List ℕ) (d : List ℕ) (n : ℕ) (rest : List ℕ) : Type 0 where

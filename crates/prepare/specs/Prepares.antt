@@ -9,7 +9,13 @@ use Rattle.layout.specs.Result.{Result, done, must, _>>=_}
 use Rattle.layout.specs.BookRules.{bookOf}
 use Rattle.layout.specs.Contracts.{counted, roomAfter}
 use Rattle.layout.specs.declared.Counted.{Counted}
+use Rattle.layout.specs.Book.{Book}
 use Rattle.prepared.specs.Numbers.{preparedOf}
+
+-- The octets of a book that is accepted as this tree.
+pub record IsBook (s : List ℕ) : Type 0 where
+  pub tree : Book
+  pub is : bookOf s ≡ done tree
 
 unfoldable pub preparing : List ℕ → ℕ → Result (List ℕ)
 preparing book n = do

@@ -5,26 +5,50 @@ use layout::Refusal;
 use std::num::wrapping_sub_u64;
 ghost use mathlib.Core.Path.{_≡_};
 ghost use mathlib.Core.List.{[], _∷_};
-ghost use Prim.Native.Nat.{_+_, _*_, _/_, _≤_};
-ghost use lib.ListN.{length, take, drop, replicate};
+ghost use Prim.Native.Nat.{_+_, _*_, _/_, _<_, _≤_};
+ghost use lib.Dec.{leb};
+ghost use lib.ListN.{length, replicate};
 ghost use lib.Seq.{sets};
+ghost use Rattle.layout.specs.Result.{if_then_else_};
 ghost use Rattle.layout.specs.Octets.{wordsOf};
 ghost use Rattle.layout.specs.Types.{typeAt};
+ghost use Rattle.layout.specs.Book.{need as needOf, needAfter};
 ghost use Rattle.layout.specs.BookRules.{parseFields};
-ghost use Rattle.templates.specs.Lookup.{IsBook};
-ghost use Rattle.templates.specs.Positions.{IsBlock, IsRow, dataCount, fieldCount, groupCount, groupsAt, groupsFrom};
-ghost use Rattle.templates.specs.Positions.{shapeAt};
-ghost use Rattle.prepare.specs.Prepares.{Prepares};
-ghost use Rattle.prepare.specs.Templates.{AreTemplates, IsBody, IsPreparable, IsTemplate, bookAt, sizeOf};
-ghost use Rattle.prepare.specs.Templates.{sizesOf, templateAt, templateOf, templatesAt, worked};
-ghost use Rattle.prepared.specs.Numbers.{blockOf, bodiesOf, contentsOf, groupsOf, groupsSize, preparedOf, rowOf};
-ghost use Rattle.prepared.specs.Numbers.{slotsOf, tableOf};
+ghost use Rattle.prepared.specs.Numbers.{groupsOf, preparedOf, sizesOf, tableOf};
+ghost use Rattle.prepare.specs.Prepares.{IsBook, Prepares};
+ghost use Rattle.prepare.specs.Positions.{BlockAt, IsRow, Opened, elementsAt, groupAt, groupSize, groupsFrom};
+ghost use Rattle.prepare.specs.Positions.{headAt, innerEnd, shapeAt, sizeAt, wordsFrom, worked};
+ghost use Rattle.prepare.specs.Templates.{AreTemplates, IsBody, IsPreparable, IsTemplate, bookAt};
+ghost use Rattle.prepare.specs.Templates.{laid, templateAt, templateSize, templatesAt};
+
+// Where a block with its groups ends: the word after them, and the place after their numbers.
+pub struct Ends {
+    pub word: usize,
+    pub at: usize,
+}
+
+// ---- one block, at word w
+
+// How many numbers it is, without its groups.
+fn size_block(body: &[u8], w: usize) -> usize
+    requires { ⌜ groupsFrom (now body) w ≤ length (now body) / 2 ⌝ }
+    ensures { λ r. ⌜ r ≡ sizeAt (now (body .entry)) w ⌝ }
+{
+    12 + 11 * book::word(body, w + 1) + 2 * book::word(body, w + 3)
+}
+
+// The word where its groups start.
+fn groups_from(body: &[u8], w: usize) -> usize
+    requires { ⌜ groupsFrom (now body) w ≤ length (now body) / 2 ⌝ }
+    ensures { λ r. ⌜ r ≡ groupsFrom (now (body .entry)) w ⌝ }
+{
+    w + 4 + 6 * book::word(body, w + 1) + 2 * book::word(body, w + 3)
+}
 
 // The n words from `from` on, as numbers.
 fn copy_words(body: &[u8], from: usize, n: usize, room: &mut [u64], start: usize)
     requires { ⌜ (from + n ≤ length (now body) / 2) × (start + n ≤ length (now room)) ⌝ }
-    ensures { λ _. ⌜ now (room .exit) ≡ sets (now (room .entry)) start (take n (drop from (wordsOf (now
-        (body .entry))))) ⌝ }
+    ensures { λ _. ⌜ now (room .exit) ≡ sets (now (room .entry)) start (wordsFrom (now (body .entry)) n from) ⌝ }
 {
     let mut left = n;
     let mut f = from;
@@ -50,24 +74,55 @@ fn put_worked(room: &mut [u64], at: usize, end: usize, t: usize)
     room[at + 4] = k.width as u64;
 }
 
-// The table of the n fields at word `from`.
-fn put_table(body: &[u8], from: usize, n: usize, room: &mut [u64], start: usize)
+// The need after a field with this end: its own, if it is present.
+fn need_after(since: usize, version: usize, end: usize, need: usize) -> usize
+    ensures { λ r. ⌜ r ≡ (if leb since version then end else need) ⌝ }
+{
+    if since <= version { end } else { need }
+}
+
+// The table of the n fields at word `from`; their need is the answer.
+fn put_table(
+    body: &[u8],
+    from: usize,
+    n: usize,
+    version: usize,
+    room: &mut [u64],
+    start: usize,
+) -> usize
     requires { ⌜ (from + 6 * n ≤ length (now body) / 2) × (start + 5 * n ≤ length (now room)) ⌝ }
+    ensures { λ r. ⌜ r ≡ needAfter version 0 (parseFields (wordsOf (now (body .entry))) n from) ⌝ }
     ensures { λ _. ⌜ now (room .exit) ≡ sets (now (room .entry)) start (tableOf (parseFields (wordsOf (now
         (body .entry))) n from)) ⌝ }
 {
     let mut left = n;
     let mut f = from;
     let mut at = start;
+    let mut need = 0;
     while 0 < left {
         let t = book::word(body, f + 1);
         let k = book::word(body, f + 2);
         let end = book::field_end(t, k, book::word(body, f + 3));
         put_worked(room, at, end, t);
+        need = need_after(book::word(body, f + 5), version, end, need);
         f = f + 6;
         at = at + 5;
         left = left - 1;
     }
+    need
+}
+
+// Its fields, its data and its fields' table, stored from `start` on; its need is the answer.
+fn put_elements(body: &[u8], w: usize, version: usize, room: &mut [u64], start: usize) -> usize
+    requires { ⌜ (groupsFrom (now body) w ≤ length (now body) / 2)
+        × (start + sizeAt (now body) w ≤ length (now room) + 12) ⌝ }
+    ensures { λ r. ⌜ r ≡ needOf version (shapeAt (now (body .entry)) w) ⌝ }
+    ensures { λ _. ⌜ now (room .exit) ≡ sets (now (room .entry)) start (elementsAt (now (body .entry)) w) ⌝ }
+{
+    let f = book::word(body, w + 1);
+    let n = 6 * f + 2 * book::word(body, w + 3);
+    copy_words(body, w + 4, n, room, start);
+    put_table(body, w + 4, f, version, room, start + n)
 }
 
 fn put_six(room: &mut [u64], at: usize, a: usize, b: usize, c: usize, d: usize, e: usize, f: usize)
@@ -82,55 +137,20 @@ fn put_six(room: &mut [u64], at: usize, a: usize, b: usize, c: usize, d: usize, 
     room[at + 5] = f as u64;
 }
 
-// How many numbers the block at word w is, without its groups.
-fn size_block(body: &[u8], w: usize) -> usize
-    requires { ⌜ IsBlock (wordsOf (now body)) w × (w + 4 ≤ length (now body) / 2) ⌝ }
-    ensures { λ r. ⌜ r ≡ 12 + 11 * fieldCount (wordsOf (now (body .entry))) w
-        + 2 * dataCount (wordsOf (now (body .entry))) w ⌝ }
-{
-    12 + 11 * book::word(body, w + 1) + 2 * book::word(body, w + 3)
-}
-
-// How many numbers the n groups at word `from` are.
-fn size_row(body: &[u8], from: usize, n: usize, depth: usize) -> usize
-    requires { ⌜ IsRow (wordsOf (now body)) depth n from
-        × (groupsSize (groupsAt (wordsOf (now body)) depth n from) ≤ 65535) ⌝ }
-    ensures { λ r. ⌜ r ≡ groupsSize (groupsAt (wordsOf (now (body .entry))) depth n from) ⌝ }
-{
-    let mut w = from;
-    let mut left = n;
-    let mut seen = 0;
-    while 0 < left {
-        blocks::open_row(body, w, left, depth);
-        let below = depth - 1;
-        let inner = blocks::groups_from(body, w + 2);
-        let g = book::word(body, w + 4);
-        let own = size_block(body, w + 2);
-        seen = seen + own + size_row(body, inner, g, below);
-        w = blocks::skip_row(body, inner, g, below);
-        left = left - 1;
-    }
-    seen
-}
-
-// The block at word w, without its groups, which are `size` numbers: stored from `at` on.
-fn put_block(
+// Its head, stored from `at` on, `next` being the place after its groups.
+fn put_head(
     body: &[u8],
     w: usize,
     id: usize,
     since: usize,
-    version: usize,
-    size: usize,
+    need: usize,
+    next: usize,
     room: &mut [u64],
     at: usize,
-) -> usize
-    requires { ⌜ IsBlock (wordsOf (now body)) w × (groupsFrom (wordsOf (now body)) w ≤ length (now body) / 2)
-        × (at + 12 + 11 * fieldCount (wordsOf (now body)) w + 2 * dataCount (wordsOf (now body)) w + size
-        ≤ length (now room)) ⌝ }
-    ensures { λ r. ⌜ r ≡ at + 12 + 11 * fieldCount (wordsOf (now (body .entry))) w
-        + 2 * dataCount (wordsOf (now (body .entry))) w ⌝ }
-    ensures { λ r. ⌜ now (room .exit) ≡ sets (now (room .entry)) at (blockOf version id since
-        (shapeAt (wordsOf (now (body .entry))) w) (groupCount (wordsOf (now (body .entry))) w) (r + size) at) ⌝ }
+)
+    requires { ⌜ (groupsFrom (now body) w ≤ length (now body) / 2) × (at + 12 ≤ length (now room)) ⌝ }
+    ensures { λ _. ⌜ now (room .exit) ≡ sets (now (room .entry)) at (headAt (now (body .entry)) w id since need
+        next at) ⌝ }
 {
     let l = book::word(body, w);
     let f = book::word(body, w + 1);
@@ -138,120 +158,108 @@ fn put_block(
     let d = book::word(body, w + 3);
     let datas = at + 12 + 6 * f;
     let table = datas + 2 * d;
-    let after = table + 5 * f;
     put_six(room, at, id, since, l, f, g, d);
-    let k = blocks::need(body, w, version);
-    put_six(room, at + 6, k, g + d, after + size, after, datas, table);
-    copy_words(body, w + 4, 6 * f + 2 * d, room, at + 12);
-    put_table(body, w + 4, f, room, table);
-    after
+    put_six(room, at + 6, need, g + d, next, table + 5 * f, datas, table);
 }
 
-// The n groups at word `from`, stored from `start` on.
-fn put_row(
+// Does nothing. Its contract is a law: what the first of the n groups at word w is good for.
+fn open_row(body: &[u8], w: usize, n: usize, depth: usize)
+    requires { ⌜ IsRow (now body) depth n w × (0 < n) ⌝ }
+    ensures { λ _. ⌜ Opened (now (body .entry)) depth n w ⌝ }
+{}
+
+// The block with its groups, stored from `at` on: its head last, when it is known where they end.
+fn put_group(
     body: &[u8],
-    from: usize,
-    n: usize,
+    w: usize,
+    id: usize,
+    since: usize,
     depth: usize,
     version: usize,
     room: &mut [u64],
-    start: usize,
-) -> usize
-    requires { ⌜ IsRow (wordsOf (now body)) depth n from
-        × (start + groupsSize (groupsAt (wordsOf (now body)) depth n from) ≤ 65535)
-        × (start + groupsSize (groupsAt (wordsOf (now body)) depth n from) ≤ length (now room)) ⌝ }
-    ensures { λ r. ⌜ r ≡ start + groupsSize (groupsAt (wordsOf (now (body .entry))) depth n from) ⌝ }
-    ensures { λ _. ⌜ now (room .exit) ≡ sets (now (room .entry)) start (groupsOf version (groupsAt (wordsOf (now
-        (body .entry))) depth n from) start) ⌝ }
+    at: usize,
+) -> Ends
+    requires { ⌜ BlockAt (now body) depth w
+        × (at + groupSize (now body) depth w ≤ length (now room)) ⌝ }
+    ensures { λ r. ⌜ (r .word ≡ innerEnd (now (body .entry)) depth w)
+        × (r .at ≡ at + groupSize (now (body .entry)) depth w) ⌝ }
+    ensures { λ _. ⌜ now (room .exit) ≡ sets (now (room .entry)) at (groupsOf version (groupAt (now (body .entry))
+        depth w id since) at) ⌝ }
 {
-    let mut w = from;
-    let mut left = n;
-    let mut at = start;
+    let need = put_elements(body, w, version, room, at + 12);
+    let mut to = at + size_block(body, w);
+    let mut x = groups_from(body, w);
+    let mut left = book::word(body, w + 2);
     while 0 < left {
-        blocks::open_row(body, w, left, depth);
-        let below = depth - 1;
-        let inner = blocks::groups_from(body, w + 2);
-        let g = book::word(body, w + 4);
-        let size = size_row(body, inner, g, below);
-        let id = book::word(body, w);
-        let since = book::word(body, w + 1);
-        let x = put_block(body, w + 2, id, since, version, size, room, at);
-        at = put_row(body, inner, g, below, version, room, x);
-        w = blocks::skip_row(body, inner, g, below);
+        open_row(body, x, left, depth);
+        let i = book::word(body, x);
+        let s = book::word(body, x + 1);
+        let r = put_group(body, x + 2, i, s, depth - 1, version, room, to);
+        to = r.at;
+        x = r.word;
         left = left - 1;
     }
-    at
+    put_head(body, w, id, since, need, to, room, at);
+    Ends { word: x, at: to }
 }
 
 // ---- templates
 
-// How many numbers the template with this body is.
+// How many numbers the template with this body is: in a body blocks lie one after the other.
 fn size_body(body: &[u8]) -> usize
-    requires { ⌜ IsBody (wordsOf (now body)) ⌝ }
-    ensures { λ r. ⌜ r ≡ sizeOf (templateOf 0 (wordsOf (now (body .entry)))) ⌝ }
+    requires { ⌜ IsBody (now body) × (groupSize (now body) 4 0 ≤ 65535) ⌝ }
+    ensures { λ r. ⌜ r ≡ groupSize (now (body .entry)) 4 0 ⌝ }
 {
-    let inner = blocks::groups_from(body, 0);
-    let g = book::word(body, 2);
-    size_block(body, 0) + size_row(body, inner, g, 4)
+    let end = body.len() / 2;
+    let mut w = groups_from(body, 0);
+    let mut seen = size_block(body, 0);
+    while w < end {
+        seen = seen + size_block(body, w + 2);
+        w = groups_from(body, w + 2);
+    }
+    seen
 }
-
-// The template with this id and body, stored from `at` on.
-fn put_body(body: &[u8], id: usize, version: usize, room: &mut [u64], at: usize) -> usize
-    requires { ⌜ IsBody (wordsOf (now body))
-        × (at + sizeOf (templateOf 0 (wordsOf (now body))) ≤ 65535)
-        × (at + sizeOf (templateOf 0 (wordsOf (now body))) ≤ length (now room)) ⌝ }
-    ensures { λ r. ⌜ r ≡ at + sizeOf (templateOf 0 (wordsOf (now (body .entry)))) ⌝ }
-    ensures { λ _. ⌜ now (room .exit) ≡ sets (now (room .entry)) at (groupsOf version (rowOf (templateOf id
-        (wordsOf (now (body .entry))))) at) ⌝ }
-{
-    let inner = blocks::groups_from(body, 0);
-    let g = book::word(body, 2);
-    let size = size_row(body, inner, g, 4);
-    let x = put_block(body, 0, id, 0, version, size, room, at);
-    put_row(body, inner, g, 4, version, room, x)
-}
-
-// How many numbers the template whose row of the contents is at word w is.
-fn size_template(book: &[u8], w: usize) -> usize
-    requires { ⌜ IsTemplate (now book) w ⌝ }
-    ensures { λ r. ⌜ r ≡ sizeOf (templateAt (wordsOf (now (book .entry))) w) ⌝ }
-{
-    let start = 2 * book::word(book, w + 1);
-    let end = start + 2 * book::word(book, w + 2);
-    size_body(&book[start..end])
-}
-
-// That template, stored from `at` on.
-fn put_template(book: &[u8], w: usize, version: usize, room: &mut [u64], at: usize) -> usize
-    requires { ⌜ IsTemplate (now book) w
-        × (at + sizeOf (templateAt (wordsOf (now book)) w) ≤ 65535)
-        × (at + sizeOf (templateAt (wordsOf (now book)) w) ≤ length (now room)) ⌝ }
-    ensures { λ r. ⌜ r ≡ at + sizeOf (templateAt (wordsOf (now (book .entry))) w) ⌝ }
-    ensures { λ _. ⌜ now (room .exit) ≡ sets (now (room .entry)) at (groupsOf version (rowOf (templateAt
-        (wordsOf (now (book .entry))) w)) at) ⌝ }
-{
-    let start = 2 * book::word(book, w + 1);
-    let end = start + 2 * book::word(book, w + 2);
-    let id = book::word(book, w);
-    put_body(&book[start..end], id, version, room, at)
-}
-
-// ---- the book
 
 // How many numbers all n templates are.
 fn size_templates(book: &[u8], n: usize) -> usize
-    requires { ⌜ AreTemplates (now book) n 4 × (sizesOf (templatesAt (wordsOf (now book)) n 4) ≤ 65535) ⌝ }
-    ensures { λ r. ⌜ r ≡ sizesOf (templatesAt (wordsOf (now (book .entry))) n 4) ⌝ }
+    requires { ⌜ AreTemplates (now book) n 4 × (sizesOf (templatesAt (now book) n 4) ≤ 65535) ⌝ }
+    ensures { λ r. ⌜ r ≡ sizesOf (templatesAt (now (book .entry)) n 4) ⌝ }
 {
     let mut left = n;
     let mut w = 4;
     let mut seen = 0;
     while 0 < left {
-        seen = seen + size_template(book, w);
+        let start = 2 * book::word(book, w + 1);
+        let end = start + 2 * book::word(book, w + 2);
+        seen = seen + size_body(&book[start..end]);
         w = w + 3;
         left = left - 1;
     }
     seen
+}
+
+// The template whose row of the contents is at word w: its row stored at c, its slot, and its block from `at` on.
+fn put_template(
+    book: &[u8],
+    w: usize,
+    version: usize,
+    room: &mut [u64],
+    c: usize,
+    at: usize,
+) -> usize
+    requires { ⌜ IsTemplate (now book) w × (67 ≤ c) × (c + 2 ≤ at)
+        × (at + templateSize (now book) w ≤ length (now room)) ⌝ }
+    ensures { λ r. ⌜ r ≡ at + templateSize (now (book .entry)) w ⌝ }
+    ensures { λ _. ⌜ now (room .exit) ≡ laid version (templateAt (now (book .entry)) w) c at (now (room .entry)) ⌝ }
+{
+    let id = book::word(book, w);
+    let start = 2 * book::word(book, w + 1);
+    let end = start + 2 * book::word(book, w + 2);
+    room[3 + id % 64] = at as u64;
+    room[c] = id as u64;
+    room[c + 1] = at as u64;
+    let r = put_group(&book[start..end], 0, id, 0, 4, version, room, at);
+    r.at
 }
 
 fn put_zeros(room: &mut [u64], start: usize, n: usize)
@@ -267,80 +275,26 @@ fn put_zeros(room: &mut [u64], start: usize, n: usize)
     }
 }
 
-// The slots of n templates, the first of which stands at `first`.
-fn put_slots(book: &[u8], n: usize, room: &mut [u64], first: usize)
-    requires { ⌜ AreTemplates (now book) n 4 × (67 ≤ length (now room))
-        × (first + sizesOf (templatesAt (wordsOf (now book)) n 4) ≤ 65535) ⌝ }
-    ensures { λ _. ⌜ now (room .exit) ≡ sets (now (room .entry)) 3 (slotsOf (templatesAt (wordsOf (now
-        (book .entry))) n 4) first (replicate 64 0)) ⌝ }
+// All numbers of a book with n templates.
+fn put_book(book: &[u8], n: usize, room: &mut [u64])
+    requires { ⌜ IsPreparable (now book) n × (67 + 2 * n + sizesOf (templatesAt (now book) n 4) ≤ length (now room)) ⌝ }
+    ensures { λ _. ⌜ now (room .exit) ≡ sets (now (room .entry)) 0 (preparedOf (bookAt (now (book .entry)))) ⌝ }
 {
+    let version = book::word(book, 1);
+    room[0] = book::word(book, 0) as u64;
+    room[1] = version as u64;
+    room[2] = n as u64;
     put_zeros(room, 3, 64);
     let mut left = n;
     let mut w = 4;
-    let mut at = first;
-    while 0 < left {
-        let id = book::word(book, w);
-        room[3 + id % 64] = at as u64;
-        at = at + size_template(book, w);
-        w = w + 3;
-        left = left - 1;
-    }
-}
-
-// Their contents.
-fn put_contents(book: &[u8], n: usize, room: &mut [u64], first: usize)
-    requires { ⌜ AreTemplates (now book) n 4 × (67 + 2 * n ≤ length (now room))
-        × (first + sizesOf (templatesAt (wordsOf (now book)) n 4) ≤ 65535) ⌝ }
-    ensures { λ _. ⌜ now (room .exit) ≡ sets (now (room .entry)) 67 (contentsOf (templatesAt (wordsOf (now
-        (book .entry))) n 4) first) ⌝ }
-{
-    let mut left = n;
-    let mut w = 4;
-    let mut at = first;
     let mut c = 67;
+    let mut at = 67 + 2 * n;
     while 0 < left {
-        room[c] = book::word(book, w) as u64;
-        room[c + 1] = at as u64;
-        at = at + size_template(book, w);
+        at = put_template(book, w, version, room, c, at);
         c = c + 2;
         w = w + 3;
         left = left - 1;
     }
-}
-
-// Their blocks.
-fn put_bodies(book: &[u8], n: usize, version: usize, room: &mut [u64], first: usize)
-    requires { ⌜ AreTemplates (now book) n 4
-        × (first + sizesOf (templatesAt (wordsOf (now book)) n 4) ≤ 65535)
-        × (first + sizesOf (templatesAt (wordsOf (now book)) n 4) ≤ length (now room)) ⌝ }
-    ensures { λ _. ⌜ now (room .exit) ≡ sets (now (room .entry)) first (bodiesOf version (templatesAt (wordsOf (now
-        (book .entry))) n 4) first) ⌝ }
-{
-    let mut left = n;
-    let mut w = 4;
-    let mut at = first;
-    while 0 < left {
-        at = put_template(book, w, version, room, at);
-        w = w + 3;
-        left = left - 1;
-    }
-}
-
-// All numbers of a book with n templates.
-fn put_book(book: &[u8], n: usize, room: &mut [u64])
-    requires { ⌜ IsPreparable (now book) n × (67 + 2 * n + sizesOf (templatesAt (wordsOf (now book)) n 4)
-        ≤ length (now room)) ⌝ }
-    ensures { λ _. ⌜ now (room .exit) ≡ sets (now (room .entry)) 0 (preparedOf (bookAt (wordsOf (now
-        (book .entry))))) ⌝ }
-{
-    let version = book::word(book, 1);
-    let first = 67 + 2 * n;
-    room[0] = book::word(book, 0) as u64;
-    room[1] = version as u64;
-    room[2] = n as u64;
-    put_slots(book, n, room, first);
-    put_contents(book, n, room, first);
-    put_bodies(book, n, version, room, first);
 }
 
 // Prepares an accepted book: the number of numbers, which are stored from the room's start. If there is no room for

@@ -1,11 +1,11 @@
 -- An accepted book fits.
 use mathlib.Core.Path.{_∙_, _≡_, ap, refl, subst}
 use mathlib.Core.Bool.{Bool, true}
-use mathlib.Core.List.{List, [], _∷_, _++_}
+use mathlib.Core.List.{List, [], _∷_}
 use Prim.Native.Nat.{ℕ, zero, suc, _+_, _*_, _≤_}
 use native.Mathlib.Nat.{le-refl}
 use native.Mathlib.Omega.{arith}
-use lib.ListN.{drop, length, length-append, length-take, replicate, take}
+use lib.ListN.{drop, length, length-take, take}
 use borrow.Author.Tests.{eqb-true, le-leb, leb-true, ltb-true}
 use Rattle.layout.specs.Result.{Each, _and_, done}
 use Rattle.layout.specs.Octets.{wordsOf}
@@ -15,10 +15,9 @@ use Rattle.layout.specs.BookRules.{layoutGood, parseBodies, parseBody, parseCon
 use Rattle.layout.specs.BookRules.{parseGroups, parseShape, rising, shapeGood, shapeSince, sinceGood, word}
 use Rattle.layout.proofs.Results.{and-left, and-right, done-inj, inv-bind, inv-must, inv-refusal}
 use Rattle.book.proofs.Words.{length-words}
-use Rattle.prepared.specs.Numbers.{blockSize, bodiesOf, contentsOf, count, groupsOf, groupsSize, preparedOf}
-use Rattle.prepared.specs.Numbers.{rowOf, slots, slotsOf}
+use Rattle.prepared.specs.Numbers.{blockSize, count, groupsSize, sizesOf}
 use Rattle.prepared.specs.Fits.{FitTemplates, Fits, FitsBook, FitsShape}
-use Rattle.prepared.proofs.Prepared.{length-contents, length-groups, length-slots, rising-up}
+use Rattle.prepared.proofs.Prepared.{length-numbers, rising-up}
 
 -- ---- rule 6
 
@@ -37,12 +36,12 @@ fields-rise version low high (s ∷ ss) h g =
 
 -- ---- a block
 
-fields-length : (b : List ℕ) (n w : ℕ) → length (parseFields b n w) ≡ n
+pub fields-length : (b : List ℕ) (n w : ℕ) → length (parseFields b n w) ≡ n
 unfolding parseFields
 fields-length b zero w = refl
 fields-length b (suc n) w = ap suc (fields-length b n (w + 6))
 
-datas-length : (b : List ℕ) (n w : ℕ) → length (parseDatas b n w) ≡ n
+pub datas-length : (b : List ℕ) (n w : ℕ) → length (parseDatas b n w) ≡ n
 unfolding parseDatas
 datas-length b zero w = refl
 datas-length b (suc n) w = ap suc (datas-length b n (w + 2))
@@ -185,7 +184,7 @@ each-good f n k (x ∷ xs) u e =
 record TemplatesFit (version low at total : ℕ) (rows : List ContentsRow) (ts : List Template) : Type 0 where
   fits : FitTemplates version low ts
   counted : length ts ≡ length rows
-  size : (x : ℕ) → 2 * at + length (bodiesOf version ts x) ≤ 2 * total + 4 * length ts
+  size : 2 * at + sizesOf ts ≤ 2 * total + 4 * length ts
 
 short-take : (n : ℕ) (xs : List ℕ) → length (take n xs) ≤ n
 short-take n xs = rw length-take (omega arith)
@@ -193,10 +192,10 @@ short-take n xs = rw length-take (omega arith)
 bodies-fit : (b : List ℕ) (version total low at n : ℕ) (rows : List ContentsRow) (ts : List Template)
     → contentsGood total low at rows ≡ true → parseBodies b n rows ≡ done ts → Each (λ t. layoutGood t ≡ true) ts
     → Each (λ t. sinceGood version t ≡ true) ts → TemplatesFit version low at total rows ts
-unfolding contentsGood parseBodies Each FitTemplates bodiesOf
+unfolding contentsGood parseBodies Each FitTemplates sizesOf
 bodies-fit b version total low at n [] ts c e = λ l g.
     subst (TemplatesFit version low at total []) (done-inj e)
-    (record { fits = tt; counted = refl; size = λ x. omega (arith, eqb-true at total c) })
+    (record { fits = tt; counted = refl; size = omega (arith, eqb-true at total c) })
 bodies-fit b version total low at n (r ∷ rs) ts c e =
     let p = inv-bind _ _ _ e in
     let q = inv-bind _ _ _ (p .next) in
@@ -208,45 +207,16 @@ bodies-fit b version total low at n (r ∷ rs) ts c e =
     let body = body-fits _ version (r .id) (p .value) (inv-refusal _ _ _ _ (p .first)) (l .0) (g .0) in
     let rest = bodies-fit b version total (suc (r .id)) (at + r .words) (suc n) rs (q .value) (and-right _ _ c₂)
     (q .first) (l .1) (g .1) in
-    let t : Template = record { id = r .id; shape = p .value .0; groups = p .value .1 } in
     record {
       fits = (leb-true _ _ (and-left _ _ c), ltb-true _ _ (and-left _ _ c₁), body .fits, rest .fits);
       counted = ap suc (rest .counted);
-      size = λ x.
-          let y = x + groupsSize (rowOf t) in
-          omega (
-            arith,
-            length-append (groupsOf version (rowOf t) x) (bodiesOf version (q .value) y),
-            length-groups version (rowOf t) x,
-            body .size,
-            short-take (r .words) (drop (r .first) b),
-            rest .size y,
-          );
+      size = omega (arith, body .size, short-take (r .words) (drop (r .first) b), rest .size);
     })
 
 contents-length : (b : List ℕ) (n w : ℕ) → length (parseContents b n w) ≡ n
 unfolding parseContents
 contents-length b zero w = refl
 contents-length b (suc n) w = ap suc (contents-length b n (w + 3))
-
--- Twice the words of the book and 67 numbers are enough.
-prepared-short : (b : Book) (total : ℕ) → total ≤ 4096
-    → ((x : ℕ) → 2 * (4 + 3 * length (b .templates)) + length (bodiesOf (b .version) (b .templates) x)
-    ≤ 2 * total + 4 * length (b .templates))
-    → length (preparedOf b) ≤ 8259
-unfolding preparedOf
-prepared-short b total h size =
-    let ts = b .templates in
-    let from = 67 + 2 * length ts in
-    let bodies = bodiesOf (b .version) ts from in
-    omega (
-      arith,
-      length-append (slotsOf ts from (replicate slots 0)) (contentsOf ts from ++ bodies),
-      length-append (contentsOf ts from) bodies,
-      length-slots ts from (replicate slots 0),
-      length-contents ts from,
-      size from,
-    )
 
 pub accepted-fits : (octets : List ℕ) (b : Book) → bookOf octets ≡ done b → FitsBook b
 unfolding bookOf
@@ -274,6 +244,10 @@ accepted-fits octets b e =
       version = ltb-true _ _ (and-left _ _ h₁);
       few = omega (arith, leb-true n 64 (and-left _ _ h₃));
       templates = fit .fits;
-      short =
-          prepared-short _ (length ws) (omega (arith, length-words octets)) (rw counted (rw counted at (fit .size)));
+      short = omega (
+        arith,
+        length-numbers (record { schema = word ws 0; version = version; templates = ts }),
+        fit .size,
+        length-words octets,
+      );
     })

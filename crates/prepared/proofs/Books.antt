@@ -11,11 +11,13 @@ use Rattle.layout.proofs.Stands.{Stands, all-stands, split-to}
 use Rattle.prepared.specs.Numbers.{bodiesOf, contentsOf, groupsOf, groupsSize, preparedOf, rowOf, slots}
 use Rattle.prepared.specs.Numbers.{slotsOf}
 use Rattle.prepared.specs.Positions.{BlockAt, innerAt, shapeAt, versionAt}
-use Rattle.prepared.specs.Books.{HoldsBook, IsPrepared, IsSlot, bookAt, empty, leads, templateAt, templatesAt}
+use Rattle.prepared.specs.Books.{HoldsBook, IsPrepared, IsSlot, bookAt, empty, idOf, leads, templateAt}
+use Rattle.prepared.specs.Books.{templatesAt}
 use Rattle.prepared.specs.Fits.{FitTemplates, Fits, FitsBook}
 use Rattle.prepared.proofs.Open.{open-row}
 use Rattle.prepared.proofs.Accepted.{accepted-fits}
-use Rattle.prepared.proofs.Prepared.{length-contents, length-groups, length-slots, number-at, row-stands}
+use Rattle.prepared.proofs.Prepared.{first-at, length-contents, length-groups, length-slots, number-at, rises}
+use Rattle.prepared.proofs.Prepared.{row-stands}
 use Rattle.prepared.proofs.Rows.{shifted, unshifted}
 
 -- ---- slots
@@ -54,27 +56,16 @@ module _ (P : ℕ → Type 0) where
 
 -- ---- ids
 
-module _ (p : List ℕ) (version : ℕ) where
-  ids-above : (ts : List Template) (low w to at : ℕ) → FitTemplates version low ts → Stands p w (contentsOf ts at) to
-      → (i : ℕ) → i < length ts → low ≤ word p (w + 2 * i)
-  unfolding FitTemplates contentsOf
-  ids-above [] low w to at f c i h = absurd (omega arith)
-  ids-above (t ∷ ts) low w to at f c zero h = rw (number-at c 0 (omega arith)) (f .0)
-  ids-above (t ∷ ts) low w to at f c (suc i) h =
-      let above = ids-above ts (suc (t .id)) (w + 2) to _ (f .3) (contents-on t ts at c) i (omega arith) in
-      rw (shifted w i) (omega (arith, f .0))
-
-  ids-rise : (ts : List Template) (low w to at : ℕ) → FitTemplates version low ts → Stands p w (contentsOf ts at) to
-      → (i j : ℕ) → i < j → j < length ts → word p (w + 2 * i) < word p (w + 2 * j)
-  unfolding FitTemplates contentsOf
-  ids-rise [] low w to at f c i j h k = absurd (omega arith)
-  ids-rise (t ∷ ts) low w to at f c i zero h k = absurd (omega arith)
-  ids-rise (t ∷ ts) low w to at f c zero (suc j) h k =
-      rw (number-at c 0 (omega arith), shifted w j)
-      (ids-above ts (suc (t .id)) (w + 2) to _ (f .3) (contents-on t ts at c) j (omega arith))
-  ids-rise (t ∷ ts) low w to at f c (suc i) (suc j) h k =
-      rw (shifted w i, shifted w j)
-      (ids-rise ts (suc (t .id)) (w + 2) to _ (f .3) (contents-on t ts at c) i j (omega arith) (omega arith))
+ids-next : (p : List ℕ) (version : ℕ) (ts : List Template) (low w to at : ℕ) → FitTemplates version low ts
+    → Stands p w (contentsOf ts at) to → (i : ℕ) → suc i < length ts → word p (w + 2 * i) < word p (w + 2 * suc i)
+unfolding FitTemplates contentsOf
+ids-next p version [] low w to at f c i h = absurd (omega arith)
+ids-next p version (t ∷ []) low w to at f c zero h = absurd (omega arith)
+ids-next p version (t ∷ u ∷ ts) low w to at f c zero h =
+    rw (number-at c 0 (omega arith), number-at c 2 (omega arith)) (f .3 .0)
+ids-next p version (t ∷ ts) low w to at f c (suc i) h =
+    rw (shifted w i, shifted w (suc i))
+    (ids-next p version ts (suc (t .id)) (w + 2) to _ (f .3) (contents-on t ts at c) i (omega arith))
 
 -- ---- templates
 
@@ -115,8 +106,7 @@ module _ (p : List ℕ) (short : length p ≤ 65535) where
   templates-stand [] low w to at end f c b = (λ i h. absurd (omega arith), refl)
   templates-stand (t ∷ ts) low w to at end f c b =
       let next = at + groupsSize (rowOf t) in
-      let zero-is : w + 0 ≡ w = omega arith in
-      let id-is = rw zero-is at (number-at c 0 (omega arith)) in
+      let id-is = first-at c in
       let place-is = number-at c 1 (omega arith) in
       let o = split-to (groupsOf (versionAt p) (rowOf t) at) (bodiesOf (versionAt p) ts next) next
       (omega (arith, length-groups (versionAt p) (rowOf t) at)) b in
@@ -167,7 +157,14 @@ book-stands p b e f =
         few = rw n (f .few);
         templates = λ i k. let row = t .0 i (rw n at k) in
             record { block = row .block; id = row .id; less = row .less };
-        rising = λ i j k l. ids-rise p _ ts 0 67 from from (f .templates) (c .0) i j k (rw n at l);
+        rising = λ i j k l.
+            let next = ids-next p _ ts 0 67 from from (f .templates) (c .0) in
+            let l′ = rw n at l in
+            omega (
+              arith,
+              next i (omega arith),
+              rises (idOf p) (length ts) (λ i k. omega (arith, next i k)) (suc i) j k l′,
+            );
         slot = λ j k.
             subst (IsSlot p) (sym (number-at (s .0) j (omega (arith, length-slots ts from (replicate slots 0)))))
             (slots-hold (IsSlot p) p ts 67 from from (replicate slots 0) (c .0) (λ i k. leads i (rw n k) refl)

@@ -3,6 +3,7 @@ use mathlib.Core.Path.{_≡_, refl}
 use mathlib.Core.List.{List}
 use Prim.Native.Nat.{ℕ, zero, suc, _+_, _-_, _≤_, _<_}
 use native.Mathlib.Omega.{arith}
+use lib.ListN.{length}
 use borrow.Author.Tests.{le-leb}
 use Rattle.layout.specs.Result.{if_then_else_}
 use Rattle.layout.specs.Book.{groupSinces, none, present}
@@ -30,6 +31,14 @@ open-row p (suc depth) (suc n) a h row =
       rest = rw k (row .2);
       tree = rw (d, k) refl;
     }
+
+-- A row of n groups is a tree of so many.
+pub length-row : (p : List ℕ) (depth n a : ℕ) → IsRow p depth n a → length (groupSinces (groupsAt p depth n a)) ≡ n
+unfolding IsRow groupsAt groupSinces
+length-row p zero zero a row = refl
+length-row p (suc depth) zero a row = refl
+length-row p zero (suc n) a row = absurd row
+length-row p (suc depth) (suc n) a row = rw (length-row p (suc depth) n _ (row .2)) refl
 
 -- At the book's version and later all groups are present.
 pub groups-here : (p : List ℕ) (v depth n a : ℕ) → versionAt p ≤ v → IsRow p depth n a

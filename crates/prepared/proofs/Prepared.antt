@@ -2,21 +2,21 @@
 use mathlib.Core.Path.{_≡_, refl, subst, sym, ap, _∙_}
 use mathlib.Core.Bool.{true}
 use mathlib.Core.List.{List, [], _∷_, _++_}
-use Prim.Native.Nat.{ℕ, zero, suc, _+_, _*_, _%_, _≤_, _<_}
-use native.Mathlib.Nat.{le-refl}
+use Prim.Native.Nat.{ℕ, zero, suc, _+_, _-_, _*_, _≤_, _<_}
+use native.Mathlib.Nat.{add-suc, add-zero, le-refl}
 use native.Mathlib.Omega.{arith}
 use lib.ListN.{getD, length, length-append, length-map, length-set}
 use lib.Seq.{getD-drop, getD-take}
 use borrow.Author.Tests.{le-leb, leb-true}
 use Rattle.layout.specs.Result.{Each, if_then_else_}
-use Rattle.layout.specs.Book.{Data, Field, Groups, Shape, dataSinces, end, fieldSinces, groupSinces, more, need}
+use Rattle.layout.specs.Book.{Book, Data, Field, Groups, Shape, dataSinces, end, fieldSinces, groupSinces, more, need}
 use Rattle.layout.specs.Book.{Template, needAfter, none, present}
 use Rattle.layout.specs.BookRules.{fieldAt, parseDatas, parseFields, rising, shapeGood, word}
 use Rattle.layout.proofs.Present.{present-up}
 use Rattle.layout.proofs.Results.{and-left, and-right}
 use Rattle.layout.proofs.Stands.{Stands, split-to}
 use Rattle.prepared.specs.Numbers.{blockOf, blockSize, contentsOf, count, datasOf, fieldsOf, groupsOf, groupsSize}
-use Rattle.prepared.specs.Numbers.{rowOf, slots, slotsOf, tableOf}
+use Rattle.prepared.specs.Numbers.{bodiesOf, preparedOf, rowOf, sizesOf, slots, slotsOf, tableOf}
 use Rattle.prepared.specs.Positions.{Derived, IsBlock, IsRow, groupsAt, shapeAt, versionAt}
 use Rattle.prepared.specs.Fits.{Fits, FitsShape}
 
@@ -28,10 +28,22 @@ number-at {m} {at} {to} {xs} s i h =
     let e = ap (λ (l : List ℕ). getD l i 0) (s .whole) in
     rw (getD-take, getD-drop) at e
 
+pub first-at : {m : List ℕ} {at to x : ℕ} {xs : List ℕ} → Stands m at (x ∷ xs) to → word m at ≡ x
+first-at s = rw add-zero at (number-at s 0 (omega arith))
+
 -- The first k of them, and the rest.
 past : {m : List ℕ} {at to : ℕ} (ys xs : List ℕ) (k : ℕ) → k ≡ length ys → Stands m at (ys ++ xs) to
     → Stands m (at + k) xs to
 past {m} {at} ys xs k e s = split-to ys xs (at + k) (omega arith) s .1
+
+-- Numbers that fall at no step never fall.
+module _ (f : ℕ → ℕ) (n : ℕ) (step : (i : ℕ) → suc i < n → f i ≤ f (suc i)) where
+  rise-by : (i k : ℕ) → i + k < n → f i ≤ f (i + k)
+  rise-by i zero h = rw add-zero (le-refl _)
+  rise-by i (suc k) h = rw add-suc (omega (arith, rise-by i k (omega arith), step (i + k) (omega arith)))
+
+  pub rises : (i j : ℕ) → i ≤ j → j < n → f i ≤ f j
+  rises i j h k = let q : i + (j - i) ≡ j = omega arith in rw q at (rise-by i (j - i) (omega arith))
 
 -- ---- lengths
 
@@ -45,7 +57,7 @@ unfolding datasOf
 length-datas [] = refl
 length-datas (d ∷ ds) = omega (arith, length-datas ds)
 
-length-table : (fs : List Field) → length (tableOf fs) ≡ 5 * length fs
+pub length-table : (fs : List Field) → length (tableOf fs) ≡ 5 * length fs
 unfolding tableOf
 length-table [] = refl
 length-table (f ∷ fs) = omega (arith, length-table fs)
@@ -53,14 +65,7 @@ length-table (f ∷ fs) = omega (arith, length-table fs)
 pub length-block : (version i since : ℕ) (s : Shape) (g next at : ℕ)
     → length (blockOf version i since s g next at) ≡ blockSize s
 length-block version i since s g next at =
-    omega (
-      arith,
-      length-append (fieldsOf (s .fields)) (datasOf (s .datas) ++ tableOf (s .fields)),
-      length-append (datasOf (s .datas)) (tableOf (s .fields)),
-      length-fields (s .fields),
-      length-datas (s .datas),
-      length-table (s .fields),
-    )
+    simp (length-append, length-fields, length-datas, length-table) (omega arith)
 
 pub length-groups : (version : ℕ) (gs : Groups) (at : ℕ) → length (groupsOf version gs at) ≡ groupsSize gs
 unfolding groupsOf groupsSize
@@ -69,24 +74,32 @@ length-groups version (more i since s inner rest) at =
     let x = at + blockSize s in
     let y = x + groupsSize inner in
     let b = blockOf version i since s (count inner) y at in
-    omega (
+    rw (length-append b, length-append (groupsOf version inner x)) (omega (
       arith,
-      length-append b (groupsOf version inner x ++ groupsOf version rest y),
-      length-append (groupsOf version inner x) (groupsOf version rest y),
       length-block version i since s (count inner) y at,
       length-groups version inner x,
       length-groups version rest y,
-    )
+    ))
 
 pub length-slots : (ts : List Template) (at : ℕ) (ss : List ℕ) → length (slotsOf ts at ss) ≡ length ss
 unfolding slotsOf
 length-slots [] at ss = refl
-length-slots (t ∷ ts) at ss = length-slots ts _ _ ∙ length-set ss (t .id % slots) at
+length-slots (t ∷ ts) at ss = length-slots ts _ _ ∙ simp length-set
 
 pub length-contents : (ts : List Template) (at : ℕ) → length (contentsOf ts at) ≡ 2 * length ts
 unfolding contentsOf
 length-contents [] at = refl
 length-contents (t ∷ ts) at = omega (arith, length-contents ts (at + groupsSize (rowOf t)))
+
+length-bodies : (version : ℕ) (ts : List Template) (at : ℕ) → length (bodiesOf version ts at) ≡ sizesOf ts
+unfolding bodiesOf sizesOf
+length-bodies version [] at = refl
+length-bodies version (t ∷ ts) at =
+    simp (length-append, length-groups version (rowOf t) at, length-bodies version ts)
+
+pub length-numbers : (b : Book) → length (preparedOf b) ≡ 67 + 2 * length (b .templates) + sizesOf (b .templates)
+unfolding preparedOf
+length-numbers b = simp (length-append, length-slots, length-contents, length-bodies) (omega arith)
 
 -- ---- fields and data
 
@@ -94,19 +107,17 @@ module _ (p : List ℕ) where
   field-stands : (f : Field) (xs : List ℕ) (at to : ℕ)
       → Stands p at (f .id ∷ f .type ∷ f .length ∷ f .offset ∷ f .presence ∷ f .since ∷ xs) to
       → (fieldAt p at ≡ f) × Stands p (at + 6) xs to
-  field-stands f xs at to s =
-      let zero-is : at + 0 ≡ at = omega arith in
-      let e0 = rw zero-is at (number-at s 0 (omega arith)) in (
-        rw (
-          e0,
-          number-at s 1 (omega arith),
-          number-at s 2 (omega arith),
-          number-at s 3 (omega arith),
-          number-at s 4 (omega arith),
-          number-at s 5 (omega arith),
-        ) refl,
-        past (f .id ∷ f .type ∷ f .length ∷ f .offset ∷ f .presence ∷ f .since ∷ []) xs 6 refl s,
-      )
+  field-stands f xs at to s = (
+    rw (
+      first-at s,
+      number-at s 1 (omega arith),
+      number-at s 2 (omega arith),
+      number-at s 3 (omega arith),
+      number-at s 4 (omega arith),
+      number-at s 5 (omega arith),
+    ) refl,
+    past (f .id ∷ f .type ∷ f .length ∷ f .offset ∷ f .presence ∷ f .since ∷ []) xs 6 refl s,
+  )
 
   pub fields-stand : (fs : List Field) (at to : ℕ) → Stands p at (fieldsOf fs) to → parseFields p (length fs) at ≡ fs
   unfolding fieldsOf parseFields
@@ -119,23 +130,20 @@ module _ (p : List ℕ) where
   unfolding datasOf parseDatas
   datas-stand [] at to s = refl
   datas-stand (d ∷ ds) at to s =
-      let zero-is : at + 0 ≡ at = omega arith in
-      let e0 = rw zero-is at (number-at s 0 (omega arith)) in
       let e1 = number-at s 1 (omega arith) in
-      rw (e0, e1, datas-stand ds (at + 2) to (past (d .id ∷ d .since ∷ []) (datasOf ds) 2 refl s)) refl
+      rw (first-at s, e1, datas-stand ds (at + 2) to (past (d .id ∷ d .since ∷ []) (datasOf ds) 2 refl s)) refl
 
   -- The table stands beside the fields.
   first-derived : (f : Field) (at x y : ℕ) (xs : List ℕ) → fieldAt p at ≡ f
       → Stands p x (tableOf (f ∷ []) ++ xs) y → Derived p (x + 5 * 0) (fieldAt p (at + 6 * 0))
   unfolding tableOf
   first-derived f at x y xs is s =
-      let zero-is : x + 0 ≡ x = omega arith in
       let q : x ≡ x + 5 * 0 = omega arith in
       let r : at ≡ at + 6 * 0 = omega arith in
       subst (λ (z : ℕ). Derived p z (fieldAt p (at + 6 * 0))) q (subst (λ (z : ℕ). Derived p x (fieldAt p z)) r
       (subst (λ (g : Field). Derived p x g) (sym is)
       (record {
-        end = rw zero-is at (number-at s 0 (omega arith));
+        end = first-at s;
         least = number-at s 1 (omega arith);
         spread = number-at s 2 (omega arith);
         null = number-at s 3 (omega arith);
@@ -165,38 +173,19 @@ rising-up v high low (s ∷ ss) h g =
     let r = and-right _ _ g in
     (omega (arith, leb-true s high (and-left _ _ r)), rising-up v high s ss h (and-right _ _ r))
 
--- The fields of which rule 6 holds: none is below `low`, and none falls.
-module _ (b : List ℕ) (high : ℕ) where
-  sinces-above : (n low w : ℕ) → rising high low (fieldSinces (parseFields b n w)) ≡ true → (i : ℕ) → i < n
-      → low ≤ word b (w + 6 * i + 5)
-  unfolding rising parseFields
-  sinces-above zero low w g i h = absurd (omega arith)
-  sinces-above (suc n) low w g zero h =
-      let q : w + 6 * 0 ≡ w = omega arith in
-      rw q (leb-true _ _ (and-left _ _ g))
-  sinces-above (suc n) low w g (suc i) h =
-      let q : w + 6 * suc i ≡ w + 6 + 6 * i = omega arith in
-      rw q (omega (
-        arith,
-        leb-true low (word b (w + 5)) (and-left _ _ g),
-        sinces-above n (word b (w + 5)) (w + 6) (and-right _ _ (and-right _ _ g)) i (omega arith),
-      ))
-
-  sinces-rise : (n low w : ℕ) → rising high low (fieldSinces (parseFields b n w)) ≡ true → (i j : ℕ) → i ≤ j → j < n
-      → word b (w + 6 * i + 5) ≤ word b (w + 6 * j + 5)
-  unfolding rising parseFields
-  sinces-rise zero low w g i j h k = absurd (omega arith)
-  sinces-rise (suc n) low w g zero zero h k = le-refl _
-  sinces-rise (suc n) low w g (suc i) zero h k = absurd (omega arith)
-  sinces-rise (suc n) low w g zero (suc j) h k =
-      let p : w + 6 * 0 ≡ w = omega arith in
-      let q : w + 6 * suc j ≡ w + 6 + 6 * j = omega arith in
-      rw (p, q) (sinces-above n (word b (w + 5)) (w + 6) (and-right _ _ (and-right _ _ g)) j (omega arith))
-  sinces-rise (suc n) low w g (suc i) (suc j) h k =
-      let p : w + 6 * suc i ≡ w + 6 + 6 * i = omega arith in
-      let q : w + 6 * suc j ≡ w + 6 + 6 * j = omega arith in
-      rw (p, q)
-      (sinces-rise n (word b (w + 5)) (w + 6) (and-right _ _ (and-right _ _ g)) i j (omega arith) (omega arith))
+-- Of the fields of which rule 6 holds none falls.
+sinces-next : (b : List ℕ) (high n low w : ℕ) → rising high low (fieldSinces (parseFields b n w)) ≡ true → (i : ℕ)
+    → suc i < n → word b (w + 6 * i + 5) ≤ word b (w + 6 * suc i + 5)
+unfolding rising parseFields
+sinces-next b high zero low w g i h = absurd (omega arith)
+sinces-next b high (suc zero) low w g zero h = absurd (omega arith)
+sinces-next b high (suc (suc n)) low w g zero h =
+    let q : w + 6 * 0 ≡ w = omega arith in
+    rw q (leb-true _ _ (and-left _ _ (and-right _ _ (and-right _ _ g))))
+sinces-next b high (suc n) low w g (suc i) h =
+    let q : (k : ℕ) → w + 6 * suc k ≡ w + 6 + 6 * k = λ k. omega arith in
+    rw (q i, q (suc i))
+    (sinces-next b high n (word b (w + 5)) (w + 6) (and-right _ _ (and-right _ _ g)) i (omega arith))
 
 -- At the book's version and later the need is one.
 need-up : (version v e : ℕ) (fs : List Field) → Each (λ since. since ≤ version) (fieldSinces fs) → version ≤ v
@@ -265,9 +254,9 @@ module _ (p : List ℕ) (short : length p ≤ 65535) (i since : ℕ) (s : Shape)
         tableFits = rw (head-is 11 (omega arith), head-is 3 (omega arith)) (omega (arith, datas-are .1 .fits));
         good = subst (λ (z : Shape). shapeGood z ≡ true) (sym shape-is) (fits .good);
         since = rw (head-is 1 (omega arith)) old;
-        rising = sinces-rise p (versionAt p) _ 0 (at + 12)
+        rising = rises (λ j. word p (at + 12 + 6 * j + 5)) _ (sinces-next p (versionAt p) _ 0 (at + 12)
             (subst (λ (z : Shape). rising (versionAt p) 0 (fieldSinces (z .fields)) ≡ true) (sym shape-is)
-            (fits .sinces));
+            (fits .sinces)));
         datasHere = λ v h.
             ap (λ (z : Shape). present v (dataSinces (z .datas))) shape-is
             ∙ present-up v (versionAt p) _ (fits .dataSince) h ∙ length-map (s .datas) (λ (d : Data). d .since)
@@ -308,8 +297,6 @@ row-stands p short (suc depth) at to (more i since sh inner rest) f s =
     let l = row-stands p short depth x y inner (f .2) (q .0) in
     let r = row-stands p short (suc depth) y to rest (f .3) (q .1) in
     let is = head-is p short i since sh inner y at (f .0) (f .1) (o .0) in
-    let zero-is : at + 0 ≡ at = omega arith in
-    let id-is = rw zero-is at (is 0 (omega arith)) in
     record {
       row = (
         block-is p short i since sh inner y at (f .0) (f .1) (o .0),
@@ -317,7 +304,7 @@ row-stands p short (suc depth) at to (more i since sh inner rest) f s =
         rw (is 8 (omega arith)) (r .row),
       );
       tree = rw (
-        id-is,
+        first-at (o .0),
         is 1 (omega arith),
         shape-is p short i since sh inner y at (f .0) (f .1) (o .0),
         is 4 (omega arith),

@@ -9,8 +9,8 @@ use Rattle.layout.specs.Book.{Book, Template}
 use Rattle.layout.specs.BookRules.{bookOf, word}
 use Rattle.prepared.specs.Numbers.{contentsFrom, preparedOf, slots, slotsFrom}
 use Rattle.prepared.specs.Positions.{BlockAt, innerAt, shapeAt}
-use Rattle.prepared.specs.declared.Place as Place
-use Rattle.prepared.specs.declared.Place.{Place}
+use Rattle.prepared.specs.declared.Located as Located
+use Rattle.prepared.specs.declared.Located.{Located}
 
 -- The prepared book of an accepted one.
 pub record IsPrepared (p : List ℕ) : Type 0 where
@@ -34,13 +34,13 @@ abbrev pub bookAt : List ℕ → Book
 bookAt p = record { schema = word p 0; version = word p 1; templates = templatesAt p (word p 2) contentsFrom }
 
 -- The place of the template with this id, among n rows of the contents from w on.
-unfoldable pub placeAmong : List ℕ → ℕ → ℕ → ℕ → Place
-placeAmong p id zero w = Place.the-variants.Unknown
-placeAmong p id (suc n) w =
-    if eqb (word p w) id then Place.the-variants.At (word p (w + 1)) else placeAmong p id n (w + 2)
+unfoldable pub locationAmong : List ℕ → ℕ → ℕ → ℕ → Located
+locationAmong p id zero w = Located.the-variants.Unknown
+locationAmong p id (suc n) w =
+    if eqb (word p w) id then Located.the-variants.At (word p (w + 1)) else locationAmong p id n (w + 2)
 
-abbrev pub placeOf : List ℕ → ℕ → Place
-placeOf p id = placeAmong p id (word p 2) contentsFrom
+abbrev pub locationOf : List ℕ → ℕ → Located
+locationOf p id = locationAmong p id (word p 2) contentsFrom
 
 -- Row i of the contents.
 module _ (p : List ℕ) (i : ℕ) where

@@ -69,6 +69,11 @@ unfoldable pub bodiesOf : ℕ → List Template → ℕ → List ℕ
 bodiesOf version [] at = []
 bodiesOf version (t ∷ ts) at = groupsOf version (rowOf t) at ++ bodiesOf version ts (at + groupsSize (rowOf t))
 
+-- How many numbers the blocks are.
+unfoldable pub sizesOf : List Template → ℕ
+sizesOf [] = 0
+sizesOf (t ∷ ts) = groupsSize (rowOf t) + sizesOf ts
+
 -- 64 slots: the place of the last template whose id leaves this remainder, or 0. A template that is not there is
 -- searched in the contents.
 abbrev pub slots : ℕ

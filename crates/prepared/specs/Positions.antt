@@ -1,5 +1,5 @@
--- Where the parts of a block stand among prepared numbers p, and the trees that they are: read back by position, so that
--- a contract can name the tree without holding it.
+-- Where the parts of a block stand among prepared numbers p, and the trees that they are: read back by position, so
+-- that a contract can name the tree without holding it.
 use mathlib.Core.Path.{_≡_}
 use mathlib.Core.Bool.{true}
 use mathlib.Core.List.{List}
@@ -108,3 +108,9 @@ pub record Opened (p : List ℕ) (depth n a : ℕ) : Type 0 where
   pub tree : groupsAt p depth n a
       ≡ more (word p a) (word p (a + 1)) (shapeAt p a) (innerAt p (depth - 1) a)
       (groupsAt p depth (n - 1) (nextFrom p a))
+
+-- A field stands at f, and what was worked out of it at t.
+pub record IsField (p : List ℕ) (f t : ℕ) : Type 0 where
+  pub fits : f + 6 ≤ length p
+  pub tableFits : t + 5 ≤ length p
+  pub derived : Derived p t (fieldAt p f)

@@ -6,7 +6,7 @@ ghost use Rattle.layout.specs.Book.{need as needOf};
 ghost use Rattle.layout.specs.BookRules.{word};
 ghost use Rattle.prepared.specs.Positions.{IsBlock, IsRow, Opened, shapeAt};
 ghost use Rattle.prepared.specs.Needs.{FieldsUpTo};
-ghost use Rattle.prepared.specs.Books.{HoldsBook, placeOf};
+ghost use Rattle.prepared.specs.Books.{HoldsBook, locationOf};
 
 // Where the slots start, and the contents; how many numbers are a block's head.
 const SLOTS: usize = 3;
@@ -16,7 +16,7 @@ const CONTENTS: usize = 67;
 const HEAD: usize = 12;
 
 // Where a template's block stands.
-pub enum Place {
+pub enum Located {
     At(usize),
     Unknown,
 }
@@ -87,9 +87,9 @@ pub fn need(p: &[u64], a: usize, v: usize) -> usize
 
 // The place of the template with this id, searched in the contents: ids rise, so half of the rows is passed at each
 // step.
-fn search(p: &[u64], id: usize) -> Place
+fn search(p: &[u64], id: usize) -> Located
     requires { ⌜ HoldsBook (now p) ⌝ }
-    ensures { λ r. ⌜ r ≡ placeOf (now (p .entry)) id ⌝ }
+    ensures { λ r. ⌜ r ≡ locationOf (now (p .entry)) id ⌝ }
 {
     let mut low = 0;
     let mut high = number(p, 2);
@@ -97,7 +97,7 @@ fn search(p: &[u64], id: usize) -> Place
         let mid = (low + high) / 2;
         let here = number(p, CONTENTS + 2 * mid);
         if here == id {
-            return Place::At(number(p, CONTENTS + 2 * mid + 1));
+            return Located::At(number(p, CONTENTS + 2 * mid + 1));
         }
         if here < id {
             low = mid + 1;
@@ -105,18 +105,18 @@ fn search(p: &[u64], id: usize) -> Place
             high = mid;
         }
     }
-    Place::Unknown
+    Located::Unknown
 }
 
 // The place of the template with this id: its slot mostly leads there.
-pub fn find(p: &[u64], id: usize) -> Place
+pub fn find(p: &[u64], id: usize) -> Located
     requires { ⌜ HoldsBook (now p) ⌝ }
-    ensures { λ r. ⌜ r ≡ placeOf (now (p .entry)) id ⌝ }
+    ensures { λ r. ⌜ r ≡ locationOf (now (p .entry)) id ⌝ }
 {
     let a = number(p, SLOTS + id % 64);
     if 0 < a {
         if number(p, a) == id {
-            return Place::At(a);
+            return Located::At(a);
         }
     }
     search(p, id)

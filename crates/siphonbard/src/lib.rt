@@ -4,17 +4,15 @@ use layout::Checked;
 use layout::Counted;
 use layout::Element;
 use layout::Found;
-use layout::Refusal;
 ghost use mathlib.Core.Path.{_≡_};
 ghost use Rattle.layout.specs.BookRules.{bookOf};
-ghost use Rattle.layout.specs.Contracts.{stepsOf};
 ghost use Rattle.layout.specs.Reading.{checkIn, checkOf, listIn, listOf};
 ghost use Rattle.layout.specs.Writing.{writeIn, writeOf};
 ghost use Rattle.prepare.specs.Prepares.{preparing};
 ghost use Rattle.prepared.specs.Books.{IsPrepared, bookAt};
 ghost use Rattle.siphonbard.specs.Replies.{sayChecked, sayCounted, sayFound};
-ghost use Rattle.siphonbard.specs.Replies.{replyChecked, replyCounted, replyFound, RepliesList, RepliesWrite};
-ghost use Rattle.siphonbard.specs.Places.{askedFor, placeAsked, placeAskedIn, SaysNoPlace};
+ghost use Rattle.siphonbard.specs.Replies.{replyChecked, replyFound, RepliesList, RepliesWrite};
+ghost use Rattle.siphonbard.specs.Places.{askedFor, placeTold, placeToldIn};
 
 // The number of a reply that refuses nothing.
 const ACCEPTED: u64 = 0;
@@ -122,19 +120,6 @@ fn ask_for(kind: u64, element: u64) -> Asked
     }
 }
 
-// A place of no kind: 30 after what the check refuses.
-fn no_place(answer: Checked) -> Found
-    ensures { λ r. ⌜ SaysNoPlace answer r ⌝ }
-{
-    match answer {
-        Checked::Accepted => Found::Refused(Refusal {
-            number: 30,
-            place: 0,
-        }),
-        Checked::Refused(refusal) => Found::Refused(refusal),
-    }
-}
-
 // ---- any octets whatever
 
 // Checks a book.
@@ -188,7 +173,7 @@ pub extern "C" fn siphonbard_place(
     kind: u64,
     element: u64,
 ) -> FoundReply
-    ensures { λ r. ⌜ r ≡ replyFound (placeAsked (now (book .entry)) (now (m .entry)) (stepsOf (now (steps .entry)))
+    ensures { λ r. ⌜ r ≡ replyFound (placeTold (now (book .entry)) (now (m .entry)) (now (steps .entry))
         (askedFor kind element)) ⌝ }
 {
     let mut numbers = [0u64; MOST];
@@ -250,11 +235,11 @@ pub extern "C" fn siphonbard_stream_place(
     element: u64,
 ) -> FoundReply
     requires { ⌜ IsPrepared (now p) ⌝ }
-    ensures { λ r. ⌜ r ≡ replyFound (placeAskedIn (bookAt (now (p .entry))) (now (m .entry)) (stepsOf (now
-        (steps .entry))) (askedFor kind element)) ⌝ }
+    ensures { λ r. ⌜ r ≡ replyFound (placeToldIn (bookAt (now (p .entry))) (now (m .entry)) (now
+        (steps .entry)) (askedFor kind element)) ⌝ }
 {
     let Asked::For(x) = ask_for(kind, element) else {
-        return say_found(no_place(stream::check(p, m)));
+        return say_found(stream::no_place(stream::check(p, m)));
     };
     say_found(stream::place(p, m, steps, x))
 }

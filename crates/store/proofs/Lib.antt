@@ -1,2 +1,2 @@
-pub mod Going
-pub mod Laws
+pub mod Parts
+pub mod Root

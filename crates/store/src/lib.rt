@@ -1,18 +1,18 @@
 // Stores the listing of a message that was walked before: it is accepted and the room has space, so nothing is refused.
-// Each function but `store_entries` has one caller.
+// Each function but `store_entries` and `store_answer` has one caller.
 use layout::Answer;
 use prepared::number;
 use wire::Walked;
 ghost use mathlib.Core.Path.{_≡_};
-ghost use Prim.Native.Nat.{_+_, _*_, _≤_};
+ghost use Prim.Native.Nat.{_+_, _≤_};
 ghost use lib.ListN.{length};
 ghost use Rattle.layout.specs.Result.{Each};
 ghost use Rattle.layout.specs.Book.{need};
-ghost use Rattle.layout.specs.BookRules.{parseDatas};
-ghost use Rattle.prepared.specs.Positions.{BlockAt, IsBlock, IsRow, groupsAt, innerAt, shapeAt};
+ghost use Rattle.layout.specs.Values.{recordOf};
+ghost use Rattle.prepared.specs.Positions.{BlockAt, IsBlock, innerAt, shapeAt};
 ghost use Rattle.fields.specs.Readable.{Fits};
 ghost use Rattle.walk.specs.Walks.{Lent};
-ghost use Rattle.store.specs.Prints.{Accepted, Room, Stored, endOf};
+ghost use Rattle.prints.specs.Prints.{Accepted, Printed, Room, Stored, endOf};
 ghost use Rattle.store.specs.Stores.{datasPrint, entriesPrint, fieldsPrint, groupsPrint, surplusPrint};
 
 // Where the pass stands in the message and in the room.
@@ -21,31 +21,43 @@ pub struct Cursor {
     pub n: usize,
 }
 
-// The fields of the block at a, which starts at `at`: the room is taken up to the number that comes back.
+// The record of an answer, after which the pass stands at `at`.
+fn store_answer(answer: Answer, at: usize, room: &mut [u64], n: usize) -> Cursor
+    requires { ⌜ Room (Printed.got at (recordOf answer)) n (length (now room)) ⌝ }
+    ensures { λ r. ⌜ Stored (Printed.got at (recordOf answer)) n (now (room .entry)) (r .at) (r .n) (now
+        (room .exit)) ⌝ }
+{
+    records::put(room, n, answer);
+    Cursor { at, n: n + 3 }
+}
+
+// The fields of the block at a, of which l octets stand in the message.
 fn store_fields(
     p: &[u64],
     a: usize,
     m: &[u8],
     v: usize,
-    at: usize,
+    l: usize,
     room: &mut [u64],
-    from: usize,
-) -> usize
-    requires { ⌜ IsBlock (now p) a × Each (Fits (now m) v at) (shapeAt (now p) a .fields) ⌝ }
-    requires { ⌜ Room (fieldsPrint (now m) v (shapeAt (now p) a .fields) at) from (length (now room)) ⌝ }
-    ensures { λ r. ⌜ Stored (fieldsPrint (now (m .entry)) v (shapeAt (now (p .entry)) a .fields) at) from (now
-        (room .entry)) at r (now (room .exit)) ⌝ }
+    c: Cursor,
+) -> Cursor
+    requires { ⌜ IsBlock (now p) a × Each (Fits (now m) v (c .at)) (shapeAt (now p) a .fields) ⌝ }
+    requires { ⌜ (length (now m) ≤ 65535) × (c .at + l ≤ length (now m)) ⌝ }
+    requires { ⌜ Room (fieldsPrint (now m) v (shapeAt (now p) a .fields) l (c .at)) (c .n) (length (now room)) ⌝ }
+    ensures { λ r. ⌜ Stored (fieldsPrint (now (m .entry)) v (shapeAt (now (p .entry)) a .fields) l (c .at)) (c .n) (now
+        (room .entry)) (r .at) (r .n) (now (room .exit)) ⌝ }
+    ensures { λ r. ⌜ r .at ≤ length (now (m .entry)) ⌝ }
 {
+    let at = c.at;
     let mut left = number(p, a + 3);
     let mut f = a + 12;
-    let mut n = from;
+    let mut n = c.n;
     while 0 < left {
-        records::put(room, n, fields::read_field(p, f, m, v, at));
+        n = store_answer(fields::read_field(p, f, m, v, at), at, room, n).n;
         f = f + 6;
-        n = n + 3;
         left = left - 1;
     }
-    n
+    Cursor { at: at + l, n }
 }
 
 // The octet after n surplus groups.
@@ -60,42 +72,30 @@ fn pass_surplus(m: &[u8], n: usize, at: usize) -> usize
     next
 }
 
-// The n data at place `from`.
-fn store_datas(
-    p: &[u64],
-    from: usize,
-    n: usize,
-    m: &[u8],
-    v: usize,
-    room: &mut [u64],
-    c: Cursor,
-) -> Cursor
-    requires { ⌜ (from + 2 * n ≤ length (now p)) × Lent (now m) (c .at) ⌝ }
-    requires { ⌜ Room (datasPrint (now m) v (parseDatas (now p) n from) (c .at)) (c .n) (length (now room)) ⌝ }
-    ensures { λ r. ⌜ Stored (datasPrint (now (m .entry)) v (parseDatas (now (p .entry)) n from) (c .at)) (c .n) (now
+// The data of the block at a.
+fn store_datas(p: &[u64], a: usize, m: &[u8], v: usize, room: &mut [u64], c: Cursor) -> Cursor
+    requires { ⌜ IsBlock (now p) a × Lent (now m) (c .at) ⌝ }
+    requires { ⌜ Room (datasPrint (now m) v (shapeAt (now p) a .datas) (c .at)) (c .n) (length (now room)) ⌝ }
+    ensures { λ r. ⌜ Stored (datasPrint (now (m .entry)) v (shapeAt (now (p .entry)) a .datas) (c .at)) (c .n) (now
         (room .entry)) (r .at) (r .n) (now (room .exit)) ⌝ }
     ensures { λ r. ⌜ r .at ≤ length (now (m .entry)) ⌝ }
 {
-    let mut left = n;
-    let mut d = from;
-    let mut at = c.at;
-    let mut k = c.n;
+    let mut left = number(p, a + 5);
+    let mut d = number(p, a + 10);
+    let mut here = c;
     while 0 < left {
+        let since = number(p, d + 1);
         left = left - 1;
-        if v < number(p, d + 1) {
-            records::put(room, k, Answer::Absent);
-            d = d + 2;
-            k = k + 3;
+        d = d + 2;
+        if v < since {
+            here = store_answer(Answer::Absent, here.at, room, here.n);
             continue;
         }
-        let start = at + 2;
-        let len = octets::get2(m, at) as usize;
-        records::put(room, k, Answer::Octets { start, len });
-        at = start + len;
-        d = d + 2;
-        k = k + 3;
+        let start = here.at + 2;
+        let len = wire::data_length(m, here.at);
+        here = store_answer(Answer::Octets { start, len }, start + len, room, here.n);
     }
-    Cursor { at, n: k }
+    here
 }
 
 // k entries of the block at a, with l octets each, `depth` more levels being left: their fields, their groups, past
@@ -124,81 +124,69 @@ pub fn store_entries(
     let t = *m;
     let follow = number(s, a + 7) + surplus;
     let mut due = k;
-    let mut at = c.at;
-    let mut n = c.n;
+    let mut here = c;
     while 0 < due {
-        n = store_fields(s, a, t, v, at, room, n);
-        at = at + l;
         due = due - 1;
+        here = store_fields(s, a, t, v, l, room, here);
         if follow == 0 {
             continue;
         }
-        let here = Cursor { at, n };
-        let row = store_row(
-            p,
-            number(s, a + 9),
-            number(s, a + 4),
-            depth,
-            m,
-            v,
-            room,
-            here,
-        );
-        let here = Cursor {
-            at: pass_surplus(t, surplus, row.at),
-            n: row.n,
-        };
-        let datas = store_datas(s, number(s, a + 10), number(s, a + 5), t, v, room, here);
-        at = datas.at;
-        n = datas.n;
+        let row = store_row(p, a, depth, m, v, surplus, room, here);
+        here = store_datas(s, a, t, v, room, row);
     }
-    Cursor { at, n }
+    here
 }
 
-// The n groups in a row at place `first`, `depth` more levels being left.
+// The groups of the block at a and then surplus ones, `depth` more levels being left.
 fn store_row(
     p: &&[u64],
-    first: usize,
-    n: usize,
+    a: usize,
     depth: usize,
     m: &&[u8],
     v: usize,
+    surplus: usize,
     room: &mut [u64],
     c: Cursor,
 ) -> Cursor
-    requires { ⌜ IsRow (now (now p)) depth n first × Lent (now (now m)) (c .at) ⌝ }
-    requires { ⌜ Room (groupsPrint (now (now m)) v (groupsAt (now (now p)) depth n first) (c .at)) (c .n) (length
+    requires { ⌜ BlockAt (now (now p)) depth a × Lent (now (now m)) (c .at) ⌝ }
+    requires { ⌜ Room (groupsPrint (now (now m)) v (innerAt (now (now p)) depth a) surplus (c .at)) (c .n) (length
         (now room)) ⌝ }
-    ensures { λ r. ⌜ Stored (groupsPrint (now (now (m .entry))) v (groupsAt (now (now (p .entry))) depth n first)
+    ensures { λ r. ⌜ Stored (groupsPrint (now (now (m .entry))) v (innerAt (now (now (p .entry))) depth a) surplus
         (c .at)) (c .n) (now (room .entry)) (r .at) (r .n) (now (room .exit)) ⌝ }
     ensures { λ r. ⌜ r .at ≤ length (now (now (m .entry))) ⌝ }
 {
     let s = *p;
     let t = *m;
-    let mut a = first;
-    let mut left = n;
-    let mut at = c.at;
-    let mut o = c.n;
+    let mut g = number(s, a + 9);
+    let mut left = number(s, a + 4);
+    let mut here = c;
     while 0 < left {
-        prepared::open_row(s, a, left, depth);
+        prepared::open_row(s, g, left, depth);
+        let block = g;
+        g = number(s, block + 8);
         left = left - 1;
-        if v < number(s, a + 1) {
-            records::put(room, o, Answer::Absent);
-            o = o + 3;
-            a = number(s, a + 8);
+        if v < number(s, block + 1) {
+            here = store_answer(Answer::Absent, here.at, room, here.n);
             continue;
         }
-        let l = octets::get2(t, at) as usize;
-        let k = octets::get2(t, at + 2);
-        records::put(room, o, Answer::Group(k));
-        let inside = Cursor {
-            at: at + 4,
-            n: o + 3,
-        };
-        let entries = store_entries(p, a, depth - 1, m, v, l, k as usize, 0, room, inside);
-        at = entries.at;
-        o = entries.n;
-        a = number(s, a + 8);
+        let sizes = wire::sizes_at(t, here.at);
+        let count = Answer::Group(sizes.entries as u64);
+        let inside = store_answer(count, here.at + 4, room, here.n);
+        here = store_entries(
+            p,
+            block,
+            depth - 1,
+            m,
+            v,
+            sizes.length,
+            sizes.entries,
+            0,
+            room,
+            inside,
+        );
     }
-    Cursor { at, n: o }
+    Cursor {
+        at: pass_surplus(t, surplus, here.at),
+        n: here.n,
+    }
 }

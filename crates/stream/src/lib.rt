@@ -1,21 +1,23 @@
-// Reads and writes messages by a prepared book: at no book cost per message. Proved callers cannot misuse it: the checker
-// refuses a call whose numbers are not known to be those of an accepted book.
+// Reads and writes messages by a prepared book: at no book cost per message. Proved callers cannot misuse it: the
+// checker refuses a call whose numbers are not known to be those of an accepted book.
 use judges::Judged;
 use layout::Checked;
 use layout::Counted;
 use layout::Element;
 use layout::Found;
 use layout::Refusal;
-use prepared::Place;
+use prepared::Located;
 use prepared::number;
 use store::Cursor;
 use whole::Entered;
 ghost use mathlib.Core.Path.{_≡_};
-ghost use Rattle.layout.specs.Contracts.{ListsAs, WritesAs, checked, found, refusal, stepsOf};
+ghost use Prim.Native.Nat.{_+_, _≤_};
+ghost use Rattle.layout.specs.Contracts.{ListsAs, WritesAs, checked, found, refusal};
 ghost use Rattle.layout.specs.Reading.{checkIn, listIn, placeIn};
 ghost use Rattle.layout.specs.Writing.{writeIn};
-ghost use Rattle.prepared.specs.Positions.{BlockAt};
+ghost use Rattle.prepared.specs.Positions.{BlockAt, IsBlock, dataCount, fieldCount};
 ghost use Rattle.places.specs.Seeks.{Path};
+ghost use Rattle.whole.specs.Wholes.{most};
 ghost use Rattle.stream.specs.Places.{noPlace, surplusIn};
 ghost use Rattle.stream.specs.Written.{writtenBy};
 ghost use Rattle.prepared.specs.Books.{IsPrepared, bookAt, templateAt};
@@ -30,6 +32,14 @@ pub fn check(p: &[u64], m: &[u8]) -> Checked
         return Checked::Accepted;
     };
     Checked::Refused(refusal)
+}
+
+// How many records a message has whose root is the block at a, its groups having k.
+fn count_records(p: &[u64], a: usize, k: usize) -> usize
+    requires { ⌜ IsBlock (now p) a × (k ≤ most) ⌝ }
+    ensures { λ r. ⌜ r ≡ fieldCount (now (p .entry)) a + k + dataCount (now (p .entry)) a ⌝ }
+{
+    number(p, a + 3) + k + number(p, a + 5)
 }
 
 // Lists a message: the number of records, which are stored from the room's start. A walk checks and counts, and then,
@@ -50,7 +60,7 @@ pub fn list(p: &[u64], m: &[u8], room: &mut [u64]) -> Counted
             records,
             ..
         } => {
-            let all = number(p, block + 3) + records + number(p, block + 5);
+            let all = count_records(p, block, records);
             if room.len() / 3 < all {
                 return Counted::Refused(Refusal {
                     number: 40,
@@ -93,7 +103,7 @@ fn surplus_there(steps: &[u64], groups: usize) -> usize
 // The answer for a place of at most four whole steps.
 fn place_on(p: &[u64], m: &[u8], steps: &[u64], x: Element) -> Found
     requires { ⌜ IsPrepared (now p) × Path (now steps) 0 ⌝ }
-    ensures { λ r. ⌜ r ≡ found (placeIn (bookAt (now (p .entry))) (now (m .entry)) (stepsOf (now (steps .entry))) x) ⌝ }
+    ensures { λ r. ⌜ r ≡ found (placeIn (bookAt (now (p .entry))) (now (m .entry)) (now (steps .entry)) x) ⌝ }
 {
     match whole::enter(&p, &m, &steps) {
         Entered::Refused(refusal) => Found::Refused(refusal),
@@ -105,7 +115,7 @@ fn place_on(p: &[u64], m: &[u8], steps: &[u64], x: Element) -> Found
             long,
             ..
         } => {
-            let Place::At(a) = places::find_place(p, block, steps, x) else {
+            let Located::At(a) = places::find_place(p, block, steps, x) else {
                 return no_answer(30);
             };
             if found == 0 {
@@ -121,12 +131,12 @@ fn place_on(p: &[u64], m: &[u8], steps: &[u64], x: Element) -> Found
 // The answer for one place of a message. The steps hold a group's number and an entry's, by turns.
 pub fn place(p: &[u64], m: &[u8], steps: &[u64], x: Element) -> Found
     requires { ⌜ IsPrepared (now p) ⌝ }
-    ensures { λ r. ⌜ r ≡ found (placeIn (bookAt (now (p .entry))) (now (m .entry)) (stepsOf (now (steps .entry))) x) ⌝ }
+    ensures { λ r. ⌜ r ≡ found (placeIn (bookAt (now (p .entry))) (now (m .entry)) (now (steps .entry)) x) ⌝ }
 {
-    if 8 < steps.len() {
+    if steps.len() % 2 == 1 {
         return no_place(check(p, m));
     }
-    if steps.len() % 2 == 1 {
+    if 8 < steps.len() {
         return no_place(check(p, m));
     }
     place_on(p, m, steps, x)
@@ -168,7 +178,7 @@ pub fn write(p: &[u64], id: usize, listing: &[u64], pool: &[u8], room: &mut [u8]
     ensures { λ r. ⌜ WritesAs (writeIn (bookAt (now (p .entry))) id (now (listing .entry)) (now (pool .entry))) (now
         (room .entry)) r (now (room .exit)) ⌝ }
 {
-    let Place::At(a) = prepared::find(p, id) else {
+    let Located::At(a) = prepared::find(p, id) else {
         return refuse(50);
     };
     write_by(p, a, listing, pool, room)

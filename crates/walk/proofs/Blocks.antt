@@ -14,7 +14,7 @@ use Rattle.layout.specs.Message.{readBlock, readDatas, readField}
 use Rattle.layout.specs.declared.Refusal.{Refusal}
 use Rattle.wire.specs.Walks.{walked}
 use Rattle.wire.specs.declared.Walked.the-variants.{To, Refused}
-use Rattle.wire.proofs.Laws.{refused-on}
+use Rattle.wire.proofs.Answers.{refused-on}
 use Rattle.walk.specs.Walks.{datasEnd, entryEnd, valuesEnd}
 use Rattle.walk.proofs.Ways.{reached, then-to}
 

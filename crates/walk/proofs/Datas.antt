@@ -1,11 +1,9 @@
 -- Data in a row: one law for each way that reading them ends or goes on.
-use mathlib.Core.Path.{_≡_, refl, ap, _∙_}
+use mathlib.Core.Path.{_≡_, refl, ap}
 use mathlib.Core.List.{List, [], _∷_}
 use Prim.Native.Nat.{ℕ, zero, suc, _+_, _-_, _≤_, _<_}
 use native.Mathlib.Omega.{arith}
 use lib.Dec.{leb}
-use lib.ListN.{length}
-use borrow.Author.Tests.{le-leb, lt-leb}
 use Rattle.layout.specs.Result.{Result, done, if_then_else_, _>>=_}
 use Rattle.layout.specs.Book.{Data}
 use Rattle.layout.specs.BookRules.{parseDatas, word}
@@ -15,10 +13,10 @@ use Rattle.layout.specs.declared.Answer.the-variants.{Absent}
 use Rattle.layout.specs.declared.Refusal.{Refusal}
 use Rattle.wire.specs.Walks.{walked, dataEnd, skipEnd}
 use Rattle.wire.specs.declared.Walked.the-variants.{To, Refused}
-use Rattle.wire.proofs.Laws.{refused-on}
-use Rattle.walk.specs.Walks.{datasEnd}
+use Rattle.wire.proofs.Answers.{refused-on}
+use Rattle.walk.specs.Walks.{dataAt, datasEnd}
 use Rattle.walk.proofs.Ways.{reached, then-to, told}
-use Rattle.walk.proofs.Surplus.{andSkip, known-refused, skip-first, skip-passed, skip-refused}
+use Rattle.walk.proofs.Surplus.{andSkip, skip-first}
 
 pub no-datas-at : (p : List ℕ) (n a : ℕ) → n ≤ 0 → parseDatas p n a ≡ []
 unfolding parseDatas
@@ -30,10 +28,6 @@ module _ (m : List ℕ) (v : ℕ) (p : List ℕ) (s : ℕ) where
   abbrev pub datasAt : ℕ → ℕ → ℕ → Result (List Answer × ℕ)
   datasAt n a at = readDatas m v (parseDatas p n a) s at
 
-  pub datas-none : (n a at : ℕ) → n ≤ 0 → datasAt n a at ≡ (skipDatas m s at >>= λ x. done ([], x))
-  unfolding readDatas
-  datas-none n a at h = rw (no-datas-at p n a h) refl
-
   pub datas-step : (n a at : ℕ) → 0 < n → datasAt n a at
       ≡ ((if leb (word p (a + 1)) v then readData m at else done (Absent, at)) >>= λ d. datasAt (n - 1) (a + 2) (d .1)
       >>= λ r. done (d .0 ∷ r .0, r .1))
@@ -41,37 +35,22 @@ module _ (m : List ℕ) (v : ℕ) (p : List ℕ) (s : ℕ) where
   datas-step zero a at h = absurd (omega arith)
   datas-step (suc n) a at h = let q : suc n - 1 ≡ n = omega arith in rw q refl
 
-  module _ (seen n a at : ℕ) where
-    more-told : (d : Answer) (x : ℕ) → walked (datasEnd seen) (datasAt (n - 1) (a + 2) x >>= λ r. done (d ∷ r .0, r .1))
-        ≡ walked (datasEnd (seen + 1)) (datasAt (n - 1) (a + 2) x)
-    more-told d x =
-        told _ _ _ _ λ r.
-        let q : seen + suc (length (r .0)) ≡ seen + 1 + length (r .0) = omega arith in ap (λ (k : ℕ). (r .1, k)) q
+  module _ (seen n a at : ℕ) (h : 0 < n) where
+    pub datas-refused : (z : Refusal) → Refused z ≡ walked dataEnd (dataAt p a m v at)
+        → walked (datasEnd seen) (datasAt n a at) ≡ Refused z
+    datas-refused z e = rw (datas-step n a at h) (refused-on _ dataEnd _ _ z e)
 
-    module _ (h : 0 < n) where
-      pub datas-refused : word p (a + 1) ≤ v → (z : Refusal) → Refused z ≡ walked dataEnd (readData m at)
-          → walked (datasEnd seen) (datasAt n a at) ≡ Refused z
-      unfolding if_then_else_
-      datas-refused t z e =
-          rw (datas-step n a at h, le-leb (word p (a + 1)) v t) (refused-on _ dataEnd _ _ z e)
-
-      pub datas-next : word p (a + 1) ≤ v → (x k : ℕ) → To x k ≡ walked dataEnd (readData m at)
-          → walked (datasEnd seen) (datasAt n a at) ≡ walked (datasEnd (seen + 1)) (datasAt (n - 1) (a + 2) x)
-      unfolding if_then_else_
-      datas-next t x k e =
-          rw (datas-step n a at h, le-leb (word p (a + 1)) v t)
-          (then-to _ dataEnd x k e _ _ _ λ d p′ q.
-          more-told _ _ ∙ ap (λ y. walked (datasEnd (seen + 1)) (datasAt (n - 1) (a + 2) y)) p′)
-
-      pub datas-absent : v < word p (a + 1)
-          → walked (datasEnd seen) (datasAt n a at) ≡ walked (datasEnd (seen + 1)) (datasAt (n - 1) (a + 2) at)
-      unfolding if_then_else_ _>>=_
-      datas-absent t = rw (datas-step n a at h, lt-leb (word p (a + 1)) v t) (more-told _ _)
+    pub datas-next : (x k : ℕ) → To x k ≡ walked dataEnd (dataAt p a m v at)
+        → walked (datasEnd seen) (datasAt n a at) ≡ walked (datasEnd (seen + 1)) (datasAt (n - 1) (a + 2) x)
+    datas-next x k e =
+        rw (datas-step n a at h)
+        (then-to _ dataEnd x k e _ _ _ λ d p′ q.
+        rw p′ (told _ _ _ _ λ r. ap (λ (i : ℕ). (r .1, i)) (omega arith)))
 
 pub datas-done : (m : List ℕ) (v : ℕ) (p : List ℕ) (seen n a at : ℕ) → n ≤ 0
     → walked (datasEnd seen) (datasAt m v p 0 n a at) ≡ To at seen
-unfolding skipDatas _>>=_
-datas-done m v p seen n a at h = rw (datas-none m v p 0 n a at h) (reached (datasEnd seen) _ refl (omega arith))
+unfolding readDatas skipDatas _>>=_
+datas-done m v p seen n a at h = rw (no-datas-at p n a h) (reached (datasEnd seen) _ refl (omega arith))
 
 -- ---- surplus data come after the row
 
@@ -88,13 +67,18 @@ module _ (m : List ℕ) (n : ℕ) where
   module _ (v : ℕ) (ds : List Data) (at seen : ℕ) where
     pub datas-surplus-row : (z : Refusal) → Refused z ≡ walked (datasEnd seen) (readDatas m v ds 0 at)
         → walked (datasEnd seen) (readDatas m v ds n at) ≡ Refused z
-    datas-surplus-row z e = rw (datas-surplus v ds at) (known-refused _ (λ ds′. seen + length ds′) _ z e)
+    datas-surplus-row z e = rw (datas-surplus v ds at) (refused-on _ (datasEnd seen) _ _ z e)
 
     module _ (x k : ℕ) (e : To x k ≡ walked (datasEnd seen) (readDatas m v ds 0 at)) where
       pub datas-surplus-refused : (z : Refusal) → Refused z ≡ walked skipEnd (skipDatas m n x)
           → walked (datasEnd seen) (readDatas m v ds n at) ≡ Refused z
-      datas-surplus-refused z h = rw (datas-surplus v ds at) (skip-refused _ (λ ds′. seen + length ds′) _ x k e z h)
+      datas-surplus-refused z h =
+          rw (datas-surplus v ds at)
+          (then-to _ (datasEnd seen) x k e _ _ _ λ a p q. rw p (refused-on _ skipEnd _ _ z h))
 
       pub datas-surplus-passed : (y j : ℕ) → To y j ≡ walked skipEnd (skipDatas m n x)
           → walked (datasEnd seen) (readDatas m v ds n at) ≡ To y k
-      datas-surplus-passed y j h = rw (datas-surplus v ds at) (skip-passed _ (λ ds′. seen + length ds′) _ x k e y j h)
+      datas-surplus-passed y j h =
+          rw (datas-surplus v ds at)
+          (then-to _ (datasEnd seen) x k e _ _ _ λ a p q.
+          rw p (then-to _ skipEnd y j h _ _ _ λ b p′ q′. reached (datasEnd seen) _ p′ q))

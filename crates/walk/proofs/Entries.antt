@@ -1,6 +1,6 @@
 -- Entries in a row: one law for each way that reading them ends or goes on.
 use mathlib.Core.Path.{_≡_, refl, sym, ap, _∙_}
-use mathlib.Core.List.{List, [], map}
+use mathlib.Core.List.{List, []}
 use Prim.Native.Nat.{ℕ, zero, suc, _+_, _-_, _*_, _≤_, _<_}
 use native.Mathlib.Nat.{mul-le-mul-right}
 use native.Mathlib.Numerals.{unary-clauses}
@@ -13,14 +13,13 @@ use Rattle.layout.specs.BookRules.{word}
 use Rattle.layout.specs.Contracts.{refusal}
 use Rattle.layout.specs.Values.{Values, entry, measure, nil}
 use Rattle.layout.specs.Message.{Entry, readBlock, readDatas, readEntries, readField, readGroups, skipDatas, skipGroups}
-use Rattle.layout.specs.declared.Answer.{Answer}
 use Rattle.layout.specs.declared.Refusal.{Refusal}
 use Rattle.prepared.specs.Positions.{IsBlock, dataCount, datasFrom, fieldCount, fieldsFrom, groupCount, groupsFrom}
 use Rattle.prepared.specs.Positions.{innerAt, shapeAt}
 use Rattle.prepared.proofs.Open.{no-groups-at}
 use Rattle.wire.specs.Walks.{walked}
 use Rattle.wire.specs.declared.Walked.the-variants.{To, Refused}
-use Rattle.wire.proofs.Laws.{refused-on}
+use Rattle.wire.proofs.Answers.{refused-on}
 use Rattle.walk.specs.Walks.{Bounded, datasEnd, entriesAt, entryEnd, valuesEnd}
 use Rattle.walk.proofs.Ways.{Answers, reached, then-to, told}
 use Rattle.walk.proofs.Datas.{no-datas-at}
@@ -83,52 +82,28 @@ module _ (m : List ℕ) (v : ℕ) (s : Shape) (gs : Groups) (l seen n at : ℕ) 
 -- ---- plain entries
 
 -- Blocks of l octets with neither groups nor data.
-module _ (m : List ℕ) (v : ℕ) (s : Shape) (l : ℕ) where
-  -- The fields' answers, of a block that starts at `at`.
-  abbrev pub fieldsRead : ℕ → List Answer
-  fieldsRead at = map (readField m v at) (s .fields)
+module _ (m : List ℕ) (v : ℕ) (s : Shape) (l : ℕ) (gs : Groups) (no-groups : gs ≡ none) (no-datas : s .datas ≡ []) where
+  abbrev entryIs : ℕ → Result Entry
+  entryIs = readBlock m v s (readGroups m v gs 0) 0 l
 
-  -- k such entries, the first at `at`.
-  unfoldable pub plainRow : ℕ → ℕ → Values
-  plainRow zero at = nil
-  plainRow (suc k) at = entry (fieldsRead at) nil [] (plainRow k (at + l))
+  -- A plain block is its octets, and a record for each field.
+  plain-entry : (at : ℕ) → at + l ≤ length m → walked entryEnd (entryIs at) ≡ To (at + l) (length (s .fields))
+  unfolding readBlock readGroups readDatas skipGroups skipDatas measure must _>>=_
+  plain-entry at h =
+      rw (le-leb (at + l) (length m) h, no-groups, no-datas)
+      (reached entryEnd _ refl (omega (arith, length-map (s .fields) (readField m v at))))
 
-  -- They have a record for each field.
-  pub plain-measure : (k at : ℕ) → measure (plainRow k at) ≡ length (s .fields) * k
-  unfolding plainRow measure
-  plain-measure zero at = omega arith
-  plain-measure (suc k) at = omega (arith, plain-measure k (at + l), length-map (s .fields) (readField m v at))
-
-  module _ (gs : Groups) (no-groups : gs ≡ none) (no-datas : s .datas ≡ []) where
-    abbrev entryIs : ℕ → Result Entry
-    entryIs = readBlock m v s (readGroups m v gs 0) 0 l
-
-    -- A plain block is its octets.
-    pub block-plain : (at : ℕ) → at + l ≤ length m → entryIs at ≡ done (fieldsRead at, nil, [], at + l)
-    unfolding readBlock readGroups readDatas skipGroups skipDatas must _>>=_
-    block-plain at h = rw (le-leb (at + l) (length m) h, no-groups, no-datas) refl
-
-    -- Plain entries are their octets, where all of these are there.
-    pub entries-plain : (k at : ℕ) → at + l * k ≤ length m
-        → readEntries k entryIs at ≡ done (plainRow k at, at + l * k)
-    unfolding readEntries plainRow _>>=_
-    entries-plain zero at h = simp unary-clauses refl
-    entries-plain (suc k) at h =
-        let on : at + l + l * k ≡ at + l * suc k = omega arith in
-        rw (block-plain at (omega arith), entries-plain k (at + l) (omega arith), on) refl
-
-    pub plain-entries : (k seen at : ℕ) → at + l * k ≤ length m
-        → walked (valuesEnd seen) (readEntries k entryIs at) ≡ To (at + l * k) (seen + length (s .fields) * k)
-    plain-entries k seen at h =
-        rw (entries-plain k at h) (reached (valuesEnd seen) _ refl (omega (arith, plain-measure k at)))
-
--- What makes the block at a plain.
-module _ (p : List ℕ) (depth a : ℕ) (b : IsBlock p a) (plain : word p (a + 7) ≡ 0) where
-  pub no-groups : innerAt p depth a ≡ none
-  no-groups = no-groups-at p depth (groupCount p a) (groupsFrom p a) (omega (arith, b .follow, plain))
-
-  pub no-datas : shapeAt p a .datas ≡ []
-  no-datas = no-datas-at p (dataCount p a) (datasFrom p a) (omega (arith, b .follow, plain))
+  -- Plain entries are their octets, where all of these are there.
+  plain-entries : (k seen at : ℕ) → at + l * k ≤ length m
+      → walked (valuesEnd seen) (readEntries k entryIs at) ≡ To (at + l * k) (seen + length (s .fields) * k)
+  plain-entries zero seen at h = simp unary-clauses (entries-end entryIs seen zero at (omega arith))
+  plain-entries (suc k) seen at h =
+      let f = length (s .fields) in
+      let on : at + l + l * k ≡ at + l * suc k = omega arith in
+      let more : seen + f + f * k ≡ seen + f * suc k = omega arith in
+      let one : suc k - 1 ≡ k = omega arith in
+      entries-next entryIs seen (suc k) at (omega arith) (at + l) f (sym (plain-entry at (omega arith)))
+      ∙ rw (one, ← on, ← more) (plain-entries k (seen + f) (at + l) (omega arith))
 
 -- Entries of a block that nothing follows are passed at once where all of them fit.
 pub plain-walked : (p : List ℕ) (depth a : ℕ) (m : List ℕ) (v l k start fields follow : ℕ) → IsBlock p a
@@ -139,9 +114,9 @@ unfolding Bounded
 plain-walked p depth a m v l k start fields follow b f w z h =
     let few : fields * k ≤ 64 * k = mul-le-mul-right k (omega (arith, f, b .fewFields)) in
     let s = shapeAt p a in
-    let plain = sym w ∙ z in
     let zero-plus : length (s .fields) * k ≡ 0 + length (s .fields) * k = omega arith in
     let q : fields ≡ length (s .fields) = f ∙ sym (length-fields p (fieldCount p a) (fieldsFrom p a)) in
-    let walk = plain-entries m v s l (innerAt p depth a) (no-groups p depth a b plain) (no-datas p depth a b plain) k 0
-    start h in
+    let walk = plain-entries m v s l (innerAt p depth a)
+    (no-groups-at p depth (groupCount p a) (groupsFrom p a) (omega (arith, b .follow, w, z)))
+    (no-datas-at p (dataCount p a) (datasFrom p a) (omega (arith, b .follow, w, z))) k 0 start h in
     (rw (q, zero-plus) (sym walk), (omega arith, h, omega (arith, few)))

@@ -2,11 +2,6 @@
 use mathlib.Core.Path.{_≡_, refl}
 use Prim.Native.Nat.{ℕ}
 use Rattle.layout.specs.Result.{Result, done, refused, _>>=_}
-use Rattle.layout.specs.declared.Refusal.{Refusal}
-use Rattle.wire.specs.Walks.{walked, skipEnd}
-use Rattle.wire.specs.declared.Walked.the-variants.{To, Refused}
-use Rattle.wire.proofs.Laws.{refused-on}
-use Rattle.walk.proofs.Ways.{reached, then-to}
 
 -- `skip` passes the surplus.
 module _ {A : Type 0} (skip : ℕ → Result ℕ) where
@@ -37,20 +32,3 @@ module _ {A : Type 0} (skip : ℕ → Result ℕ) where
   unfolding _>>=_
   skip-first (done f) end put all known h = rw (h (end f)) (skip-on (put f) (known (end f)))
   skip-first (refused k p) end put all known h = refl
-
-  -- Where it ends, `count` giving the records of what was read.
-  module _ (count : A → ℕ) (r : Result (A × ℕ)) where
-    abbrev ends : A × ℕ → ℕ × ℕ
-    ends q = (q .1, count (q .0))
-
-    pub known-refused : (z : Refusal) → Refused z ≡ walked ends r → walked ends (r >>= andSkip) ≡ Refused z
-    known-refused z e = refused-on r ends _ _ z e
-
-    module _ (x k : ℕ) (e : To x k ≡ walked ends r) where
-      pub skip-refused : (z : Refusal) → Refused z ≡ walked skipEnd (skip x) → walked ends (r >>= andSkip) ≡ Refused z
-      skip-refused z h = then-to r ends x k e _ _ _ λ a p q. rw p (refused-on (skip x) skipEnd _ _ z h)
-
-      pub skip-passed : (y j : ℕ) → To y j ≡ walked skipEnd (skip x) → walked ends (r >>= andSkip) ≡ To y k
-      skip-passed y j h =
-          then-to r ends x k e _ _ _ λ a p q.
-          rw p (then-to (skip x) skipEnd y j h _ _ _ λ b p′ q′. reached ends _ p′ q)

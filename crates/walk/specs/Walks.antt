@@ -2,11 +2,14 @@
 -- far and how many it can be.
 use mathlib.Core.List.{List}
 use Prim.Native.Nat.{ℕ, _+_, _*_, _≤_}
+use lib.Dec.{leb}
 use lib.ListN.{length}
-use Rattle.layout.specs.Result.{Result}
+use Rattle.layout.specs.Result.{Result, done, if_then_else_}
+use Rattle.layout.specs.BookRules.{word}
 use Rattle.layout.specs.Values.{Values, measure}
-use Rattle.layout.specs.Message.{Entry, readBlock, readEntries, readGroups}
+use Rattle.layout.specs.Message.{Entry, readBlock, readData, readEntries, readGroups}
 use Rattle.layout.specs.declared.Answer.{Answer}
+use Rattle.layout.specs.declared.Answer.the-variants.{Absent}
 use Rattle.prepared.specs.Positions.{innerAt, groupsAt, shapeAt}
 use Rattle.wire.specs.declared.Walked.{Walked}
 use Rattle.wire.specs.declared.Walked.the-variants.{To, Refused}
@@ -20,6 +23,10 @@ module _ (p : List ℕ) (depth a : ℕ) (m : List ℕ) (v l : ℕ) where
 
   abbrev pub entriesAt : ℕ → ℕ → Result (Values × ℕ)
   entriesAt n at = readEntries n entryAt at
+
+-- The data whose numbers stand at a.
+abbrev pub dataAt : List ℕ → ℕ → List ℕ → ℕ → ℕ → Result (Answer × ℕ)
+dataAt p a m v at = if leb (word p (a + 1)) v then readData m at else done (Absent, at)
 
 -- The n groups in a row at a.
 abbrev pub rowAt : List ℕ → ℕ → ℕ → ℕ → List ℕ → ℕ → ℕ → Result (Values × ℕ)

@@ -4,13 +4,28 @@ use prepared::number;
 use wire::Dimension;
 use wire::Walked;
 ghost use mathlib.Core.Path.{_≡_};
-ghost use Prim.Native.Nat.{_+_, _*_, _≤_};
+ghost use Prim.Native.Nat.{_+_, _*_, _^_, _<_, _≤_};
 ghost use lib.ListN.{length};
 ghost use Rattle.layout.specs.BookRules.{parseDatas};
 ghost use Rattle.layout.specs.Message.{readDatas};
 ghost use Rattle.prepared.specs.Positions.{BlockAt, IsRow};
-ghost use Rattle.wire.specs.Walks.{walked};
-ghost use Rattle.walk.specs.Walks.{Bounded, Lent, datasEnd, valuesEnd, entriesAt, rowAt};
+ghost use Rattle.wire.specs.Walks.{Inside, dataEnd, walked};
+ghost use Rattle.walk.specs.Walks.{Bounded, Lent, dataAt, datasEnd, valuesEnd, entriesAt, rowAt};
+
+// The data whose numbers stand at d. Where it is absent it has no octets.
+fn pass_data(p: &[u64], d: usize, m: &[u8], v: usize, at: usize) -> Walked
+    requires { ⌜ (d + 2 ≤ length (now p)) × (at ≤ length (now m)) ⌝ }
+    ensures { λ r. ⌜ r ≡ walked dataEnd (dataAt (now (p .entry)) d (now (m .entry)) v at) ⌝ }
+    ensures { λ r. ⌜ Inside (length (now (m .entry))) at r ⌝ }
+{
+    if v < number(p, d + 1) {
+        return Walked::To {
+            next: at,
+            records: 1,
+        };
+    }
+    wire::read_data(m, at)
+}
 
 // The n data at place `from`.
 pub fn walk_datas(p: &[u64], from: usize, n: usize, m: &[u8], v: usize, start: usize) -> Walked
@@ -23,13 +38,11 @@ pub fn walk_datas(p: &[u64], from: usize, n: usize, m: &[u8], v: usize, start: u
     let mut d = from;
     let mut at = start;
     while 0 < left {
-        if number(p, d + 1) <= v {
-            let data = wire::read_data(m, at);
-            let Walked::To { next, .. } = data else {
-                return data;
-            };
-            at = next;
-        }
+        let data = pass_data(p, d, m, v, at);
+        let Walked::To { next, .. } = data else {
+            return data;
+        };
+        at = next;
         d = d + 2;
         left = left - 1;
     }
@@ -37,6 +50,14 @@ pub fn walk_datas(p: &[u64], from: usize, n: usize, m: &[u8], v: usize, start: u
         next: at,
         records: n,
     }
+}
+
+// So many records, and an entry's: its fields, those of its groups, its data.
+fn total(seen: usize, fields: usize, groups: usize, datas: usize) -> usize
+    requires { ⌜ seen + fields + groups + datas < 2 ^ 64 ⌝ }
+    ensures { λ r. ⌜ r ≡ seen + fields + groups + datas ⌝ }
+{
+    seen + fields + groups + datas
 }
 
 // k entries of the block at a, with l octets each, `depth` more levels being left.
@@ -86,7 +107,7 @@ pub fn walk_entries(
             return datas;
         };
         at = end;
-        seen = seen + fields + records + more;
+        seen = total(seen, fields, records, more);
         due = due - 1;
     }
     Walked::To {

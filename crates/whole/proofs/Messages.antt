@@ -1,21 +1,16 @@
 -- A message is read as it is walked: its header, the root's groups, and what follows them.
-use mathlib.Core.Path.{_≡_, _∙_, ap, refl, sym}
-use mathlib.Core.List.{List, map}
-use mathlib.Core.Option.{some, none as no}
-use Prim.Native.Nat.{ℕ, _+_}
-use lib.Dec.{eqb, leb}
-use lib.ListN.{length}
-use Rattle.layout.specs.Result.{Result, _>>=_, done, must, orRefuse, refused}
-use Rattle.layout.specs.Book.{findTemplate}
+use mathlib.Core.Path.{_≡_, refl}
+use mathlib.Core.List.{List}
+use Prim.Native.Nat.{ℕ}
+use Rattle.layout.specs.Result.{Result, _>>=_, done, orRefuse, refused}
 use Rattle.layout.specs.BookRules.{word}
-use Rattle.layout.specs.Message.{blockLength, checkHeader, headerSize, readBlock, readDatas, readField, readGroups}
-use Rattle.layout.specs.Message.{readMessage, readRoot, readWhole, skipGroups, surplusOf, templateId, versionOf}
-use Rattle.layout.specs.Values.{entry, nil}
+use Rattle.layout.specs.Message.{blockLength, readBlock}
+use Rattle.layout.specs.Message.{readMessage, readRoot, readWhole, surplusOf, templateId, versionOf}
 use Rattle.layout.proofs.Results.{bind-assoc, bind-done}
-use Rattle.prepared.specs.Positions.{innerAt, shapeAt}
-use Rattle.prepared.specs.Books.{HoldsBook, bookAt, placeOf, templateAt}
-use Rattle.prepared.specs.declared.Place.{Place}
-use Rattle.prepared.specs.declared.Place.the-variants as Place
+use Rattle.prepared.specs.Positions.{innerAt}
+use Rattle.prepared.specs.Books.{HoldsBook, bookAt, locationOf, templateAt}
+use Rattle.prepared.specs.declared.Located.{Located}
+use Rattle.prepared.specs.declared.Located.the-variants as Located
 use Rattle.prepared.proofs.Found.{found, not-found}
 use Rattle.walk.proofs.Rows.{surplus-after}
 use Rattle.messages.specs.Openings.{known, knownAt, openAt}
@@ -38,13 +33,14 @@ module _ (p m : List ℕ) where
   root-read a (g, d) = rw (surplus-after m g (versionOf m) (innerAt p 4 a) _) (simp (bind-assoc, bind-done) refl)
 
   module _ (book : HoldsBook p) where
-    by-place : (r : Place) → placeOf p (templateId m) ≡ r
+    by-place : (r : Located) → locationOf p (templateId m) ≡ r
         → readMessage (bookAt p) m ≡ (wholeAt p m >>= λ w. done (treeAt p m w))
     unfolding readMessage readRoot openAt knownAt wholeAt known orRefuse
-    by-place (Place.At a) e =
+    by-place (Located.At a) e =
         let whole = bind-same (surplusOf (word p 1) (templateAt p a) m) _ _ (root-read a) in
         rw (found p book (templateId m) a e .template, e) (simp (bind-assoc, bind-done) (bind-same _ _ _ (λ _. whole)))
-    by-place Place.Unknown e = rw (not-found p book (templateId m) e, e) (simp (bind-assoc, bind-done, bind-refused) refl)
+    by-place Located.Unknown e =
+        rw (not-found p book (templateId m) e, e) (simp (bind-assoc, bind-done, bind-refused) refl)
 
     pub message-read : readMessage (bookAt p) m ≡ (wholeAt p m >>= λ w. done (treeAt p m w))
-    message-read = by-place (placeOf p (templateId m)) refl
+    message-read = by-place (locationOf p (templateId m)) refl

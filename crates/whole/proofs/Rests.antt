@@ -1,53 +1,46 @@
--- What follows the groups of the root, stage by stage.
-use mathlib.Core.Path.{_≡_, refl, sym}
+-- What follows the groups of the root, by the answers of its parts.
+use mathlib.Core.Path.{_≡_, ap, refl}
+use mathlib.Core.Bool.{Bool, false, true}
 use mathlib.Core.List.{List}
 use Prim.Native.Nat.{ℕ, _+_}
 use native.Mathlib.Omega.{arith}
+use lib.Dec.{eqb}
 use lib.ListN.{length}
-use borrow.Author.Tests.{eq-eqb, ne-eqb}
-use Rattle.layout.specs.Result.{_>>=_, done, must, refused}
+use Rattle.layout.specs.Result.{Result, _>>=_, done, must, refused}
 use Rattle.layout.specs.Contracts.{refusal}
 use Rattle.layout.specs.Message.{readDatas, skipGroups}
-use Rattle.layout.specs.declared.Refusal.{Refusal}
+use Rattle.layout.specs.declared.Answer.{Answer}
 use Rattle.prepared.specs.Positions.{shapeAt}
 use Rattle.wire.specs.Walks.{skipEnd, walked}
 use Rattle.wire.specs.declared.Walked.{Walked}
 use Rattle.wire.specs.declared.Walked.the-variants.{To, Refused}
-use Rattle.wire.proofs.Laws.{refused-on}
 use Rattle.walk.specs.Walks.{datasEnd}
-use Rattle.walk.proofs.Ways.{reached, then-to}
 use Rattle.whole.specs.Wholes.{restAt, restEnd}
 
-refused-is : {A : Type 0} (f : A → ℕ × ℕ) (n q : ℕ) → walked f (refused n q) ≡ Refused (refusal n q)
-unfolding walked
-refused-is f n q = refl
+unfoldable pub after : Walked → (ℕ → ℕ → Walked) → Walked
+after (To x k) next = next x k
+after (Refused z) next = Refused z
 
-module _ (p : List ℕ) (a : ℕ) (m : List ℕ) (v n k at : ℕ) where
-  abbrev rest : Walked
-  rest = walked restEnd (restAt p a m v n k at)
+after-bind : {A B : Type 0} (r : Result A) (f : A → ℕ × ℕ) (k : A → Result B) (g : B → ℕ × ℕ) (next : ℕ → ℕ → Walked)
+    → ((a : A) → walked g (k a) ≡ next (f a .0) (f a .1)) → walked g (r >>= k) ≡ after (walked f r) next
+unfolding walked after _>>=_
+after-bind (done a) f k g next e = e a
+after-bind (refused n p) f k g next e = refl
 
-  pub rest-groups : (z : Refusal) → Refused z ≡ walked skipEnd (skipGroups m n at) → rest ≡ Refused z
-  unfolding restAt
-  rest-groups z e = refused-on _ skipEnd _ _ z e
+-- At y, which is the message's end or not.
+unfoldable pub ends : Bool → ℕ → ℕ → Walked
+ends true y c = To y c
+ends false y c = Refused (refusal 20 y)
 
-  module _ (x j : ℕ) (e : To x j ≡ walked skipEnd (skipGroups m n at)) where
-    pub rest-datas : (z : Refusal) → walked (datasEnd 0) (readDatas m v (shapeAt p a .datas) k x) ≡ Refused z
-        → rest ≡ Refused z
-    unfolding restAt
-    rest-datas z h =
-        then-to _ skipEnd x j e _ _ _ λ b q r. rw q (refused-on _ (datasEnd 0) _ _ z (sym h))
+at-end : (t : Bool) (ds : List Answer) (y : ℕ)
+    → walked restEnd (must t 20 y >>= λ _. done (ds, y)) ≡ ends t y (0 + length ds)
+unfolding walked must ends _>>=_
+at-end true ds y = ap (To y) (omega arith)
+at-end false ds y = refl
 
-    module _ (y c : ℕ) (h : walked (datasEnd 0) (readDatas m v (shapeAt p a .datas) k x) ≡ To y c) where
-      pub rest-ends : y ≡ length m → rest ≡ To y c
-      unfolding restAt must _>>=_
-      rest-ends is =
-          then-to _ skipEnd x j e _ _ _ λ b q r.
-          rw q (then-to _ (datasEnd 0) y c (sym h) _ _ _ λ d s t.
-          rw (s, eq-eqb y (length m) is) (reached restEnd (d .0, y) refl (omega (arith, t))))
-
-      pub rest-left : (y ≡ length m → ⊥) → rest ≡ Refused (refusal 20 y)
-      unfolding restAt must _>>=_
-      rest-left is =
-          then-to _ skipEnd x j e _ _ _ λ b q r.
-          rw q (then-to _ (datasEnd 0) y c (sym h) _ _ _ λ d s t.
-          rw (s, ne-eqb y (length m) is) (refused-is restEnd 20 y))
+pub rest-by : (p : List ℕ) (a : ℕ) (m : List ℕ) (v n k at : ℕ)
+    → walked restEnd (restAt p a m v n k at)
+    ≡ after (walked skipEnd (skipGroups m n at)) λ x _.
+    after (walked (datasEnd 0) (readDatas m v (shapeAt p a .datas) k x)) λ y c. ends (eqb y (length m)) y c
+unfolding restAt
+rest-by p a m v n k at = after-bind _ skipEnd _ _ _ λ x. after-bind _ (datasEnd 0) _ _ _ λ d. at-end _ (d .0) (d .1)

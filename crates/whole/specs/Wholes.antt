@@ -4,8 +4,9 @@ use Prim.Native.Nat.{ℕ, _+_, _*_, _≤_}
 use lib.Dec.{eqb, leb}
 use lib.ListN.{length}
 use Rattle.layout.specs.Result.{Result, done, refused, must, _>>=_}
-use Rattle.layout.specs.Contracts.{refusal, stepsOf}
+use Rattle.layout.specs.Contracts.{refusal}
 use Rattle.layout.specs.Message.{blockLength, headerSize, readDatas, readField, skipGroups, versionOf}
+use Rattle.layout.specs.Reading.{stepsOf}
 use Rattle.layout.specs.Values.{Values, entry, measure, nil}
 use Rattle.layout.specs.declared.Answer.{Answer}
 use Rattle.prepared.specs.Positions.{groupCount, groupsFrom, innerAt, shapeAt}

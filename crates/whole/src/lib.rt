@@ -1,5 +1,5 @@
-// Walks a whole message by a prepared book: 10 to 20, how many records it has, and where the entry starts that a path leads
-// to.
+// Walks a whole message by a prepared book: 10 to 20, how many records it has, and where the entry starts that a path
+// leads to.
 use layout::Refusal;
 use messages::Opened;
 use places::Row;
@@ -8,14 +8,31 @@ use wire::Walked;
 ghost use mathlib.Core.Path.{_≡_};
 ghost use Prim.Native.Nat.{_≤_};
 ghost use Rattle.layout.specs.Contracts.{refusal};
-ghost use Rattle.prepared.specs.Positions.{BlockAt, IsBlock};
+ghost use Rattle.layout.specs.Message.{readDatas};
+ghost use Rattle.prepared.specs.Positions.{BlockAt, IsBlock, shapeAt};
 ghost use Rattle.prepared.specs.Books.{HoldsBook};
 ghost use Rattle.wire.specs.Walks.{walked};
-ghost use Rattle.walk.specs.Walks.{Lent};
+ghost use Rattle.walk.specs.Walks.{Lent, datasEnd};
 ghost use Rattle.places.specs.Seeks.{Path};
 ghost use Rattle.whole.specs.Wholes.{Ends, Few, entered, restAt, restEnd, rootAt, rooted, spotAt, wholeAt};
 
-// What follows the groups of the root block at a: the surplus groups, its data, the surplus data, and the message's end.
+// The data of the root block at a, and k surplus data.
+fn walk_all_datas(p: &[u64], a: usize, m: &[u8], v: usize, k: usize, at: usize) -> Walked
+    requires { ⌜ IsBlock (now p) a × Lent (now m) at ⌝ }
+    ensures { λ r. ⌜ r ≡ walked (datasEnd 0) (readDatas (now (m .entry)) v (shapeAt (now (p .entry)) a .datas) k at) ⌝ }
+{
+    let own = walk::walk_datas(p, number(p, a + 10), number(p, a + 5), m, v, at);
+    let Walked::To { next, records } = own else {
+        return own;
+    };
+    let surplus = wire::skip_datas(m, k, next);
+    let Walked::To { next: end, .. } = surplus else {
+        return surplus;
+    };
+    Walked::To { next: end, records }
+}
+
+// What follows the groups of the root block at a: the surplus groups, its data, the surplus data, the message's end.
 fn walk_rest(
     p: &[u64],
     a: usize,
@@ -32,19 +49,12 @@ fn walk_rest(
     let Walked::To { next, .. } = surplus else {
         return surplus;
     };
-    let own = walk::walk_datas(p, number(p, a + 10), number(p, a + 5), m, v, next);
-    let Walked::To { next: end, records } = own else {
-        return own;
-    };
-    let rest = wire::skip_datas(m, datas, end);
+    let rest = walk_all_datas(p, a, m, v, datas, next);
     let Walked::To { next: last, .. } = rest else {
         return rest;
     };
     if last == m.len() {
-        return Walked::To {
-            next: last,
-            records,
-        };
+        return rest;
     }
     wire::refuse(20, last)
 }
@@ -103,9 +113,9 @@ fn walk_root(p: &&[u64], a: usize, m: &&[u8], v: usize, l: usize, path: &&[u64])
     }
 }
 
-// A message that was walked: where its template's block stands; its version; the root's octets, and how many surplus groups
-// follow its own; how many records its groups have, where no path was to be followed; where the entry starts that the
-// path leads to, 0 if there is none, and its block's octets. Or the refusal.
+// A message that was walked: where its template's block stands; its version; the root's octets, and how many surplus
+// groups follow its own; how many records its groups have, where no path was to be followed; where the entry starts
+// that the path leads to, 0 if there is none, and its block's octets. Or the refusal.
 pub enum Entered {
     At {
         block: usize,

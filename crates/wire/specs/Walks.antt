@@ -1,8 +1,8 @@
 -- What walking a part of a message comes to, by the definition's answer.
-use Prim.Native.Nat.{ℕ, _+_, _≤_}
+use Prim.Native.Nat.{ℕ, _≤_}
 use Rattle.layout.specs.Result.{Result, done, refused}
 use Rattle.layout.specs.Contracts.{refusal}
-use Rattle.layout.specs.Message.{headerSize, dimensionSize}
+use Rattle.layout.specs.Message.{headerSize}
 use Rattle.layout.specs.declared.Answer.{Answer}
 use Rattle.wire.specs.declared.Walked.{Walked}
 use Rattle.wire.specs.declared.Walked.the-variants.{To, Refused}
@@ -17,10 +17,6 @@ dataEnd (a, x) = (x, 1)
 
 abbrev pub skipEnd : ℕ → ℕ × ℕ
 skipEnd x = (x, 0)
-
--- The group's own record.
-abbrev pub dimensionEnd : ℕ → ℕ × ℕ → ℕ × ℕ
-dimensionEnd at d = (at + dimensionSize, 1)
 
 abbrev pub headerEnd : Unit {0} → ℕ × ℕ
 headerEnd u = (headerSize, 0)

@@ -1,12 +1,14 @@
 // What stands in a message whatever the book: the header, dimensions, data, and the surplus of a newer version.
 use layout::Refusal;
 ghost use mathlib.Core.Path.{_≡_};
-ghost use Prim.Native.Nat.{_≤_};
+ghost use Prim.Native.Nat.{_+_, _≤_};
 ghost use lib.ListN.{length};
 ghost use Rattle.layout.specs.Contracts.{refusal};
 ghost use Rattle.layout.specs.Message.{readData, skipDatas, readDimension, skipGroups, checkHeader};
-ghost use Rattle.wire.specs.Walks.{walked, dataEnd, skipEnd, dimensionEnd, headerEnd, Inside};
+ghost use Rattle.octets.specs.Spelt.{Spelt};
+ghost use Rattle.wire.specs.Walks.{walked, dataEnd, skipEnd, headerEnd, Inside};
 ghost use Rattle.wire.specs.Dimensions.{dimensioned};
+ghost use Rattle.wire.specs.Headers.{IsHeader};
 
 // What walking a part of a message comes to: the octet after it and its number of records, or the refusal.
 pub enum Walked {
@@ -20,6 +22,14 @@ pub fn refuse(number: u8, place: usize) -> Walked
     Walked::Refused(Refusal { number, place })
 }
 
+// The length of the data that stands at `at`.
+pub fn data_length(m: &[u8], at: usize) -> usize
+    requires { ⌜ at + 2 ≤ length (now m) ⌝ }
+    ensures { λ r. ⌜ Spelt 2 (now (m .entry)) at r ⌝ }
+{
+    octets::get2(m, at) as usize
+}
+
 // The data at `at`: its length and that many octets.
 pub fn read_data(m: &[u8], at: usize) -> Walked
     requires { ⌜ at ≤ length (now m) ⌝ }
@@ -30,7 +40,7 @@ pub fn read_data(m: &[u8], at: usize) -> Walked
     if left < 2 {
         return refuse(16, at);
     }
-    let n = octets::get2(m, at) as usize;
+    let n = data_length(m, at);
     if 65535 <= n {
         return refuse(19, at);
     }
@@ -65,28 +75,20 @@ pub fn skip_datas(m: &[u8], n: usize, at: usize) -> Walked
     }
 }
 
-// The dimension at `at`: a block length of at least `least`, and an entry count.
-pub fn read_dimension(m: &[u8], least: usize, at: usize) -> Walked
-    requires { ⌜ at ≤ length (now m) ⌝ }
-    ensures { λ r. ⌜ r ≡ walked (dimensionEnd at) (readDimension (now (m .entry)) least at) ⌝ }
-    ensures { λ r. ⌜ Inside (length (now (m .entry))) at r ⌝ }
+// The numbers of a dimension: the octets of a block, and the entries.
+pub struct Sizes {
+    pub length: usize,
+    pub entries: usize,
+}
+
+// The dimension that stands at `at`, whatever it says.
+pub fn sizes_at(m: &[u8], at: usize) -> Sizes
+    requires { ⌜ at + 4 ≤ length (now m) ⌝ }
+    ensures { λ r. ⌜ Spelt 2 (now (m .entry)) at (r .length) × Spelt 2 (now (m .entry)) (at + 2) (r .entries) ⌝ }
 {
-    if m.len() - at < 4 {
-        return refuse(16, at);
-    }
-    let l = octets::get2(m, at) as usize;
-    if 65535 <= l {
-        return refuse(17, at);
-    }
-    if 65535 <= octets::get2(m, at + 2) {
-        return refuse(17, at);
-    }
-    if l < least {
-        return refuse(18, at);
-    }
-    Walked::To {
-        next: at + 4,
-        records: 1,
+    Sizes {
+        length: octets::get2(m, at) as usize,
+        entries: octets::get2(m, at + 2) as usize,
     }
 }
 
@@ -110,21 +112,44 @@ pub fn open_group(m: &[u8], least: usize, at: usize) -> Dimension
     if m.len() - at < 4 {
         return no_dimension(16, at);
     }
-    let length = octets::get2(m, at) as usize;
-    let entries = octets::get2(m, at + 2) as usize;
-    if 65535 <= length {
+    let sizes = sizes_at(m, at);
+    if 65535 <= sizes.length {
         return no_dimension(17, at);
     }
-    if 65535 <= entries {
+    if 65535 <= sizes.entries {
         return no_dimension(17, at);
     }
-    if length < least {
+    if sizes.length < least {
         return no_dimension(18, at);
     }
-    Dimension::Of { length, entries }
+    Dimension::Of {
+        length: sizes.length,
+        entries: sizes.entries,
+    }
 }
 
-// n surplus groups, each passed as a dimension and block length times entries.
+// One surplus group, passed as a dimension and block length times entries.
+fn skip_group(m: &[u8], at: usize) -> Walked
+    requires { ⌜ at ≤ length (now m) ⌝ }
+    ensures { λ r. ⌜ r ≡ walked skipEnd (skipGroups (now (m .entry)) 1 at) ⌝ }
+    ensures { λ r. ⌜ Inside (length (now (m .entry))) at r ⌝ }
+{
+    match open_group(m, 0, at) {
+        Dimension::Refused(refusal) => Walked::Refused(refusal),
+        Dimension::Of { length, entries } => {
+            let size = length * entries;
+            if m.len() - at - 4 < size {
+                return refuse(16, at);
+            }
+            Walked::To {
+                next: at + 4 + size,
+                records: 0,
+            }
+        }
+    }
+}
+
+// n surplus groups.
 pub fn skip_groups(m: &[u8], n: usize, at: usize) -> Walked
     requires { ⌜ at ≤ length (now m) ⌝ }
     ensures { λ r. ⌜ r ≡ walked skipEnd (skipGroups (now (m .entry)) n at) ⌝ }
@@ -133,15 +158,11 @@ pub fn skip_groups(m: &[u8], n: usize, at: usize) -> Walked
     let mut x = at;
     let mut left = n;
     while 0 < left {
-        let dimension = read_dimension(m, 0, x);
-        let Walked::To { next, .. } = dimension else {
-            return dimension;
+        let group = skip_group(m, x);
+        let Walked::To { next, .. } = group else {
+            return group;
         };
-        let size = octets::get2(m, x) as usize * octets::get2(m, x + 2) as usize;
-        if m.len() - next < size {
-            return refuse(16, x);
-        }
-        x = next + size;
+        x = next;
         left = left - 1;
     }
     Walked::To {
@@ -150,17 +171,36 @@ pub fn skip_groups(m: &[u8], n: usize, at: usize) -> Walked
     }
 }
 
-// The header, up to the template id: 10 to 12.
+// The numbers of a header.
+pub struct Header {
+    pub length: usize,
+    pub template: usize,
+    pub schema: usize,
+    pub version: usize,
+    pub groups: usize,
+    pub datas: usize,
+}
+
+// The header that a message starts with, whatever it says.
+pub fn header_of(m: &[u8]) -> Header
+    requires { ⌜ 12 ≤ length (now m) ⌝ }
+    ensures { λ r. ⌜ IsHeader (now (m .entry)) r ⌝ }
+{
+    Header {
+        length: octets::get2(m, 0) as usize,
+        template: octets::get2(m, 2) as usize,
+        schema: octets::get2(m, 4) as usize,
+        version: octets::get2(m, 6) as usize,
+        groups: octets::get2(m, 8) as usize,
+        datas: octets::get2(m, 10) as usize,
+    }
+}
+
+// The header, up to the template id, of a message of no length for 10: 11 and 12.
 pub fn read_header(m: &[u8], schema: usize) -> Walked
+    requires { ⌜ (12 ≤ length (now m)) × (length (now m) ≤ 65535) ⌝ }
     ensures { λ r. ⌜ r ≡ walked headerEnd (checkHeader schema (now (m .entry))) ⌝ }
 {
-    let n = m.len();
-    if n < 12 {
-        return refuse(10, 0);
-    }
-    if 65535 < n {
-        return refuse(10, 0);
-    }
     let mut at = 0;
     while at < 12 {
         if 65535 <= octets::get2(m, at) {

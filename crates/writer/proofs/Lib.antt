@@ -1,5 +1,3 @@
-pub mod Going
-pub mod Loops
-pub mod Way
-pub mod Laws
+pub mod Zeros
+pub mod Parts
 pub mod Message

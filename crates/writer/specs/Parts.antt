@@ -10,7 +10,7 @@ use Rattle.layout.specs.BookRules.{fieldAt}
 use Rattle.layout.specs.Writing.{fieldOctets, first, isGroup, judgeData, judgeField, judgeListing, messageOctets}
 use Rattle.layout.specs.Writing.{numbers16, second, spanOctets, spanOf}
 use Rattle.prepared.specs.Positions.{Derived, innerAt, shapeAt}
-use Rattle.writer.specs.Prints.{Printed, andThen, got, not, prepend, printed}
+use Rattle.prints.specs.Prints.{Printed, andThen, got, not, prepend, printed}
 
 -- The number of record i, or x where it is null.
 abbrev pub numberOr : List ℕ → ℕ → ℕ → ℕ
@@ -42,14 +42,12 @@ module _ (l pool : List ℕ) where
       andThen (fieldsPart (s .length) 0 (s .fields) i)
       (λ j. andThen (row j) (λ d. andThen (datasPart (length (s .datas)) d) (entriesPart s row k)))
 
-  unfoldable pub groupPart : Shape → (ℕ → Printed) → ℕ → Printed
-  groupPart s row i =
-      if isGroup l i and ltb (second l i) null16 then prepend (numbers16 (s .length ∷ second l i ∷ [])) (entriesPart s
-      row (second l i) (i + 1)) else not
-
   unfoldable pub groupsPart : Groups → ℕ → Printed
   groupsPart none i = got i []
-  groupsPart (more id since s inner rest) i = andThen (groupPart s (groupsPart inner) i) (groupsPart rest)
+  groupsPart (more id since s inner rest) i =
+      if isGroup l i and ltb (second l i) null16
+      then andThen (got (i + 1) (numbers16 (s .length ∷ second l i ∷ [])))
+      (λ j. andThen (entriesPart s (groupsPart inner) (second l i) j) (groupsPart rest)) else not
 
   -- k entries of the block at a.
   abbrev pub entriesAt : List ℕ → ℕ → ℕ → ℕ → ℕ → Printed

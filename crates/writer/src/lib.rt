@@ -1,24 +1,55 @@
 // Writes the message that a listing gives which was judged before: it is good and the room has space, so nothing is
-// refused. The room is zeros all over, so padding is not stored. Each element is written into the part of the room that
-// follows the one before, from that part's start.
+// refused. The room is zeros all over, so padding is not stored. Each element's writer is lent the room from the cursor
+// on, and stores from that part's start.
 use prepared::number;
 ghost use mathlib.Core.Path.{_≡_};
 ghost use mathlib.Core.List.{[], _∷_};
 ghost use Prim.Native.Nat.{_+_, _*_, _/_, _^_, _<_, _≤_};
-ghost use lib.ListN.{length, take, drop, replicate};
+ghost use lib.ListN.{length, take, drop, getD, replicate};
 ghost use lib.Seq.{sets};
 ghost use Rattle.layout.specs.BookRules.{fieldAt, word};
-ghost use Rattle.layout.specs.Writing.{first, headerOf, numbers16, second};
+ghost use Rattle.layout.specs.Writing.{headerOf, numbers16};
 ghost use Rattle.prepared.specs.Books.{bookAt, templateAt};
-ghost use Rattle.prepared.specs.Positions.{BlockAt, IsBlock, IsRow, groupsAt, shapeAt};
-ghost use Rattle.writer.specs.Prints.{Ready, Room, Stored, numbersOf};
-ghost use Rattle.writer.specs.Parts.{FieldAt, datasPart, entriesAt, fieldsPart, groupsPart, messagePart};
-ghost use Rattle.writer.specs.Parts.{numberOr, valuePart};
+ghost use Rattle.prepared.specs.Positions.{BlockAt, IsBlock, dataCount, innerAt, shapeAt};
+ghost use Rattle.prints.specs.Prints.{Printed, Room, Stored, numbersOf};
+ghost use Rattle.writer.specs.Heads.{IsHead};
+ghost use Rattle.writer.specs.Zeros.{Ready, ZerosFrom};
+ghost use Rattle.writer.specs.Parts.{FieldAt, dataPart, datasPart, entriesAt, fieldsPart, groupsPart};
+ghost use Rattle.writer.specs.Parts.{messagePart, numberOr, valuePart};
 
-// Where the pass stands: the number of the next record, and how many octets of the lent part are taken.
+// Where the pass stands: the number of the next record, and how many octets of the room are taken.
 pub struct Cursor {
     pub record: usize,
     pub at: usize,
+}
+
+// What is read once of a block for all its entries: its octets, its fields, where what is worked out of them stands,
+// and how many groups and data follow.
+pub struct Head {
+    pub length: usize,
+    pub fields: usize,
+    pub table: usize,
+    pub follow: usize,
+}
+
+fn head_at(p: &[u64], a: usize) -> Head
+    requires { ⌜ IsBlock (now p) a ⌝ }
+    ensures { λ r. ⌜ IsHead (now (p .entry)) a r ⌝ }
+{
+    Head {
+        length: number(p, a + 2),
+        fields: number(p, a + 3),
+        table: number(p, a + 11),
+        follow: number(p, a + 7),
+    }
+}
+
+// Number k of record i.
+fn number_of(listing: &[u64], i: usize, k: usize) -> u64
+    requires { ⌜ (i < length (now listing) / 3) × (k < 3) ⌝ }
+    ensures { λ r. ⌜ (r ≡ getD (now (listing .entry)) (3 * i + k) 0) × (i + 1 < 2 ^ 64) ⌝ }
+{
+    listing[3 * i + k]
 }
 
 // The len octets of the pool from `start` on.
@@ -73,68 +104,90 @@ fn write_value(
 {
     let len = number(p, f + 2);
     if 1 < len {
-        put_octets(room, pool, listing[3 * i + 1] as usize, len);
+        put_octets(room, pool, number_of(listing, i, 1) as usize, len);
         return;
     }
     let x = number_for(p, t, listing, i);
     number_types::store(room, 0, number(p, t + 4), x);
 }
 
-// The block at a without its groups and data, from record `start` on: the record after its fields. Each field is stored
-// at its offset, and the zeros between them stand already.
+// The block at a without its groups and data. Each field is stored at its offset, and the zeros
+// between them stand already.
 fn write_fields(
     p: &[u64],
     a: usize,
+    h: Head,
     listing: &[u64],
-    start: usize,
     pool: &[u8],
     room: &mut [u8],
-) -> usize
-    requires { ⌜ IsBlock (now p) a ⌝ }
-    requires { ⌜ Ready (fieldsPart (now listing) (now pool) (word (now p) (a + 2)) 0 (shapeAt (now p) a .fields) start)
-        (now room) ⌝ }
+    c: Cursor,
+) -> Cursor
+    requires { ⌜ IsBlock (now p) a × IsHead (now p) a h × ZerosFrom (c .at) (now room) ⌝ }
+    requires { ⌜ Room (fieldsPart (now listing) (now pool) (word (now p) (a + 2)) 0 (shapeAt (now p) a .fields)
+        (c .record)) (c .at) (length (now room)) ⌝ }
     ensures { λ r. ⌜ Stored (fieldsPart (now (listing .entry)) (now (pool .entry)) (word (now (p .entry)) (a + 2)) 0
-        (shapeAt (now (p .entry)) a .fields) start) 0 (now (room .entry)) r (word (now (p .entry)) (a + 2))
+        (shapeAt (now (p .entry)) a .fields) (c .record)) (c .at) (now (room .entry)) (r .record) (r .at)
         (now (room .exit)) ⌝ }
 {
-    let mut left = number(p, a + 3);
+    let start = c.at;
+    let mut left = h.fields;
     let mut f = a + 12;
-    let mut t = number(p, a + 11);
-    let mut i = start;
+    let mut t = h.table;
+    let mut i = c.record;
     while 0 < left {
-        let at = number(p, f + 3);
+        let at = start + number(p, f + 3);
         write_value(p, f, t, listing, i, pool, &mut room[at..]);
         f = f + 6;
         t = t + 5;
         i = i + 1;
         left = left - 1;
     }
-    i
+    Cursor {
+        record: i,
+        at: start + h.length,
+    }
 }
 
-// n data, from record `start` on.
-fn write_datas(n: usize, listing: &[u64], start: usize, pool: &[u8], room: &mut [u8]) -> Cursor
-    requires { ⌜ Ready (datasPart (now listing) (now pool) n start) (now room) ⌝ }
-    ensures { λ r. ⌜ Stored (datasPart (now (listing .entry)) (now (pool .entry)) n start) 0 (now (room .entry))
-        (r .record) (r .at) (now (room .exit)) ⌝ }
+// The data of record i: how many octets it has.
+fn write_data(listing: &[u64], i: usize, pool: &[u8], room: &mut [u8]) -> usize
+    requires { ⌜ Room (dataPart (now listing) (now pool) i) 0 (length (now room)) ⌝ }
+    ensures { λ r. ⌜ Stored (dataPart (now (listing .entry)) (now (pool .entry)) i) 0 (now (room .entry)) (i + 1) r
+        (now (room .exit)) × (i + 1 < 2 ^ 64) ⌝ }
 {
-    let mut left = n;
-    let mut i = start;
-    let mut at = 0;
+    let len = number_of(listing, i, 2);
+    octets::put2(room, 0, len);
+    let start = number_of(listing, i, 1);
+    put_octets(&mut room[2..], pool, start as usize, len as usize);
+    2 + len as usize
+}
+
+// The data of the block at a.
+fn write_datas(
+    p: &[u64],
+    a: usize,
+    listing: &[u64],
+    pool: &[u8],
+    room: &mut [u8],
+    c: Cursor,
+) -> Cursor
+    requires { ⌜ IsBlock (now p) a ⌝ }
+    requires { ⌜ Room (datasPart (now listing) (now pool) (dataCount (now p) a) (c .record)) (c .at) (length
+        (now room)) ⌝ }
+    ensures { λ r. ⌜ Stored (datasPart (now (listing .entry)) (now (pool .entry)) (dataCount (now (p .entry)) a)
+        (c .record)) (c .at) (now (room .entry)) (r .record) (r .at) (now (room .exit)) ⌝ }
+{
+    let mut left = number(p, a + 5);
+    let mut here = c;
     while 0 < left {
-        let len = listing[3 * i + 2];
-        octets::put2(room, at, len);
-        put_octets(
-            &mut room[at + 2..],
-            pool,
-            listing[3 * i + 1] as usize,
-            len as usize,
-        );
-        at = at + 2 + len as usize;
-        i = i + 1;
+        let at = here.at;
+        let n = write_data(listing, here.record, pool, &mut room[at..]);
+        here = Cursor {
+            record: here.record + 1,
+            at: at + n,
+        };
         left = left - 1;
     }
-    Cursor { record: i, at }
+    here
 }
 
 // Two 16-bit numbers at `at`.
@@ -146,16 +199,19 @@ fn put_two(room: &mut [u8], at: usize, x: u64, y: u64)
     octets::put2(room, at + 2, y);
 }
 
-// The dimension of the group at a, from record i: how many entries it has.
-fn put_dimension(p: &[u64], a: usize, listing: &[u64], i: usize, room: &mut [u8], at: usize) -> u64
-    requires { ⌜ (a + 2 < length (now p)) × (i < length (now listing) / 3) × (at + 4 ≤ length (now room)) ⌝ }
-    ensures { λ r. ⌜ (r ≡ second (now (listing .entry)) i) × (i + 1 < 2 ^ 64) ⌝ }
-    ensures { λ _. ⌜ now (room .exit) ≡ sets (now (room .entry)) at (numbers16 (word (now (p .entry)) (a + 2)
-        ∷ second (now (listing .entry)) i ∷ [])) ⌝ }
+// The dimension of the group at a, which has k entries.
+fn put_dimension(p: &[u64], a: usize, k: u64, room: &mut [u8], c: Cursor) -> Cursor
+    requires { ⌜ (a + 2 < length (now p)) × (c .record + 1 < 2 ^ 64) ⌝ }
+    requires { ⌜ Room (Printed.got (c .record + 1) (numbers16 (word (now p) (a + 2) ∷ k ∷ []))) (c .at) (length
+        (now room)) ⌝ }
+    ensures { λ r. ⌜ Stored (Printed.got (c .record + 1) (numbers16 (word (now (p .entry)) (a + 2) ∷ k ∷ []))) (c .at)
+        (now (room .entry)) (r .record) (r .at) (now (room .exit)) ⌝ }
 {
-    let k = listing[3 * i + 1];
-    put_two(room, at, p[a + 2], k);
-    k
+    put_two(room, c.at, p[a + 2], k);
+    Cursor {
+        record: c.record + 1,
+        at: c.at + 4,
+    }
 }
 
 // The header of a message of the template at a: six numbers.
@@ -176,89 +232,65 @@ fn write_entries(
     depth: usize,
     k: u64,
     listing: &&[u64],
-    start: usize,
     pool: &&[u8],
     room: &mut [u8],
+    c: Cursor,
 ) -> Cursor
-    requires { ⌜ BlockAt (now (now p)) depth a ⌝ }
-    requires { ⌜ Ready (entriesAt (now (now listing)) (now (now pool)) (now (now p)) depth a k start) (now room) ⌝ }
+    requires { ⌜ BlockAt (now (now p)) depth a × ZerosFrom (c .at) (now room) ⌝ }
+    requires { ⌜ Room (entriesAt (now (now listing)) (now (now pool)) (now (now p)) depth a k (c .record)) (c .at)
+        (length (now room)) ⌝ }
     ensures { λ r. ⌜ Stored (entriesAt (now (now (listing .entry))) (now (now (pool .entry))) (now (now (p .entry)))
-        depth a k start) 0 (now (room .entry)) (r .record) (r .at) (now (room .exit)) ⌝ }
+        depth a k (c .record)) (c .at) (now (room .entry)) (r .record) (r .at) (now (room .exit)) ⌝ }
 {
     let s = *p;
     let t = *listing;
     let o = *pool;
-    let l = number(s, a + 2);
+    let block = head_at(s, a);
     let mut due = k;
-    let mut i = start;
-    let mut at = 0;
+    let mut here = c;
     while 0 < due {
         due = due - 1;
-        i = write_fields(s, a, t, i, o, &mut room[at..]);
-        at = at + l;
-        if number(s, a + 7) == 0 {
+        here = write_fields(s, a, block, t, o, room, here);
+        if block.follow == 0 {
             continue;
         }
-        let row = write_row(
-            p,
-            number(s, a + 9),
-            number(s, a + 4),
-            depth,
-            listing,
-            i,
-            pool,
-            &mut room[at..],
-        );
-        at = at + row.at;
-        let datas = write_datas(number(s, a + 5), t, row.record, o, &mut room[at..]);
-        at = at + datas.at;
-        i = datas.record;
+        let row = write_row(p, a, depth, listing, pool, room, here);
+        here = write_datas(s, a, t, o, room, row);
     }
-    Cursor { record: i, at }
+    here
 }
 
-// The n groups in a row at `first`, `depth` more levels being left.
+// The groups of the block at a, `depth` more levels being left.
 fn write_row(
     p: &&[u64],
-    first: usize,
-    n: usize,
+    a: usize,
     depth: usize,
     listing: &&[u64],
-    start: usize,
     pool: &&[u8],
     room: &mut [u8],
+    c: Cursor,
 ) -> Cursor
-    requires { ⌜ IsRow (now (now p)) depth n first ⌝ }
-    requires { ⌜ Ready (groupsPart (now (now listing)) (now (now pool)) (groupsAt (now (now p)) depth n first) start)
-        (now room) ⌝ }
-    ensures { λ r. ⌜ Stored (groupsPart (now (now (listing .entry))) (now (now (pool .entry))) (groupsAt (now (now (p
-        .entry))) depth n first) start) 0 (now (room .entry)) (r .record) (r .at) (now (room .exit)) ⌝ }
+    requires { ⌜ BlockAt (now (now p)) depth a × ZerosFrom (c .at) (now room) ⌝ }
+    requires { ⌜ Room (groupsPart (now (now listing)) (now (now pool)) (innerAt (now (now p)) depth a) (c .record))
+        (c .at) (length (now room)) ⌝ }
+    ensures { λ r. ⌜ Stored (groupsPart (now (now (listing .entry))) (now (now (pool .entry))) (innerAt (now (now (p
+        .entry))) depth a) (c .record)) (c .at) (now (room .entry)) (r .record) (r .at) (now (room .exit)) ⌝ }
 {
     let s = *p;
     let t = *listing;
-    let mut a = first;
-    let mut left = n;
-    let mut i = start;
-    let mut at = 0;
+    let mut g = number(s, a + 9);
+    let mut left = number(s, a + 4);
+    let mut here = c;
     while 0 < left {
-        prepared::open_row(s, a, left, depth);
+        prepared::open_row(s, g, left, depth);
+        let block = g;
+        g = number(s, block + 8);
         left = left - 1;
-        let k = put_dimension(s, a, t, i, room, at);
-        let entries = write_entries(
-            p,
-            a,
-            depth - 1,
-            k,
-            listing,
-            i + 1,
-            pool,
-            &mut room[at + 4..],
-        );
-        i = entries.record;
-        at = at + 4 + entries.at;
-        a = number(s, a + 8);
+        let k = number_of(t, here.record, 1);
+        let inside = put_dimension(s, block, k, room, here);
+        here = write_entries(p, block, depth - 1, k, listing, pool, room, inside);
     }
-    Cursor { record: i, at }
+    here
 }
 
 // The message of a listing that was judged, by the template at a.
@@ -270,5 +302,6 @@ pub fn write_message(p: &&[u64], a: usize, listing: &&[u64], pool: &&[u8], room:
         .entry))) (now (now (pool .entry))) (bookAt (now (now (p .entry)))) (templateAt (now (now (p .entry))) a))) ⌝ }
 {
     put_header(*p, a, room);
-    write_entries(p, a, 4, 1, listing, 0, pool, &mut room[12..]);
+    let root = Cursor { record: 0, at: 12 };
+    write_entries(p, a, 4, 1, listing, pool, room, root);
 }

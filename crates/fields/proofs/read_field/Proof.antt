@@ -4,7 +4,7 @@ use Prim.Native.Nat.{_≤_}
 use borrow.Author.Needs.{needs}
 use Rattle.layout.specs.Book.{Field}
 use Rattle.layout.specs.BookRules.{fieldAt}
-use Rattle.fields.proofs.Laws.{field-absent, field-number, field-octets, number-inside}
+use Rattle.fields.proofs.Fields.{field-absent, field-number, field-octets, number-inside}
 use Rattle.fields.proofs.read_field.Statement.{statement}
 use Rattle.fields.proofs.read_field.Tie as tie
 

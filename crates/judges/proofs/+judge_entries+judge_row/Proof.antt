@@ -13,8 +13,8 @@ use Rattle.prepared.proofs.Open.{no-groups-at}
 use Rattle.prepared.proofs.number.Reads as number-reads
 use Rattle.prepared.proofs.open_row.Reads as open-row-reads
 use Rattle.judges.specs.Judges.{entriesAt, judged, limit, rowEnd}
-use Rattle.judges.proofs.Laws.{entries-end, entry-datas, entry-fields, entry-next, entry-row, plain-next}
-use Rattle.judges.proofs.Laws.{row-end, row-entries, row-many, row-next, row-other}
+use Rattle.judges.proofs.Judging.{entries-end, entry-datas, entry-fields, entry-next, entry-row, plain-next}
+use Rattle.judges.proofs.Judging.{row-end, row-entries, row-many, row-next, row-other}
 use Rattle.judges.proofs.refuse.Reads as refuse-reads
 use Rattle.judges.proofs.plus.Reads as plus-reads
 use Rattle.judges.proofs.is_group.Reads as is-group-reads

@@ -3,7 +3,7 @@ use mathlib.Core.Path.{refl}
 use Prim.Native.Nat.{_/_, _<_}
 use native.Mathlib.Omega.{arith}
 use lib.ListN.{length}
-use Rattle.judges.proofs.Laws.{group-there}
+use Rattle.judges.proofs.Judging.{group-there}
 use Rattle.judges.proofs.entries_in.Statement.{statement}
 use Rattle.judges.proofs.entries_in.Tie as tie
 

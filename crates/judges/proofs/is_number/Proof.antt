@@ -3,7 +3,7 @@ use mathlib.Core.Path.{refl}
 use borrow.Author.Needs.{needs}
 use borrow.Author.Tests.{eq-eqb, ne-eqb}
 use Rattle.layout.specs.Result.{_and_, _or_}
-use Rattle.judges.proofs.Laws.{is-there, missing}
+use Rattle.judges.proofs.Judging.{is-there, missing}
 use Rattle.judges.proofs.is_number.Statement.{statement}
 use Rattle.judges.proofs.is_number.Tie as tie
 

@@ -7,7 +7,7 @@ use Rattle.layout.specs.BookRules.{parseDatas}
 use Rattle.layout.specs.Writing.{judgeDatas}
 use Rattle.prepared.specs.Positions.{datasFrom, shapeAt}
 use Rattle.judges.specs.Judges.{datasEnd, judged, limit}
-use Rattle.judges.proofs.Laws.{datas-end, datas-long, datas-next, datas-refused}
+use Rattle.judges.proofs.Judging.{datas-end, datas-long, datas-next, datas-refused}
 use Rattle.judges.proofs.judge_datas.Statement.{statement}
 use Rattle.judges.proofs.judge_datas.Tie as tie
 

@@ -3,7 +3,7 @@ use mathlib.Core.Path.{_∙_, refl, sym}
 use borrow.Author.Needs.{needs}
 use borrow.Author.Tests.{eq-eqb, ne-eqb}
 use Rattle.judges.specs.Judges.{fieldEnd}
-use Rattle.judges.proofs.Laws.{field-array, field-number, fit-not, fit-refused, fit-whole}
+use Rattle.judges.proofs.Judging.{field-array, field-number, fit-not, fit-refused, fit-whole}
 use Rattle.judges.proofs.judge_field.Statement.{statement}
 use Rattle.judges.proofs.judge_field.Tie as tie
 

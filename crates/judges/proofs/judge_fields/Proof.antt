@@ -7,7 +7,7 @@ use Rattle.layout.specs.BookRules.{parseFields}
 use Rattle.layout.specs.Writing.{judgeFields}
 use Rattle.prepared.specs.Positions.{IsBlock, fieldCount, fieldsFrom, shapeAt, tableFrom}
 use Rattle.judges.specs.Judges.{fieldsEnd, judged}
-use Rattle.judges.proofs.Laws.{field-here, fields-end, fields-next, fields-refused}
+use Rattle.judges.proofs.Judging.{field-here, fields-end, fields-next, fields-refused}
 use Rattle.judges.proofs.judge_fields.Statement.{statement}
 use Rattle.judges.proofs.judge_fields.Tie as tie
 

@@ -2,7 +2,7 @@
 use mathlib.Core.Path.{_∙_, sym}
 use native.Mathlib.Omega.{arith}
 use borrow.Author.Needs.{needs}
-use Rattle.judges.proofs.Laws.{listing-left, listing-refused, listing-whole}
+use Rattle.judges.proofs.Judging.{listing-left, listing-refused, listing-whole}
 use Rattle.judges.proofs.judge_listing.Statement.{statement}
 use Rattle.judges.proofs.judge_listing.Tie as tie
 

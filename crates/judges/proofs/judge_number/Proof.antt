@@ -7,7 +7,7 @@ use lib.ListN.{length}
 use borrow.Author.Needs.{needs}
 use borrow.Author.Tests.{not-false, not-true}
 use Rattle.layout.specs.Writing.{isNumber}
-use Rattle.judges.proofs.Laws.{number-other, number-outside, number-there, number-whole}
+use Rattle.judges.proofs.Judging.{number-other, number-outside, number-there, number-whole}
 use Rattle.judges.proofs.judge_number.Statement.{statement}
 use Rattle.judges.proofs.judge_number.Tie as tie
 

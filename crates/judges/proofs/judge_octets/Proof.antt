@@ -2,7 +2,7 @@
 use mathlib.Core.Path.{_∙_, sym}
 use native.Mathlib.Omega.{arith}
 use borrow.Author.Needs.{needs}
-use Rattle.judges.proofs.Laws.{octets-missing, octets-other, octets-past, octets-whole}
+use Rattle.judges.proofs.Judging.{octets-missing, octets-other, octets-past, octets-whole}
 use Rattle.judges.proofs.judge_octets.Statement.{statement}
 use Rattle.judges.proofs.judge_octets.Tie as tie
 

@@ -4,7 +4,7 @@ use native.Mathlib.Omega.{arith}
 use borrow.Author.Needs.{needs}
 use borrow.Author.Tests.{eq-eqb, ne-eqb}
 use Rattle.layout.specs.Result.{if_then_else_}
-use Rattle.judges.proofs.Laws.{within}
+use Rattle.judges.proofs.Judging.{within}
 use Rattle.judges.proofs.number_fits.Statement.{statement}
 use Rattle.judges.proofs.number_fits.Tie as tie
 

@@ -1,31 +1,43 @@
 -- The header is refused, or what follows it is opened.
 use mathlib.Core.Path.{_∙_, ap, sym}
-use native.Mathlib.Omega.{arith}
 use borrow.Author.Needs.{needs}
-use Rattle.messages.specs.Openings.{opened}
-use Rattle.messages.proofs.Stages.{header-good, header-lent, header-refused}
+use Rattle.layout.specs.Result.{_>>=_}
+use Rattle.prepared.proofs.Found.{found}
+use Rattle.messages.specs.Openings.{known, opened}
+use Rattle.messages.proofs.Stages.{header-good, header-refused}
 use Rattle.messages.proofs.open_any.Statement.{statement}
 use Rattle.messages.proofs.open_any.Tie as tie
 
-open-known-requires : tie.Need-open-known-requires
-open-known-requires c κs =
-    let header = c .before .before in
-    let read = header .before in
-    let start = read .before .before .before in (
-      start .pre,
-      header-lent (start .args .p .now) _ _ (read .number .ensures) _ _ (sym (c .enum-told .given .1) ∙ header .read-header .ensures) .inside,
-    )
-
 returns : tie.Need-returns
+unfolding opened known _>>=_
 returns c =
-    let header = c .before .before .before in
-    let start = header .before .before .before .before in
-    c .open-known .ensures
-    ∙ ap (λ r. opened (start .args .m .now) r) (sym (header-good (start .args .p .now) _ _ (header .before .number .ensures) _ _
-    (sym (c .before .enum-told .given .1) ∙ header .read-header .ensures)))
+    let told = c .before .before .before in
+    let header = told .before .before in
+    let s = header .before .before .before .before in
+    c .refuse .ensures
+    ∙ sym (ap (opened (s .args .m .now)) (header-good (s .args .p .now) _ _ (header .before .number .ensures) _ _
+    (sym (told .enum-told .given .1) ∙ header .read-header .ensures) _ (s .pre .2 .template .value) _
+    (sym (c .before .enum-told2 .given .1) ∙ s .pre .3)))
+
+open-by-requires : tie.Need-open-by-requires
+open-by-requires c κs =
+    let told = c .before .before .before in
+    let s = told .before .before .before .before .before .before in
+    found _ (s .pre .0) _ _ (sym (s .pre .3) ∙ c .before .place .given .1) .block
 
 returns-2 : tie.Need-returns-2
+unfolding known _>>=_
 returns-2 c =
+    let told = c .before .before .before .before in
+    let header = told .before .before in
+    let s = header .before .before .before .before in
+    c .open-by .ensures (s .args .m .now) (s .pre .2)
+    ∙ sym (ap (opened (s .args .m .now)) (header-good (s .args .p .now) _ _ (header .before .number .ensures) _ _
+    (sym (told .enum-told .given .1) ∙ header .read-header .ensures) _ (s .pre .2 .template .value) _
+    (sym (c .before .before .place .given .1) ∙ s .pre .3)))
+
+returns-3 : tie.Need-returns-3
+returns-3 c =
     let header = c .before .before .before in
     sym (header-refused _ _ _ (header .before .number .ensures) _
     (sym (c .before .refusal .given .1) ∙ header .read-header .ensures))
@@ -33,5 +45,5 @@ returns-2 c =
 pub open-any-spec : {M : Type 1} → statement M
 open-any-spec =
     tie.close
-    (tie.spec (λ c κs. omega (arith, c .before .before .pre .fits)) (λ c κs. search needs) (λ c. search needs)
-    (λ c. search needs) open-known-requires returns returns-2)
+    (tie.spec (λ c κs. search needs) (λ c κs. search needs) (λ c. search needs) (λ c. search needs) (λ c. search needs)
+    (λ c. search needs) (λ c κs. search needs) returns open-by-requires returns-2 returns-3)

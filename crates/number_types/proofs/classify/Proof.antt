@@ -4,7 +4,7 @@ use borrow.Author.Needs.{needs}
 use borrow.Author.Tests.{eq-eqb, ne-eqb}
 use Rattle.layout.specs.Result.{_and_, if_then_else_}
 use Rattle.layout.specs.Types.{classify}
-use Rattle.number_types.proofs.Laws.{in-range-number}
+use Rattle.number_types.proofs.Types.{in-range-number}
 use Rattle.number_types.proofs.classify.Statement.{statement}
 use Rattle.number_types.proofs.classify.Tie as tie
 

@@ -2,7 +2,7 @@
 use mathlib.Core.Path.{sym}
 use native.Mathlib.Omega.{arith}
 use borrow.Author.Needs.{needs}
-use Rattle.number_types.proofs.Laws.{in-span}
+use Rattle.number_types.proofs.Types.{in-span}
 use Rattle.number_types.proofs.in_range.Statement.{statement}
 use Rattle.number_types.proofs.in_range.Tie as tie
 

@@ -5,7 +5,7 @@ use Prim.Native.Nat.{_*_, _+_, _-_, _/_, _<_, _^_, _≤_, ℕ}
 use native.Mathlib.Omega.{arith}
 use Rattle.layout.specs.Types.{rowOf}
 use Rattle.number_types.specs.Value.{kept}
-use Rattle.number_types.proofs.Laws.{each-width}
+use Rattle.number_types.proofs.Types.{each-width}
 use Rattle.number_types.proofs.integer.Statement.{statement}
 use Rattle.number_types.proofs.integer.Tie as tie
 

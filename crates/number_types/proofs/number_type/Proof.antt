@@ -7,7 +7,7 @@ use lib.Dec.{lit<}
 use lib.Pow.{shl-exact}
 use Rattle.layout.specs.Types.{widthOf}
 use Rattle.layout.proofs.TypeLaws.{width-at}
-use Rattle.number_types.proofs.Laws.{char-at, integer-at}
+use Rattle.number_types.proofs.Types.{char-at, integer-at}
 use Rattle.number_types.proofs.number_type.Statement.{statement}
 use Rattle.number_types.proofs.number_type.Tie as tie
 

@@ -2,7 +2,7 @@
 use mathlib.Core.Path.{_≡_}
 use native.Mathlib.Omega.{arith}
 use borrow.Author.Needs.{needs}
-use Rattle.number_types.proofs.Laws.{width-eight}
+use Rattle.number_types.proofs.Types.{width-eight}
 use Rattle.number_types.proofs.raw.Statement.{statement}
 use Rattle.number_types.proofs.raw.Tie as tie
 

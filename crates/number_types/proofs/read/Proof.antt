@@ -3,7 +3,7 @@ use mathlib.Core.Path.{_∙_, _≡_, sym}
 use Prim.Native.Nat.{_≤_}
 use native.Mathlib.Omega.{arith}
 use Rattle.layout.specs.Types.{typeAt}
-use Rattle.number_types.proofs.Laws.{char-at}
+use Rattle.number_types.proofs.Types.{char-at}
 use Rattle.number_types.proofs.read.Statement.{statement}
 use Rattle.number_types.proofs.read.Tie as tie
 

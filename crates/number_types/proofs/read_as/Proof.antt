@@ -2,7 +2,7 @@
 use mathlib.Core.Path.{refl}
 use native.Mathlib.Omega.{arith}
 use borrow.Author.Needs.{needs}
-use Rattle.number_types.proofs.Laws.{is-width}
+use Rattle.number_types.proofs.Types.{is-width}
 use Rattle.number_types.proofs.read_as.Statement.{statement}
 use Rattle.number_types.proofs.read_as.Tie as tie
 

@@ -5,7 +5,7 @@ use native.Mathlib.Omega.{arith}
 use borrow.Author.Needs.{needs}
 use Rattle.layout.specs.Result.{_and_, if_then_else_}
 use Rattle.layout.specs.Types.{typeAt, valueOf}
-use Rattle.number_types.proofs.Laws.{value-fits, value-high, value-low}
+use Rattle.number_types.proofs.Types.{value-fits, value-high, value-low}
 use Rattle.number_types.proofs.value_of.Statement.{statement}
 use Rattle.number_types.proofs.value_of.Tie as tie
 

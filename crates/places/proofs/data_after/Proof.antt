@@ -3,7 +3,7 @@ use mathlib.Core.Path.{ap, sym, _∙_}
 use native.Mathlib.Omega.{arith}
 use borrow.Author.Needs.{needs}
 use Rattle.walk.proofs.Ways.{leads}
-use Rattle.wire.proofs.Laws.{lies-on}
+use Rattle.wire.proofs.Answers.{lies-on}
 use Rattle.places.specs.Elements.{dataRead}
 use Rattle.places.proofs.Elements.{datas-after, not-refused, rest-to, row-to}
 use Rattle.places.proofs.data_after.Statement.{statement}

@@ -2,7 +2,10 @@
 use mathlib.Core.Path.{sym, _∙_}
 use native.Mathlib.Omega.{arith}
 use borrow.Author.Needs.{needs}
-use Rattle.places.proofs.Elements.{group-here, groups-before, not-refused}
+use Rattle.prepared.specs.Positions.{groupCount, groupsFrom}
+use Rattle.walk.specs.Walks.{rowAt}
+use Rattle.places.specs.Elements.{groupRead}
+use Rattle.places.proofs.Elements.{GroupHere, group-here, groups-before, not-refused}
 use Rattle.places.proofs.Places.{group-halves, opens}
 use Rattle.places.proofs.group_at.Statement.{statement}
 use Rattle.places.proofs.group_at.Tie as tie
@@ -39,52 +42,29 @@ number-requires-2 c κs =
     let group = rw (first .number .ensures) at (c .skip-row .ensures) in
     omega (arith, group, opens _ _ _ _ (pre .0) (pre .2) .first .block .fieldsFit)
 
-returns-2 : tie.Need-returns-2
-returns-2 c =
-    let skip = c .before .before in
-    let told = skip .before .before in
+-- What the group is, by the since that is read.
+here : (c : tie.After-number2) → let told = c .before .before .before in
+    let s = told .before .before .before .before .before .args in
+    let p = s .p .now .now in
+    GroupHere (s .m .now .now) (s .v) (c .number2 .result) (told .passed .given .0 .0)
+    (groupRead (s .k) (rowAt p (s .depth) (groupCount p (s .a)) (groupsFrom p (s .a)) (s .m .now .now) (s .v)
+    (s .start)))
+here c =
+    let told = c .before .before .before in
     let pass = told .before .before in
     let pre = pass .before .before .before .pre in
-    let walks = sym (told .passed .given .1) ∙ rw (pass .before .number .ensures) at (pass .pass-row .ensures .0) in
-    let since = rw (skip .skip-row .ensures, pass .before .number .ensures) at (c .before .number2 .ensures) in
-    sym (group-here _ _ _ (pre .0) _ _ _ _ (pre .2) (pre .3) _ _ walks .absent (rw since at (c .if1 .taken)))
-
-add-get2 : tie.Need-add-get2
-add-get2 c =
-    let test = c .before in
-    let skip = test .before .before in
-    let told = skip .before .before in
-    let pass = told .before .before in
-    let pre = pass .before .before .before .pre in
-    let walks = sym (told .passed .given .1) ∙ rw (pass .before .number .ensures) at (pass .pass-row .ensures .0) in
-    let since = rw (skip .skip-row .ensures, pass .before .number .ensures) at (test .before .number2 .ensures) in
-    omega (arith, group-here _ _ _ (pre .0) _ _ _ _ (pre .2) (pre .3) _ _ walks .fits (rw since at (test .if1 .left)))
-
-get2-requires : tie.Need-get2-requires
-get2-requires c κs =
-    let test = c .before in
-    let skip = test .before .before in
-    let told = skip .before .before in
-    let pass = told .before .before in
-    let pre = pass .before .before .before .pre in
-    let walks = sym (told .passed .given .1) ∙ rw (pass .before .number .ensures) at (pass .pass-row .ensures .0) in
-    let since = rw (skip .skip-row .ensures, pass .before .number .ensures) at (test .before .number2 .ensures) in
-    omega (arith, group-here _ _ _ (pre .0) _ _ _ _ (pre .2) (pre .3) _ _ walks .fits (rw since at (test .if1 .left)))
+    rw (c .number2 .ensures, c .before .skip-row .ensures, pass .before .number .ensures)
+    (group-here _ _ _ (pre .0) _ _ _ _ (pre .2) (pre .3) _ _
+    (sym (told .passed .given .1) ∙ rw (pass .before .number .ensures) at (pass .pass-row .ensures .0)))
 
 returns-3 : tie.Need-returns-3
 returns-3 c =
-    let test = c .before .before in
-    let skip = test .before .before in
-    let told = skip .before .before in
-    let pass = told .before .before in
-    let pre = pass .before .before .before .pre in
-    let walks = sym (told .passed .given .1) ∙ rw (pass .before .number .ensures) at (pass .pass-row .ensures .0) in
-    let since = rw (skip .skip-row .ensures, pass .before .number .ensures) at (test .before .number2 .ensures) in
-    rw (c .get2 .ensures .value)
-    (sym (group-here _ _ _ (pre .0) _ _ _ _ (pre .2) (pre .3) _ _ walks .counts (rw since at (test .if1 .left))))
+    rw (c .sizes-at .ensures .1 .value)
+    (sym (here (c .before .before .before) .counts (c .before .before .if1 .left)))
 
 pub group-at-spec : {M : Type 1} → statement M
 group-at-spec =
     tie.close
     (tie.spec (λ c. omega arith) (λ c κs. omega arith) pass-row-requires (λ c. search needs) (λ c. search needs) returns
-    skip-row-requires add-number-2 number-requires-2 returns-2 add-get2 get2-requires returns-3)
+    skip-row-requires add-number-2 number-requires-2 (λ c. sym (here (c .before) .absent (c .if1 .taken)))
+    (λ c κs. omega (arith, here (c .before .before) .fits (c .before .if1 .left))) returns-3)

@@ -1,12 +1,10 @@
 -- The numbers are counted, and stored if there is room for them.
-use mathlib.Core.Path.{_≡_, ap}
+use mathlib.Core.Path.{_≡_, ap, refl}
 use Prim.Native.Nat.{ℕ, _+_, _*_}
 use native.Mathlib.Omega.{arith}
 use borrow.Author.Needs.{needs}
-use Rattle.layout.specs.Octets.{wordsOf}
-use Rattle.book.proofs.RuleLaws.{head-says}
-use Rattle.templates.proofs.Found.{contents}
-use Rattle.prepare.specs.Templates.{IsPreparable, sizesOf, templatesAt}
+use Rattle.prepared.specs.Numbers.{sizesOf}
+use Rattle.prepare.specs.Templates.{IsPreparable, templatesAt}
 use Rattle.prepare.proofs.Accepted.{no-room, prepared, ready}
 use Rattle.prepare.proofs.prepare.Statement.{statement}
 use Rattle.prepare.proofs.prepare.Tie as tie
@@ -16,8 +14,8 @@ is-ready c = ready _ (c .before .before .before .pre) _ (c .word .ensures .value
 
 -- As many numbers as were counted.
 size-is : (c : tie.After-size-templates) → let n = c .before .word .result in
-    let b = wordsOf (c .before .before .before .before .args .book .now) in
-    67 + 2 * n + c .size-templates .result ≡ 67 + 2 * n + sizesOf (templatesAt b n 4)
+    67 + 2 * n + c .size-templates .result
+    ≡ 67 + 2 * n + sizesOf (templatesAt (c .before .before .before .before .args .book .now) n 4)
 size-is c = ap (λ (x : ℕ). 67 + 2 * c .before .word .result + x) (c .size-templates .ensures)
 
 returns : tie.Need-returns
@@ -42,7 +40,7 @@ returns-2 c =
 pub prepare-spec : {M : Type 1} → statement M
 prepare-spec =
     tie.close
-    (tie.spec (λ c κs. omega (arith, head-says _ (contents _ (c .before .before .pre) .head) .fits))
+    (tie.spec (λ c κs. omega (arith, ready _ (c .before .before .pre) _ refl .head))
     (λ c. omega (arith, is-ready c .few)) (λ c. omega (arith, is-ready c .few))
     (λ c κs. (is-ready c .templates, omega (arith, is-ready c .few)))
     (λ c. omega (arith, is-ready (c .before) .few, c .size-templates .ensures))

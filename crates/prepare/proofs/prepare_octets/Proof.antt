@@ -1,7 +1,7 @@
 -- An accepted book is a book, so it is prepared; a refused book answers itself.
 use mathlib.Core.Path.{_∙_, sym}
 use borrow.Author.Needs.{needs}
-use Rattle.templates.proofs.Found.{is-book}
+use Rattle.prepare.proofs.Accepted.{is-book}
 use Rattle.prepare.proofs.Prepared.{not-accepted}
 use Rattle.prepare.proofs.prepare_octets.Statement.{statement}
 use Rattle.prepare.proofs.prepare_octets.Tie as tie

@@ -1,45 +1,38 @@
--- The block's numbers and those of the groups.
-use mathlib.Core.Path.{_≡_, ap}
+-- Blocks were seen, and those that are left lie one after the other.
+use mathlib.Core.Path.{_≡_, refl}
+use Prim.Native.Nat.{_-_, _/_, _≤_}
 use native.Mathlib.Omega.{arith}
-use Rattle.layout.specs.Octets.{wordsOf}
-use Rattle.prepared.specs.Numbers.{groupsSize}
-use Rattle.blocks.proofs.Laws.{block-fits}
-use Rattle.prepare.specs.Templates.{rootGroups}
-use Rattle.prepare.proofs.Lengths.{block-size}
-use Rattle.prepare.proofs.Templates.{body-groups, body-row, body-sized}
+use lib.ListN.{length}
+use Rattle.prepare.specs.Positions.{groupSize}
+use Rattle.prepare.proofs.Sizes.{Next, Seeing, all-seen, next-seen, seeing-starts}
 use Rattle.prepare.proofs.size_body.Statement.{statement}
 use Rattle.prepare.proofs.size_body.Tie as tie
 
-size-row-requires : tie.Need-size-row-requires
-size-row-requires c κs =
-    let g = c .before in
-    let from = g .before in
-    let body = from .before .before .pre in
-    let count = g .word .ensures .value in
-    let x = from .groups-from .ensures in
-    (body-row _ _ _ body count x, omega (arith, body .few, ap groupsSize (body-groups _ _ _ body count x)))
+abbrev Inv-loop : tie.InvT-loop
+Inv-loop body end w₀ seen₀ w seen = (end ≡ length body / 2) × (groupSize body 4 0 ≤ 65535) × Seeing body w seen
 
-groups : (c : tie.After-size-row) → let start = c .before .before .before .before .before in
-    c .size-row .result ≡ groupsSize (rootGroups (wordsOf (start .args .body .now)))
-groups c =
-    let g = c .before .before in
-    let from = g .before in
-    body-sized _ _ _ (from .before .before .pre) (g .word .ensures .value) (from .groups-from .ensures) _
-    (c .size-row .ensures)
+abbrev μ-loop : tie.MeasureT-loop
+μ-loop body end w₀ seen₀ w seen = end - w
 
-add-result : tie.Need-add-result
-add-result c =
-    let body = c .before .before .before .before .before .pre in
-    omega (arith, groups c, c .before .size-block .ensures, body .few, body .block .fewFields, body .block .fewDatas)
+next : (c : tie.In-loop Inv-loop μ-loop) → let l = c .before .loop in
+    Next (c .before .before .before .before .before .args .body .now) (l .w) (l .seen)
+next c = next-seen (c .before .loop .inv .2) (c .loop-test .taken)
 
-returns : tie.Need-returns
-returns c =
-    let start = c .before .before .before .before .before in
-    omega (arith, groups c, c .before .size-block .ensures, block-size (wordsOf (start .args .body .now)) 0)
+loop-again : tie.Need-loop-again Inv-loop μ-loop
+loop-again c =
+    let size = c .before in
+    let i = size .before in
+    let inv = i .before .loop .inv in
+    (inv .0, inv .1, rw (c .groups-from2 .ensures, size .size-block2 .ensures) (next i .seeing))
 
 pub size-body-spec : {M : Type 1} → statement M
 size-body-spec =
     tie.close
-    (tie.spec (λ c κs. c .before .pre .block) (λ c κs. omega (arith, block-fits _ _ (c .before .before .pre .block)))
-    (λ c κs. let block = c .before .before .before .pre .block in (block, omega (arith, block-fits _ _ block)))
-    size-row-requires add-result returns)
+    (tie.spec Inv-loop μ-loop (λ c κs. c .before .pre .0 .block .fits) (λ c κs. c .before .before .pre .0 .block .fits)
+    (λ c. let pre = c .before .before .before .pre in
+    (refl, pre .1, seeing-starts _ (pre .0) _ _ (c .before .groups-from .ensures) (c .size-block .ensures)))
+    (λ c. omega (arith, next c .fits)) (λ c κs. next c .fits)
+    (λ c. omega (arith, next (c .before) .few, c .size-block2 .ensures))
+    (λ c. omega (arith, next (c .before) .fits)) (λ c κs. next (c .before) .fits)
+    (λ c. omega (arith, c .groups-from2 .ensures)) loop-again
+    (λ c. all-seen (c .before .loop .inv .2) (c .loop-test .left)))

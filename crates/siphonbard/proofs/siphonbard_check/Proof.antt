@@ -3,9 +3,10 @@ use mathlib.Core.Path.{sym}
 use native.Mathlib.Omega.{arith}
 use borrow.Author.Needs.{needs}
 use lib.Seq.{length-take-le}
+use Rattle.layout.specs.Result.{_>>=_}
+use Rattle.layout.specs.Contracts.{checked}
 use Rattle.layout.specs.Reading.{checkOf}
 use Rattle.prepare.proofs.Prepared.{HasPrepared, book-refused, has-prepared}
-use Rattle.siphonbard.proofs.Laws.{check-accepted, check-refused}
 use Rattle.siphonbard.proofs.siphonbard_check.Statement.{statement}
 use Rattle.siphonbard.proofs.siphonbard_check.Tie as tie
 
@@ -15,25 +16,21 @@ has : (c : tie.After-n) → let made = c .before .before .before in
     (made .prepare-octets .last .1 .0)
 has c = has-prepared _ _ _ _ (rw (c .n .given .1) at (c .before .before .before .prepare-octets .ensures))
 
-siphonbard-stream-check-requires : tie.Need-siphonbard-stream-check-requires
-siphonbard-stream-check-requires c κs = has (c .before .before) .prepared .is
-
 returns : tie.Need-returns
-unfolding checkOf
+unfolding checkOf checked _>>=_
 returns c =
     let known = c .before .before in
     let made = known .before .before .before .prepare-octets .ensures in
-    check-refused (book-refused _ _ _ _ (omega arith) (rw (known .refusal .given .1) at made))
-    _ (c .say-checked .ensures)
+    let e = book-refused _ _ _ _ (omega arith) (rw (known .refusal .given .1) at made) in
+    rw e (c .say-checked .ensures)
 
 returns-2 : tie.Need-returns-2
-unfolding checkOf
-returns-2 c =
-    check-accepted (has (c .before .before .before) .prepared .back) _ (c .siphonbard-stream-check .ensures)
+unfolding checkOf _>>=_
+returns-2 c = rw (has (c .before .before .before) .prepared .back) (c .siphonbard-stream-check .ensures)
 
 pub siphonbard-check-spec : {M : Type 1} → statement M
 siphonbard-check-spec =
     tie.close
     (tie.spec (λ c. search needs) (λ c κs. search needs) (λ c. search needs) (λ c κs. search needs) (λ c. search needs)
     (λ c. has (c .before) .fits) (λ c. sym (length-take-le _ _ (has (c .before .before) .fits)))
-    siphonbard-stream-check-requires returns returns-2)
+    (λ c κs. has (c .before .before) .prepared .is) returns returns-2)

@@ -1,6 +1,6 @@
 -- The reply to the answer that was called for, and its room.
 use borrow.Author.Needs.{needs}
-use Rattle.siphonbard.proofs.Laws.{list-said}
+use Rattle.siphonbard.proofs.Said.{list-said}
 use Rattle.siphonbard.proofs.siphonbard_stream_list.Statement.{statement}
 use Rattle.siphonbard.proofs.siphonbard_stream_list.Tie as tie
 

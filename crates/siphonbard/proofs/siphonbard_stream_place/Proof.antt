@@ -1,8 +1,9 @@
 -- The answer for the place that is asked for; 30 for none, after what the check refuses.
-use mathlib.Core.Path.{sym}
+use mathlib.Core.Path.{_∙_, ap, sym}
 use borrow.Author.Needs.{needs}
 use Rattle.prepared.specs.Books.{bookAt}
-use Rattle.siphonbard.proofs.Laws.{nothing-said, place-said}
+use Rattle.stream.specs.Places.{noPlace}
+use Rattle.siphonbard.proofs.Said.{nothing-said, place-said}
 use Rattle.siphonbard.proofs.siphonbard_stream_place.Statement.{statement}
 use Rattle.siphonbard.proofs.siphonbard_stream_place.Tie as tie
 
@@ -14,7 +15,7 @@ returns c =
     let a = ask .before .before .before .before .args in
     rw (sym (ask .ask-for .ensures))
     (nothing-said (bookAt (a .p .now)) (a .m .now) _ (c .say-found .ensures) (told .enum-told .given .1)
-    (none .no-place .ensures _ (none .before .check .ensures)))
+    (none .no-place .ensures ∙ ap noPlace (none .before .check .ensures)))
 
 returns-2 : tie.Need-returns-2
 returns-2 c =

@@ -1,6 +1,6 @@
 -- The reply to the answer that was called for, and its room.
 use borrow.Author.Needs.{needs}
-use Rattle.siphonbard.proofs.Laws.{write-said}
+use Rattle.siphonbard.proofs.Said.{write-said}
 use Rattle.siphonbard.proofs.siphonbard_stream_write.Statement.{statement}
 use Rattle.siphonbard.proofs.siphonbard_stream_write.Tie as tie
 

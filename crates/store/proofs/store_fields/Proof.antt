@@ -6,71 +6,54 @@ use Rattle.layout.specs.Result.{Each}
 use Rattle.layout.specs.BookRules.{parseFields}
 use Rattle.prepared.specs.Positions.{shapeAt}
 use Rattle.fields.specs.Readable.{Fits}
-use Rattle.fields.proofs.Laws.{fields-each}
+use Rattle.fields.proofs.Fields.{fields-each}
+use Rattle.prints.proofs.Going.{Going, going-call, going-end, going-first, going-none, stored-none}
 use Rattle.store.specs.Stores.{fieldsPrint}
-use Rattle.store.proofs.Going.{Going, going-end, going-long, going-next, going-none, going-record}
-use Rattle.store.proofs.Laws.{fields-end, fields-next}
+use Rattle.store.proofs.Parts.{fields-end, fields-next}
 use Rattle.store.proofs.store_fields.Statement.{statement}
 use Rattle.store.proofs.store_fields.Tie as tie
 
 abbrev Inv-loop : tie.InvT-loop
-Inv-loop p a m v at room₀ from left₀ f₀ n₀ room left f n =
+Inv-loop p a m v l room₀ at left₀ f₀ n₀ room left f n =
     Each (Fits m v at) (parseFields p left f) × (f + 6 * left ≤ length p)
-    × Going (fieldsPrint m v (shapeAt p a .fields) at) (fieldsPrint m v (parseFields p left f) at) from room₀ n room
+    × Going (fieldsPrint m v (shapeAt p a .fields) l at) (fieldsPrint m v (parseFields p left f) l at) n₀ room₀ n room
 
 abbrev μ-loop : tie.MeasureT-loop
-μ-loop p a m v at room₀ from left₀ f₀ n₀ room left f n = left
+μ-loop p a m v l room₀ at left₀ f₀ n₀ room left f n = left
 
 loop-holds : tie.Need-loop-holds Inv-loop μ-loop
 loop-holds c =
-    let start = c .before .before .before .before in
-    let k = c .number .ensures in
-    (rw k (start .pre .0 .1), omega (arith, k, start .pre .0 .0 .fieldsFit), rw k (going-none _ _ _ (start .pre .1)))
+    let pre = c .before .before .before .before .pre in
+    rw (c .number .ensures) (pre .0 .1, pre .0 .0 .fieldsFit, going-none (pre .1 .1))
 
 read-field-requires : tie.Need-read-field-requires Inv-loop μ-loop
 read-field-requires c κs =
-    let i = c .before in
-    record {
-      whole = omega arith;
-      fits = fields-each _ _ _ _ (i .loop-test .taken) (i .before .loop .inv .0) .0;
-    }
+    record { whole = omega arith; fits = fields-each _ _ _ _ (c .loop-test .taken) (c .before .loop .inv .0) .0 }
 
--- There is room for the record of the next field.
-next : (c : tie.In-loop Inv-loop μ-loop) → c .before .loop .n + 3 ≤ length (c .before .loop .room)
-next c = going-next (c .before .loop .inv .2) _ _ (fields-next _ _ _ _ _ _ (c .loop-test .taken))
-
-add-n : tie.Need-add-n Inv-loop μ-loop
-add-n c =
-    let i = c .before .before .before .before .before in
-    omega (arith, next i, going-long (i .before .loop .inv .2))
+store-answer-requires : tie.Need-store-answer-requires Inv-loop μ-loop
+store-answer-requires c κs =
+    let i = c .before .before in
+    rw (c .before .read-field .ensures)
+    (going-first (i .before .loop .inv .2) _ (fields-next _ _ _ _ _ _ _ (i .loop-test .taken)))
 
 loop-again : tie.Need-loop-again Inv-loop μ-loop
 loop-again c =
-    let read = c .before .before .before in
-    let i = read .before .before in
+    let call = c .before .before in
+    let i = call .before .before .before in
     let inv = i .before .loop .inv in (
       fields-each _ _ _ _ (i .loop-test .taken) (inv .0) .1,
       omega arith,
-      going-record (inv .2) _ _ _ (fields-next _ _ _ _ _ _ (i .loop-test .taken))
-          (rw (read .read-field .ensures) at (c .before .before .put .ensures)),
+      going-call (inv .2) _ (fields-next _ _ _ _ _ _ _ (i .loop-test .taken))
+          (rw (call .before .before .read-field .ensures) at (call .store-answer .ensures)),
     )
 
 pub store-fields-spec : {M : Type 1} → statement M
 store-fields-spec =
     tie.close
-    (tie.spec
-    Inv-loop
-    μ-loop
-    (λ c. omega (arith, c .before .before .before .pre .0 .0 .fieldsFit))
-    (λ c κs. omega (arith, c .before .before .before .pre .0 .0 .fieldsFit))
-    (λ c. omega (arith, c .before .before .before .before .pre .0 .0 .fieldsFit))
-    loop-holds
-    read-field-requires
-    (λ c κs. next (c .before .before))
-    (λ c. omega arith)
-    add-n
-    (λ c. omega arith)
-    (λ c. omega arith)
-    loop-again
-    (λ c. going-long (c .before .loop .inv .2))
-    (λ c. going-end (c .before .loop .inv .2) _ (fields-end _ _ _ _ _ _ (c .loop-test .left))))
+    (tie.spec Inv-loop μ-loop
+    (λ c. omega arith) (λ c κs. omega arith) (λ c. omega arith) loop-holds read-field-requires store-answer-requires
+    (λ c. omega arith) (λ c. omega arith) (λ c. omega arith) loop-again (λ c. omega arith) (λ c. omega arith)
+    (λ c. (
+      going-end (c .before .loop .inv .2) (stored-none (fields-end _ _ _ _ _ _ _ (c .loop-test .left))),
+      omega arith,
+    )))

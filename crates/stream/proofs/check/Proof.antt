@@ -1,27 +1,28 @@
 -- The walk refuses the message, or comes to its end.
-use mathlib.Core.Path.{_∙_, sym}
-use native.Mathlib.Omega.{arith}
+use mathlib.Core.Path.{refl, sym}
+use mathlib.Core.List.{[]}
 use borrow.Author.Needs.{needs}
+use Rattle.layout.specs.Result.{_>>=_}
+use Rattle.layout.specs.Contracts.{checked}
 use Rattle.prepared.proofs.Books.{holds-book}
-use Rattle.whole.proofs.Entries.{entered-refused, inv-entered}
-use Rattle.stream.proofs.Reading.{check-accepted, check-refused, no-steps}
+use Rattle.whole.proofs.Entries.{EnteredAs, entered-as}
+use Rattle.stream.proofs.Reading.{no-steps}
 use Rattle.stream.proofs.check.Statement.{statement}
 use Rattle.stream.proofs.check.Tie as tie
 
-abbrev start : tie.After-enter → tie.Start
-start c = c .before .before .before .before .before .before .before
+-- What the walk's answer says.
+says : (c : tie.After-enter) → let s = c .before .before .before .before .before .before .before in
+    EnteredAs (s .args .t1 .now) (s .args .t2 .now) [] (c .enter .result)
+says c = entered-as _ _ _ (holds-book (c .before .before .before .before .before .before .before .pre)) _
+    (c .enter .ensures .0)
 
 returns : tie.Need-returns
-returns c =
-    let call = c .before .before in
-    let o = inv-entered _ _ _ _ _ _ _ _ _ _ _ (sym (c .enum-told .given .1) ∙ call .enter .ensures .0) in
-    sym (check-accepted _ _ (holds-book (start call .pre)) _ (o .is))
+unfolding EnteredAs checked _>>=_
+returns c = let o = rw (c .enum-told .given .1) at (says (c .before .before)) in sym (rw (o .read) refl)
 
 returns-2 : tie.Need-returns-2
-returns-2 c =
-    let call = c .before .before .before in
-    sym (check-refused _ _ (holds-book (start call .pre)) _
-    (entered-refused _ _ _ _ _ (sym (c .before .refusal .given .1) ∙ call .enter .ensures .0)))
+unfolding EnteredAs checked _>>=_
+returns-2 c = let e = rw (c .before .refusal .given .1) at (says (c .before .before .before)) in sym (rw e refl)
 
 pub check-spec : {M : Type 1} → statement M
 check-spec =

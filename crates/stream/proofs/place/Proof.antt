@@ -2,28 +2,23 @@
 use mathlib.Core.Path.{_∙_, ap, sym}
 use native.Mathlib.Omega.{arith}
 use borrow.Author.Needs.{needs}
-use Rattle.prepared.proofs.Books.{holds-book}
-use Rattle.places.proofs.Blocks.{place-half, place-long}
 use Rattle.stream.specs.Places.{noPlace}
-use Rattle.stream.proofs.Places.{place-nowhere}
+use Rattle.stream.proofs.Places.{place-half, place-long}
 use Rattle.stream.proofs.place.Statement.{statement}
 use Rattle.stream.proofs.place.Tie as tie
 
 returns : tie.Need-returns
 returns c =
     let check = c .before in
-    let test = check .before in
-    let start = test .before .before .before .before in
     c .no-place .ensures ∙ ap noPlace (check .check .ensures)
-    ∙ sym (place-nowhere _ _ (holds-book (start .pre)) _ _ (λ a. place-long (start .args .p .now) a _ _ (test .if1 .taken)))
+    ∙ sym (place-half _ _ _ _ (check .before .if1 .taken))
 
 returns-2 : tie.Need-returns-2
 returns-2 c =
     let check = c .before in
     let test = check .before in
-    let start = test .before .before .before .before .before in
     c .no-place2 .ensures ∙ ap noPlace (check .check2 .ensures)
-    ∙ sym (place-nowhere _ _ (holds-book (start .pre)) _ _ (λ a. place-half (start .args .p .now) a _ _ (test .if2 .taken)))
+    ∙ sym (place-long _ _ _ _ (omega (arith, test .before .if1 .left)) (test .if2 .taken))
 
 pub place-spec : {M : Type 1} → statement M
 place-spec =
@@ -32,6 +27,6 @@ place-spec =
     (λ c κs. c .before .before .before .before .before .pre) (λ c κs. search needs) returns-2
     (λ c κs. (
       c .before .before .before .before .before .pre,
-      record { few = omega (arith, c .before .if1 .left); inside = omega arith; even = omega (arith, c .if2 .left) },
+      record { few = omega (arith, c .if2 .left); inside = omega arith; even = omega (arith, c .before .if1 .left) },
     ))
     (λ c. search needs))

@@ -1,8 +1,8 @@
 -- The template's block, if it is in the book, and then the listing by it.
 use mathlib.Core.Path.{_≡_, _∙_, sym}
 use borrow.Author.Needs.{needs}
-use Rattle.prepared.specs.Books.{placeOf}
-use Rattle.prepared.specs.declared.Place.the-variants.{At}
+use Rattle.prepared.specs.Books.{locationOf}
+use Rattle.prepared.specs.declared.Located.the-variants.{At}
 use Rattle.prepared.proofs.Books.{holds-book}
 use Rattle.stream.proofs.Writing.{write-block, write-found, write-unknown}
 use Rattle.stream.proofs.write.Statement.{statement}
@@ -20,7 +20,7 @@ abbrev start : tie.After-known-told → tie.Start
 start c = c .before .before .before .before .before .before .before .before
 
 known-block : (c : tie.After-known-told)
-    → At (c .before .a .given .0 .0) ≡ placeOf (start c .args .p .now) (start c .args .id)
+    → At (c .before .a .given .0 .0) ≡ locationOf (start c .args .p .now) (start c .args .id)
 known-block c = sym (c .before .a .given .1) ∙ c .before .before .before .find .ensures
 
 returns-2 : tie.Need-returns-2

@@ -23,6 +23,7 @@ use Rattle.walk.proofs.Entries.{entries-end, entry-datas, entry-next, e
 use Rattle.walk.proofs.Rows.{groups-done, row-absent, row-dimension, row-entries, row-next}
 use Rattle.walk.proofs.Ways.{Way, leads, way-ends, way-on, way-refused, way-starts}
 use Rattle.walk.proofs.walk_datas.Reads as walk-datas-reads
+use Rattle.walk.proofs.total.Reads as total-reads
 use Rattle.walk.proofs.pass_row.Reads as pass-reads
 use Rattle.walk.proofs.pass_row.Kinds as pass-kinds
 use Rattle.walk.proofs.+pass_row+walk_entries+walk_row.Lts-pass_row as pass-lts
@@ -101,6 +102,8 @@ module _ (t : ℕ) where
     pass-reads.Post,
     walk-datas-reads.Asked,
     walk-datas-reads.Learnt,
+    total-reads.Asked,
+    total-reads.Learnt,
   )
 
   abbrev entries-Need : (entries-lts.Claims → In 4 entries-lts.ps → Out 4 entries-lts.ps entries-lts.r
@@ -111,9 +114,6 @@ module _ (t : ℕ) where
   entries-mul-if2 c =
       let start = c .before .before .before .before .before in
       omega (arith, mul-le-mul-right (start .args .k) (start .pre .1 .2))
-
-  entries-mul-t28 : entries-Need entries-lts.Need-mul-t28
-  entries-mul-t28 c = omega arith
 
   entries-mul-t30 : entries-Need entries-lts.Need-mul-t30
   entries-mul-t30 c =
@@ -187,28 +187,8 @@ module _ (t : ℕ) where
       (entry-datas _ _ _ _ _ _ _ _ (i .loop-test .taken) (omega arith) _ _ (sym (told .row .given .1) ∙ row) _
       (sym (c .enum-told2 .given .1) ∙ datas))
 
-  entries-add-seen : entries-Need entries-lts.Need-add-seen
-  entries-add-seen c =
-      let call = c .before .before .before in
-      let told = call .before .before .before .before in
-      let call-row = told .before .before in
-      let inv = call-row .before .before .before .before .before .loop .inv in
-      let on = leads _ _ _ _ _ _ (call-row .pass-row .ensures .1) (told .row .given .1) in
-      let end = leads _ _ _ _ _ _ (call .walk-datas .ensures .1) (c .before .datas .given .1) in
-      omega (arith, call-row .before .number4 .ensures)
-
-  entries-add-seen-2 : entries-Need entries-lts.Need-add-seen-2
-  entries-add-seen-2 c =
-      let call = c .before .before .before in
-      let told = call .before .before .before .before in
-      let call-row = told .before .before in
-      let inv = call-row .before .before .before .before .before .loop .inv in
-      let on = leads _ _ _ _ _ _ (call-row .pass-row .ensures .1) (told .row .given .1) in
-      let end = leads _ _ _ _ _ _ (call .walk-datas .ensures .1) (c .before .datas .given .1) in
-      omega (arith, call-row .before .number4 .ensures)
-
-  entries-add-seen-3 : entries-Need entries-lts.Need-add-seen-3
-  entries-add-seen-3 c =
+  entries-total-requires : entries-Need entries-lts.Need-total-requires
+  entries-total-requires c κs =
       let call = c .before .before .before in
       let told = call .before .before .before .before in
       let call-row = told .before .before in
@@ -219,7 +199,8 @@ module _ (t : ℕ) where
 
   entries-loop-again : entries-Need entries-lts.Need-loop-again
   entries-loop-again c =
-      let call = c .before .before .before in
+      let datas-told = c .before .before in
+      let call = datas-told .before .before in
       let at-datas = call .before .before in
       let told = at-datas .before .before in
       let call-row = told .before .before in
@@ -229,7 +210,8 @@ module _ (t : ℕ) where
       let row = rw (at-row .number3 .ensures, call-row .before .number4 .ensures) at (call-row .pass-row .ensures .0) in
       let datas = rw (at-datas .number5 .ensures, call .before .number6 .ensures) at (call .walk-datas .ensures .0) in
       let on = leads _ _ _ _ _ _ (call-row .pass-row .ensures .1) (told .row .given .1) in
-      let end = leads _ _ _ _ _ _ (call .walk-datas .ensures .1) (c .before .datas .given .1) in (
+      let end = leads _ _ _ _ _ _ (call .walk-datas .ensures .1) (datas-told .datas .given .1) in
+      rw (c .total .ensures) (
         inv .0,
         inv .1,
         omega arith,
@@ -237,13 +219,9 @@ module _ (t : ℕ) where
         inv .4,
         way-on (inv .5) _ _ _
             (entry-next _ _ _ _ _ _ _ _ (i .loop-test .taken) (omega arith) _ _ (sym (told .row .given .1) ∙ row)
-            _ _ _ (sym (c .before .datas .given .1) ∙ datas) (inv .4 ∙ sym (length-fields _ _ _)))
+            _ _ _ (sym (datas-told .datas .given .1) ∙ datas) (inv .4 ∙ sym (length-fields _ _ _)))
             (omega arith) (end .1) (omega arith),
       )
-
-  entries-returns-5 : entries-Need entries-lts.Need-returns-5
-  entries-returns-5 c =
-      way-ends (c .before .loop .inv .5) (entries-end _ _ _ _ (c .loop-test .left))
 
   abbrev row-claims : row-lts.Claims
   row-claims = (
@@ -262,11 +240,6 @@ module _ (t : ℕ) where
   abbrev row-Need : (row-lts.Claims → In 4 row-lts.ps → Out 4 row-lts.ps row-lts.r → row-lts.InvT-loop
       → row-lts.MeasureT-loop → Type 0) → Type 0
   row-Need n = n row-claims row-at row-reads.Post row-Inv row-μ-loop
-
-  row-loop-holds : row-Need row-lts.Need-loop-holds
-  row-loop-holds c =
-      let pre = c .before .before .pre .1 in
-      (pre .0, pre .1 .short, pre .2, way-starts _ _ _ _ (pre .1 .inside))
 
   row-loop-again : row-Need row-lts.Need-loop-again
   row-loop-again c =
@@ -355,10 +328,6 @@ module _ (t : ℕ) where
             (omega (arith, good _ _ _ _ _ is .few, at-row .before .loop-test .taken)),
       )
 
-  row-returns-3 : row-Need row-lts.Need-returns-3
-  row-returns-3 c =
-      way-ends (c .before .loop .inv .3) (groups-done _ _ _ _ _ (no-groups-at _ _ _ _ (c .loop-test .left)))
-
 pub +pass-row+walk-entries+walk-row-spec : {M : Type 1} → statement M
 +pass-row+walk-entries+walk-row-spec =
     close pass-μ entries-μ row-μ
@@ -375,7 +344,7 @@ pub +pass-row+walk-entries+walk-row-spec : {M : Type 1} → statement M
     (λ c κs. omega arith)
     (entries-mul-if2 t)
     (λ c. omega arith)
-    (entries-mul-t28 t)
+    (λ c. omega arith)
     (λ c. omega arith)
     (entries-mul-t30 t)
     (entries-returns t)
@@ -400,16 +369,16 @@ pub +pass-row+walk-entries+walk-row-spec : {M : Type 1} → statement M
     (λ c. search needs)
     (λ c. search needs)
     (entries-returns-4 t)
-    (entries-add-seen t)
-    (entries-add-seen-2 t)
-    (entries-add-seen-3 t)
+    (entries-total-requires t)
     (λ c. omega arith)
     (λ c. omega arith)
     (entries-loop-again t)
-    (entries-returns-5 t))
+    (λ c. way-ends (c .before .loop .inv .5) (entries-end _ _ _ _ (c .loop-test .left))))
     (λ t.
     row-lts.spec (row-claims t) (row-at t) row-reads.Post row-Inv row-μ-loop
-    (row-loop-holds t)
+    (λ c.
+    let pre = c .before .before .pre .1 in
+    (pre .0, pre .1 .short, pre .2, way-starts _ _ _ _ (pre .1 .inside)))
     (λ c κs. search needs)
     (λ c. omega arith)
     (λ c. omega arith)
@@ -435,4 +404,4 @@ pub +pass-row+walk-entries+walk-row-spec : {M : Type 1} → statement M
     (row-add-seen-2 t)
     (λ c. omega arith)
     (row-loop-again-2 t)
-    (row-returns-3 t))
+    (λ c. way-ends (c .before .loop .inv .3) (groups-done _ _ _ _ _ (no-groups-at _ _ _ _ (c .loop-test .left)))))

@@ -1,14 +1,13 @@
 -- What is left of the data answers as all of them do, those passed being counted.
 use mathlib.Core.Path.{_≡_, refl, sym, _∙_}
-use mathlib.Core.Logic.{⊎-elim}
 use Prim.Native.Nat.{_+_, _-_, _*_, _≤_}
 use native.Mathlib.Omega.{arith}
 use borrow.Author.Needs.{needs}
 use lib.ListN.{length}
 use Rattle.wire.specs.Walks.{walked}
-use Rattle.wire.proofs.Laws.{lies-on}
+use Rattle.wire.proofs.Answers.{lies-on}
 use Rattle.walk.specs.Walks.{datasEnd}
-use Rattle.walk.proofs.Datas.{datas-absent, datas-done, datas-next, datas-refused, datasAt}
+use Rattle.walk.proofs.Datas.{datas-done, datas-next, datas-refused, datasAt}
 use Rattle.walk.proofs.Ways.{Way, way-ends, way-on, way-refused, way-starts}
 use Rattle.walk.proofs.walk_datas.Statement.{statement}
 use Rattle.walk.proofs.walk_datas.Tie as tie
@@ -36,42 +35,28 @@ loop-holds c =
 
 returns : tie.Need-returns Inv-loop μ-loop
 returns c =
-    let read = c .before .before in
-    let test = read .before in
-    let i = test .before .before in
+    let pass = c .before .before in
+    let i = pass .before in
     let e = c .enum-told .given .1 in
     way-refused (i .before .loop .inv .3) _ e
-    (datas-refused _ _ _ _ _ _ _ _ (i .loop-test .taken) (rw (test .before .number .ensures) at (test .if1 .taken)) _
-    (sym e ∙ read .read-data .ensures .0))
+    (datas-refused _ _ _ _ _ _ _ _ (i .loop-test .taken) _ (sym e ∙ pass .pass-data .ensures .0))
 
 loop-again : tie.Need-loop-again Inv-loop μ-loop
 loop-again c =
-    let i = c .before .before in
+    let pass = c .before .before .before in
+    let i = pass .before in
     let inv = i .before .loop .inv in
-    let since = c .before .number .ensures in
     let n = i .before .before .before .before .args .n in
     let one : n - (i .before .loop .left - 1) ≡ n - i .before .loop .left + 1 = omega arith in
-    rw one
-    (⊎-elim
-    (λ k.
-    let e = k .3 .given .1 in
-    let on = lies-on _ _ _ _ _ (k .1 .ensures .1) e in (
+    let e = c .before .data .given .1 in
+    let on = lies-on _ _ _ _ _ (pass .pass-data .ensures .1) e in
+    rw one (
       omega arith,
       omega arith,
       omega arith,
-      rw (k .5)
-          (way-on (inv .3) _ _ _ (datas-next _ _ _ _ _ _ _ _ (i .loop-test .taken) (rw since at (k .0 .taken)) _ _
-          (sym e ∙ k .1 .ensures .0)) (on .0) (on .1) (omega (arith, on .0))),
-    ))
-    (λ k. (
-      omega arith,
-      omega arith,
-      omega arith,
-      rw (k .1)
-          (way-on (inv .3) _ _ _ (datas-absent _ _ _ _ _ _ _ _ (i .loop-test .taken) (rw since at (k .0 .left)))
-          (omega arith) (inv .3 .inside) (omega arith)),
-    ))
-    (c .if1 .came))
+      way-on (inv .3) _ _ _ (datas-next _ _ _ _ _ _ _ _ (i .loop-test .taken) _ _ (sym e ∙ pass .pass-data .ensures .0))
+          (on .0) (on .1) (omega (arith, on .0)),
+    )
 
 returns-2 : tie.Need-returns-2 Inv-loop μ-loop
 returns-2 c =
@@ -84,5 +69,5 @@ pub walk-datas-spec : {M : Type 1} → statement M
 walk-datas-spec =
     tie.close
     (tie.spec Inv-loop μ-loop
-    loop-holds (λ c. omega arith) (λ c κs. omega arith) (λ c κs. omega arith) (λ c. search needs) (λ c. search needs)
-    returns (λ c. omega arith) (λ c. omega arith) (λ c. omega arith) loop-again returns-2)
+    loop-holds (λ c κs. (omega arith, omega arith)) (λ c. search needs) (λ c. search needs) returns (λ c. omega arith)
+    (λ c. omega arith) (λ c. omega arith) loop-again returns-2)

@@ -1,8 +1,9 @@
 -- Two numbers at a time; the counts are those of the tree.
 use native.Mathlib.Omega.{arith}
 use borrow.Author.Needs.{needs}
-use Rattle.writer.proofs.Laws.{length-datas}
-use Rattle.writer.proofs.Message.{header-laid, length-groups}
+use Rattle.prepared.proofs.Accepted.{datas-length}
+use Rattle.prepared.proofs.Open.{length-row}
+use Rattle.writer.proofs.Message.{header-laid}
 use Rattle.writer.proofs.put_header.Statement.{statement}
 use Rattle.writer.proofs.put_header.Tie as tie
 
@@ -12,7 +13,7 @@ returns c =
     let second = third .before .before .before .before .before .before in
     let first = second .before .before .before .before .before .before in
     let start = first .before .before .before .before .before .before in
-    rw (length-groups _ _ _ _ (start .pre .0 .row), length-datas)
+    rw (length-row _ _ _ _ (start .pre .0 .row), datas-length)
     (header-laid _ _ _ _ _ _ _ _ _ _ (first .put-two .ensures) (second .put-two2 .ensures) (third .put-two3 .ensures))
 
 pub put-header-spec : {M : Type 1} → statement M

@@ -6,9 +6,10 @@ use borrow.Author.Needs.{needs}
 use lib.ListN.{length}
 use Rattle.layout.specs.Octets.{octetsOf}
 use Rattle.layout.specs.BookRules.{fieldAt, word}
-use Rattle.number_types.proofs.Laws.{is-width}
+use Rattle.number_types.proofs.Types.{is-width}
+use Rattle.prints.specs.Prints.{numbersOf}
 use Rattle.writer.specs.Parts.{numberOr}
-use Rattle.writer.proofs.Laws.{ValueOpen, array-open, array-within, number-open, value-there}
+use Rattle.writer.proofs.Parts.{ValueOpen, array-open, array-within, number-open, value-there}
 use Rattle.writer.proofs.write_value.Statement.{statement}
 use Rattle.writer.proofs.write_value.Tie as tie
 
@@ -20,18 +21,20 @@ put-octets-requires : tie.Need-put-octets-requires
 put-octets-requires c κs =
     let long = c .before .before in
     let len = long .before .number .ensures in
-    let room = long .before .before .before .before .before .before .pre .1 in (
+    let room = long .before .before .before .before .before .before .pre .1 in
+    rw (c .number-of .ensures .0) (
       array-open _ _ _ _ _ room _ len (long .if1 .taken) .fits,
       array-within _ _ _ _ _ room _ len (long .if1 .taken),
     )
 
 returns : tie.Need-returns
+unfolding numbersOf
 returns c =
     let call = c .before .before in
     let long = call .before .before .before in
     let o = array-open _ _ _ _ _ (long .before .before .before .before .before .before .pre .1) _
     (long .before .number .ensures) (long .if1 .taken) in
-    rw (o .same) (call .put-octets .ensures)
+    rw (o .same) (rw (call .before .number-of .ensures .0) at (call .put-octets .ensures))
 
 -- The number's octets.
 number : (c : tie.After-number2)
@@ -52,19 +55,16 @@ store-requires c κs =
     (rw (c .number2 .ensures, d .width) (is-width _), omega (arith, number c .fits))
 
 returns-2 : tie.Need-returns-2
+unfolding numbersOf
 returns-2 c =
     let call = c .before .before in
-    let o = number (call .before) in
-    rw (o .same, ← (call .before .before .before .number-for .ensures)) (call .store .ensures .1)
+    rw (number (call .before) .same, ← (call .before .before .before .number-for .ensures)) (call .store .ensures .1)
 
 pub write-value-spec : {M : Type 1} → statement M
 write-value-spec =
     tie.close
     (tie.spec (λ c. omega arith) (λ c κs. omega arith)
-    (λ c. omega (arith, there (c .before .before .before .before .before .before .before)))
-    (λ c. omega (arith, there (c .before .before .before .before .before .before .before)))
-    (λ c. omega (arith, there (c .before .before .before .before .before .before .before)))
-    (λ c. omega (arith, there (c .before .before .before .before .before .before .before .before)))
+    (λ c κs. (there (c .before .before .before .before .before .before .before), omega arith))
     put-octets-requires (λ c. search needs) returns
     (λ c κs. (omega arith, there (c .before .before .before .before .before .before)))
     (λ c. omega arith) (λ c κs. omega arith) store-requires (λ c. search needs) returns-2)

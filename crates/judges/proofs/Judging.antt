@@ -1,0 +1,494 @@
+-- One law for each way that a function of the judging pass ends or goes on, in the code's terms.
+use mathlib.Core.Path.{_≡_, refl, subst, sym, ap, _∙_}
+use mathlib.Core.List.{List, [], _∷_}
+use mathlib.Core.Bool.{Bool, false, not, true}
+use Prim.Native.Nat.{ℕ, zero, suc, _+_, _-_, _*_, _/_, _%_, _^_, _≤_, _<_}
+use native.Mathlib.Omega.{arith}
+use lib.Dec.{eqb, leb}
+use lib.ListN.{length}
+use borrow.Author.Tests.{eq-eqb, le-leb, le-ltb, leb-true, lt-leb, lt-ltb, ne-eqb}
+use borrow.Fn.Enter.{pair≡}
+use Rattle.layout.specs.Result.{Result, done, refused, must, if_then_else_, _and_, _>>=_}
+use Rattle.layout.specs.Octets.{null16}
+use Rattle.layout.specs.Types.{inRange, typeAt}
+use Rattle.layout.specs.Book.{Field, Groups, Shape, Template, more, none}
+use Rattle.layout.specs.BookRules.{fieldAt, parseDatas, parseFields, word}
+use Rattle.layout.specs.Contracts.{refusal}
+use Rattle.layout.specs.Values.{Values, entry, group, nil}
+use Rattle.layout.specs.Writing.{datasLength, first, isGroup, isNumber, isOctets, isThere, judgeBlock, judgeData}
+use Rattle.layout.specs.Writing.{judgeDatas, judgeEntries, judgeField, judgeFields, judgeGroups, judgeListing}
+use Rattle.layout.specs.Writing.{judgeNumber, judgeOctets, numberFits, rowLength, second, spanOf, third}
+use Rattle.layout.specs.declared.Answer.{Answer}
+use Rattle.layout.specs.declared.Answer.the-variants.{Group, Octets}
+use Rattle.layout.specs.declared.Refusal.{Refusal}
+use Rattle.layout.proofs.Results.{and-left, bind-assoc, bind-done}
+use Rattle.layout.proofs.Said.{octets-said}
+use Rattle.layout.proofs.TypeLaws.{each-type, inside-not-null}
+use Rattle.number_types.proofs.Types.{in-span}
+use Rattle.prepared.specs.Numbers.{spread}
+use Rattle.prepared.specs.Positions.{Derived, IsBlock, IsField, dataCount, datasFrom, fieldCount, fieldsFrom, groupCount}
+use Rattle.prepared.specs.Positions.{groupsFrom, innerAt, shapeAt, tableFrom}
+use Rattle.prepared.proofs.Open.{no-groups-at}
+use Rattle.judges.specs.Judges.{capped, datasEnd, entriesAt, fieldEnd, fieldsEnd, judged, listingEnd}
+use Rattle.judges.specs.Judges.{limit, octetsEnd, rowEnd}
+use Rattle.judges.specs.declared.Judged.{Judged}
+use Rattle.judges.specs.declared.Judged.the-variants.{To, Refused}
+
+-- ---- whatever is judged
+
+-- What was judged good was done.
+pub record Reached {A : Type 0} (f : A → ℕ × ℕ) (r : Result A) (x k : ℕ) : Type 0 where
+  pub value : A
+  pub is : r ≡ done value
+  pub next : f value .0 ≡ x
+  pub octets : f value .1 ≡ k
+
+pub inv-to : {A : Type 0} (f : A → ℕ × ℕ) (r : Result A) (x k : ℕ) → To x k ≡ judged f r → Reached f r x k
+unfolding judged
+inv-to f (done a) x k e = record { value = a; is = refl; next = cc; octets = cc }
+inv-to f (refused n p) x k e = absurd (let z : _≡_ {A = ℕ} 0 1 = cc in omega arith)
+
+pub inv-refused : {A : Type 0} (f : A → ℕ × ℕ) (r : Result A) (z : Refusal) → Refused z ≡ judged f r
+    → r ≡ refused (z .number) (z .place)
+unfolding judged
+inv-refused f (done a) z e = absurd (let y : _≡_ {A = ℕ} 0 1 = cc in omega arith)
+inv-refused f (refused n p) z e =
+    let q : z ≡ refusal n p = cc in
+    rw q refl
+
+-- What is refused first is refused at last.
+stops : {A B : Type 0} (f : A → ℕ × ℕ) (r : Result A) (k : A → Result B) (g : B → ℕ × ℕ) (z : Refusal)
+    → Refused z ≡ judged f r → judged g (r >>= k) ≡ Refused z
+unfolding judged _>>=_
+stops f r k g z e = rw (inv-refused f r z e) refl
+
+-- What is judged good is followed by the rest.
+goes-on : {A B : Type 0} {f : A → ℕ × ℕ} {r : Result A} {x k : ℕ} (q : Reached f r x k) (next : A → Result B)
+    → (r >>= next) ≡ next (q .value)
+goes-on q next = rw (q .is) (bind-done (q .value) next)
+
+-- What the rest was judged to be only tells its end.
+ends-as : {A B : Type 0} (r : Result A) (k : A → B) (f : B → ℕ × ℕ) (g : A → ℕ × ℕ) → ((a : A) → f (k a) ≡ g a)
+    → judged f (r >>= λ a. done (k a)) ≡ judged g r
+unfolding judged _>>=_
+ends-as (done a) k f g e = rw (e a) refl
+ends-as (refused n p) k f g e = refl
+
+reached : {A : Type 0} (f : A → ℕ × ℕ) (a : A) {x k : ℕ} → f a .0 ≡ x → f a .1 ≡ k → judged f (done a) ≡ To x k
+unfolding judged
+reached f a p q = rw (p, q) refl
+
+-- ---- one record
+
+pub missing : (l : List ℕ) (i : ℕ) → length l / 3 ≤ i → isThere l i ≡ false
+missing l i h = lt-leb (3 * i + 3) (length l) (omega arith)
+
+pub is-there : (l : List ℕ) (i : ℕ) → i < length l / 3 → isThere l i ≡ true
+is-there l i h = le-leb (3 * i + 3) (length l) (omega arith)
+
+-- A record whose test holds is there.
+there-is : (l : List ℕ) (i : ℕ) (t : Bool) → (isThere l i and t) ≡ true → i < length l / 3
+there-is l i t h = omega (arith, leb-true (3 * i + 3) (length l) (and-left _ _ h))
+
+pub number-there : (l : List ℕ) (i : ℕ) → isNumber l i ≡ true → i < length l / 3
+number-there l i h = there-is l i _ h
+
+pub group-there : (l : List ℕ) (i : ℕ) → isGroup l i ≡ true → i < length l / 3
+group-there l i h = there-is l i _ h
+
+module _ (l : List ℕ) (n i : ℕ) where
+  abbrev octetsIs : Result Answer
+  octetsIs = judgeOctets l n true i
+
+  pub octets-missing : length l / 3 ≤ i → judged (octetsEnd i) octetsIs ≡ Refused (refusal 51 i)
+  unfolding judgeOctets judged must _>>=_ _and_
+  octets-missing h = rw (missing l i h) refl
+
+  module _ (h : i < length l / 3) where
+    pub octets-other : (first l i ≡ 2 → ⊥) → judged (octetsEnd i) octetsIs ≡ Refused (refusal 51 i)
+    unfolding judgeOctets judged must _>>=_ _and_
+    octets-other k = rw (is-there l i h, ne-eqb (first l i) 2 k) refl
+
+    module _ (k : first l i ≡ 2) where
+      pub octets-past : n < second l i + third l i → judged (octetsEnd i) octetsIs ≡ Refused (refusal 53 i)
+      unfolding judgeOctets judged must _>>=_ _and_
+      octets-past p =
+          rw (is-there l i h, eq-eqb (first l i) 2 k, lt-leb (second l i + third l i) n p)
+          refl
+
+      pub octets-whole : second l i + third l i ≤ n → judged (octetsEnd i) octetsIs ≡ To (i + 1) (third l i)
+      unfolding judgeOctets judged must _>>=_ _and_ spanOf
+      octets-whole p =
+          rw (is-there l i h, eq-eqb (first l i) 2 k, le-leb (second l i + third l i) n p)
+          refl
+
+  -- Octets of a length that fits.
+  fitting : (a b fits : Bool) (x : Answer) → (must a 51 i >>= λ _. must (b and fits) 53 i >>= λ _. done x)
+      ≡ ((must a 51 i >>= λ _. must (b and true) 53 i >>= λ _. done x) >>= λ y. must fits 53 i >>= λ _. done y)
+  unfolding must _>>=_ _and_
+  fitting false b fits x = refl
+  fitting true false fits x = refl
+  fitting true true fits x = refl
+
+  octets-fit : (fits : Bool) → judgeOctets l n fits i ≡ (octetsIs >>= λ a. must fits 53 i >>= λ _. done a)
+  unfolding judgeOctets
+  octets-fit fits = fitting (isOctets l i) (leb (second l i + third l i) n) fits (Octets (second l i) (third l i))
+
+  pub fit-refused : (g : Answer → ℕ × ℕ) (fits : Bool) (z : Refusal) → Refused z ≡ judged (octetsEnd i) octetsIs
+      → judged g (judgeOctets l n fits i) ≡ Refused z
+  fit-refused g fits z e = rw (octets-fit fits) (stops (octetsEnd i) octetsIs _ g z e)
+
+  module _ (x k : ℕ) (e : To x k ≡ judged (octetsEnd i) octetsIs) where
+    octets-reached : Reached (octetsEnd i) octetsIs x k
+    octets-reached = inv-to (octetsEnd i) octetsIs x k e
+
+    -- The length is the record's.
+    length-said : k ≡ third l i
+    unfolding spanOf
+    length-said =
+        let q = octets-reached in
+        sym (q .octets) ∙ ap (λ (a : Answer). spanOf a .1) (sym (octets-said l n true i (q .value) (q .is) .0 .is))
+
+    module _ (g : Answer → ℕ × ℕ) (fits : Bool) where
+      pub fit-not : (k ≡ third l i → fits ≡ false) → judged g (judgeOctets l n fits i) ≡ Refused (refusal 53 i)
+      unfolding must _>>=_ judged
+      fit-not t = rw (octets-fit fits, goes-on octets-reached, t length-said) refl
+
+      pub fit-whole : (k ≡ third l i → fits ≡ true) → (y : ℕ) → ((a : Answer) → spanOf a .1 ≡ k → g a ≡ (i + 1, y))
+          → judged g (judgeOctets l n fits i) ≡ To x y
+      unfolding must _>>=_
+      fit-whole t y o =
+          let q = octets-reached in
+          let w = o (q .value) (q .octets) in
+          rw (octets-fit fits, goes-on q, t length-said)
+          (reached g (q .value) (ap (λ (v : ℕ × ℕ). v .0) w ∙ q .next) (ap (λ (v : ℕ × ℕ). v .1) w))
+
+module _ (l : List ℕ) (f : Field) (i : ℕ) where
+  abbrev numberIs : Result Answer
+  numberIs = judgeNumber l 0 f i
+
+  pub number-other : isNumber l i ≡ false → judged (fieldEnd i) numberIs ≡ Refused (refusal 51 i)
+  unfolding judgeNumber judged must _>>=_
+  number-other h = rw h refl
+
+  module _ (h : isNumber l i ≡ true) where
+    pub number-outside : numberFits l f i ≡ false → judged (fieldEnd i) numberIs ≡ Refused (refusal 52 i)
+    unfolding judgeNumber judged must _>>=_
+    number-outside k = rw (h, k) refl
+
+    pub number-whole : numberFits l f i ≡ true → judged (fieldEnd i) numberIs ≡ To (i + 1) 0
+    unfolding judgeNumber judged must _>>=_
+    number-whole k = rw (h, k) refl
+
+-- The greatest of a type is its spread above the least.
+spread-to : (t : ℕ) → (spread (typeAt t) + typeAt t .least) % 2 ^ 64 ≡ typeAt t .greatest
+spread-to t =
+    each-type (λ k. (spread k + k .least) % 2 ^ 64 ≡ k .greatest) refl
+    (λ w a. omega (arith, a .even, a .whole, a .many)) (λ w a. omega (arith, a .whole, a .many)) t
+
+-- What is in range is not null.
+inside-only : (t x : ℕ) → (inRange (typeAt t) x and not (eqb x (typeAt t .null))) ≡ inRange (typeAt t) x
+unfolding _and_
+inside-only t x = go (inRange (typeAt t) x) refl
+  where
+    go : (b : Bool) → inRange (typeAt t) x ≡ b → (b and not (eqb x (typeAt t .null))) ≡ b
+    go false e = refl
+    go true e = rw (inside-not-null t x e) refl
+
+-- A number d above the least of a type fits it where d is no more than the spread.
+pub within : (t x d least far : ℕ) → d < 2 ^ 64 → (d + least) % 2 ^ 64 ≡ x → least ≡ typeAt t .least
+    → far ≡ spread (typeAt t) → (inRange (typeAt t) x and not (eqb x (typeAt t .null))) ≡ leb d far
+within t x d least far small e p q =
+    rw (inside-only t x, q) (in-span t x d _ (rw p at e) (spread-to t) small (omega arith))
+
+-- ---- fields
+
+module _ (l : List ℕ) (n : ℕ) (f : Field) (i : ℕ) where
+  pub field-array : 1 < f .length
+      → judged (fieldEnd i) (judgeField l n f i)
+      ≡ judged (fieldEnd i) (judgeOctets l n (eqb (third l i) (f .length)) i)
+  unfolding if_then_else_
+  field-array h = rw (lt-ltb 1 (f .length) h) refl
+
+  pub field-number : f .length ≤ 1
+      → judged (fieldEnd i) (judgeField l n f i) ≡ judged (fieldEnd i) (judgeNumber l 0 f i)
+  unfolding if_then_else_ judgeNumber
+  field-number h = rw (le-ltb 1 (f .length) h) refl
+
+-- The first of the fields that are left, which stand at f and whose table is at t.
+pub field-here : (p : List ℕ) (a left f t : ℕ) → IsBlock p a → 0 < left → left ≤ fieldCount p a
+    → f + 6 * left ≡ fieldsFrom p a + 6 * fieldCount p a → t + 5 * left ≡ tableFrom p a + 5 * fieldCount p a
+    → IsField p f t
+field-here p a left f t b some few at table =
+    let j = fieldCount p a - left in
+    let x : fieldsFrom p a + 6 * j ≡ f = omega arith in
+    let y : tableFrom p a + 5 * j ≡ t = omega arith in
+    record {
+      fits = omega (arith, b .fieldsFit);
+      tableFits = omega (arith, b .tableFits);
+      derived =
+          subst (λ (u : ℕ). Derived p u (fieldAt p f)) y
+          (subst (λ (u : ℕ). Derived p (tableFrom p a + 5 * j) (fieldAt p u)) x (b .derived j (omega arith)));
+    }
+
+module _ (l : List ℕ) (n : ℕ) (p : List ℕ) where
+  abbrev pub fieldsIs : ℕ → ℕ → ℕ → Result (List Answer × ℕ)
+  fieldsIs k f i = judgeFields l n (parseFields p k f) i
+
+  fields-step : (k f i : ℕ) → 0 < k → fieldsIs k f i
+      ≡ (judgeField l n (fieldAt p f) i >>= λ a. fieldsIs (k - 1) (f + 6) (i + 1) >>= λ r. done (a ∷ r .0, r .1))
+  unfolding judgeFields parseFields
+  fields-step zero f i h = absurd (omega arith)
+  fields-step (suc k) f i h =
+      let q : suc k - 1 ≡ k = omega arith in
+      let e : i + 1 ≡ suc i = omega arith in
+      rw (q, e) refl
+
+  module _ (k f i : ℕ) where
+    pub fields-end : k ≤ 0 → judged fieldsEnd (fieldsIs k f i) ≡ To i 0
+    fields-end h = go k h
+      where
+        go : (k : ℕ) → k ≤ 0 → judged fieldsEnd (fieldsIs k f i) ≡ To i 0
+        go zero h = unfold judged judgeFields parseFields in refl
+        go (suc k) h = absurd (omega arith)
+
+    module _ (h : 0 < k) where
+      pub fields-refused : (z : Refusal) → Refused z ≡ judged (fieldEnd i) (judgeField l n (fieldAt p f) i)
+          → judged fieldsEnd (fieldsIs k f i) ≡ Refused z
+      fields-refused z e = rw (fields-step k f i h) (stops (fieldEnd i) _ _ _ z e)
+
+      pub fields-next : (x y : ℕ) → To x y ≡ judged (fieldEnd i) (judgeField l n (fieldAt p f) i)
+          → judged fieldsEnd (fieldsIs k f i) ≡ judged fieldsEnd (fieldsIs (k - 1) (f + 6) x)
+      fields-next x y e =
+          let q = inv-to (fieldEnd i) _ x y e in
+          rw (fields-step k f i h, goes-on q, q .next) (ends-as _ _ _ _ λ r. refl)
+
+-- ---- data
+
+module _ (l : List ℕ) (n : ℕ) (p : List ℕ) where
+  abbrev pub datasIs : ℕ → ℕ → ℕ → Result (List Answer × ℕ)
+  datasIs k d i = judgeDatas l n (parseDatas p k d) i
+
+  datas-step : (k d i : ℕ) → 0 < k → datasIs k d i
+      ≡ (judgeData l n i >>= λ a. datasIs (k - 1) (d + 2) (i + 1) >>= λ r. done (a ∷ r .0, r .1))
+  unfolding judgeDatas parseDatas
+  datas-step zero d i h = absurd (omega arith)
+  datas-step (suc k) d i h =
+      let q : suc k - 1 ≡ k = omega arith in
+      let e : i + 1 ≡ suc i = omega arith in
+      rw (q, e) refl
+
+  module _ (seen k d i : ℕ) where
+    pub datas-end : seen ≤ limit → k ≤ 0 → judged (datasEnd seen) (datasIs k d i) ≡ To i seen
+    datas-end s h = go k h
+      where
+        go : (k : ℕ) → k ≤ 0 → judged (datasEnd seen) (datasIs k d i) ≡ To i seen
+        go zero h = unfold judgeDatas parseDatas datasLength in reached (datasEnd seen) ([], i) refl (omega arith)
+        go (suc k) h = absurd (omega arith)
+
+    module _ (h : 0 < k) where
+      pub datas-refused : (z : Refusal) → Refused z ≡ judged (octetsEnd i) (judgeOctets l n true i)
+          → judged (datasEnd seen) (datasIs k d i) ≡ Refused z
+      datas-refused z e =
+          rw (datas-step k d i h) (stops (octetsEnd i) _ _ _ z (sym (fit-refused l n i (octetsEnd i) _ z e)))
+
+      module _ (x y : ℕ) (e : To x y ≡ judged (octetsEnd i) (judgeOctets l n true i)) where
+        pub datas-long : null16 ≤ y → judged (datasEnd seen) (datasIs k d i) ≡ Refused (refusal 53 i)
+        datas-long long =
+            rw (datas-step k d i h) (stops (octetsEnd i) _ _ _ (refusal 53 i)
+            (sym (fit-not l n i x y e (octetsEnd i) _ (λ q. le-ltb _ null16 (rw q at long)))))
+
+        data-reached : y < null16 → Reached (octetsEnd i) (judgeData l n i) x y
+        data-reached short =
+            inv-to (octetsEnd i) _ x y (sym (fit-whole l n i x y e (octetsEnd i) _
+            (λ q. lt-ltb _ null16 (rw q at short)) y (λ a q. pair≡ refl q)))
+
+        pub datas-next : y < null16
+            → judged (datasEnd seen) (datasIs k d i)
+            ≡ judged (datasEnd (capped (seen + (2 + y)))) (datasIs (k - 1) (d + 2) x)
+        unfolding datasLength
+        datas-next short =
+            rw (datas-step k d i h, goes-on (data-reached short), data-reached short .next)
+            (ends-as _ _ _ _ λ r. ap (λ (o : ℕ). (r .1, o)) (omega (arith, data-reached short .octets)))
+
+-- ---- entries
+
+-- Octets are counted one after the other, or all at once.
+capped-plus : (a b : ℕ) → capped (capped a + b) ≡ capped (a + b)
+capped-plus a b = omega arith
+
+counts : (a c u : ℕ) → capped (0 + c) ≡ u → capped (capped a + u) ≡ capped (a + c)
+counts a c u e = omega (arith, e)
+
+entry-counts : (seen l g d rest o m : ℕ) → capped (0 + g) ≡ o → capped (0 + d) ≡ m
+    → capped (seen + (l + (g + (d + rest)))) ≡ capped (capped (capped (capped (seen + l) + o) + m) + rest)
+entry-counts seen l g d rest o m p q =
+    let sum : seen + (l + (g + (d + rest))) ≡ seen + l + g + d + rest = omega arith in
+    rw (counts (seen + l) g o p, counts (seen + l + g) d m q, sum) (sym (capped-plus (seen + l + g + d) rest))
+
+-- k entries of the block s with the groups gs.
+module _ (l : List ℕ) (n : ℕ) (s : Shape) (gs : Groups) where
+  abbrev pub entriesIs : ℕ → ℕ → Result (Values × ℕ)
+  entriesIs k i = judgeEntries l n k (judgeBlock l n s (judgeGroups l n gs)) i
+
+  entries-step : (k i : ℕ) → 0 < k → entriesIs k i
+      ≡ (judgeBlock l n s (judgeGroups l n gs) i >>= λ e. entriesIs (k - 1) (e .3)
+      >>= λ r. done (entry (e .0) (e .1) (e .2) (r .0), r .1))
+  unfolding judgeEntries
+  entries-step zero i h = absurd (omega arith)
+  entries-step (suc k) i h = let q : suc k - 1 ≡ k = omega arith in rw q refl
+
+  module _ (seen k i : ℕ) where
+    pub entries-end : seen ≤ limit → k ≤ 0 → judged (rowEnd s gs seen) (entriesIs k i) ≡ To i seen
+    entries-end b h = go k h
+      where
+        go : (k : ℕ) → k ≤ 0 → judged (rowEnd s gs seen) (entriesIs k i) ≡ To i seen
+        go zero h = unfold judgeEntries rowLength in reached (rowEnd s gs seen) (nil, i) refl (omega arith)
+        go (suc k) h = absurd (omega arith)
+
+    module _ (h : 0 < k) where
+      pub entry-fields : (z : Refusal) → Refused z ≡ judged fieldsEnd (judgeFields l n (s .fields) i)
+          → judged (rowEnd s gs seen) (entriesIs k i) ≡ Refused z
+      unfolding judgeBlock judged _>>=_
+      entry-fields z e = rw (entries-step k i h, inv-refused fieldsEnd (judgeFields l n (s .fields) i) z e) refl
+
+      module _ (x u : ℕ) (f : To x u ≡ judged fieldsEnd (judgeFields l n (s .fields) i)) where
+        fielded : Reached fieldsEnd (judgeFields l n (s .fields) i) x u
+        fielded = inv-to fieldsEnd _ x u f
+
+        pub entry-row : (z : Refusal) → Refused z ≡ judged (rowEnd s gs 0) (judgeGroups l n gs x)
+            → judged (rowEnd s gs seen) (entriesIs k i) ≡ Refused z
+        unfolding judgeBlock judged _>>=_
+        entry-row z e =
+            let r = inv-refused (rowEnd s gs 0) (judgeGroups l n gs x) z e in
+            rw (entries-step k i h, goes-on fielded, fielded .next, r) refl
+
+        module _ (y o : ℕ) (g : To y o ≡ judged (rowEnd s gs 0) (judgeGroups l n gs x)) where
+          grouped : Reached (rowEnd s gs 0) (judgeGroups l n gs x) y o
+          grouped = inv-to (rowEnd s gs 0) _ y o g
+
+          pub entry-datas : (z : Refusal) → Refused z ≡ judged (datasEnd 0) (judgeDatas l n (s .datas) y)
+              → judged (rowEnd s gs seen) (entriesIs k i) ≡ Refused z
+          unfolding judgeBlock judged _>>=_
+          entry-datas z e =
+              let r = inv-refused (datasEnd 0) (judgeDatas l n (s .datas) y) z e in
+              rw (entries-step k i h, goes-on fielded, fielded .next, goes-on grouped, grouped .next, r) refl
+
+          pub entry-next : (z m : ℕ) → To z m ≡ judged (datasEnd 0) (judgeDatas l n (s .datas) y)
+              → judged (rowEnd s gs seen) (entriesIs k i)
+              ≡ judged (rowEnd s gs (capped (capped (capped (seen + s .length) + o) + m))) (entriesIs (k - 1) z)
+          unfolding judgeBlock rowLength
+          entry-next z m e =
+              let q = inv-to (datasEnd 0) _ z m e in
+              rw (
+                entries-step k i h,
+                goes-on fielded,
+                fielded .next,
+                goes-on grouped,
+                grouped .next,
+                goes-on q,
+                bind-done,
+                q .next,
+              )
+              (ends-as _ _ _ _ λ r.
+              ap (λ (v : ℕ). (r .1, v)) (entry-counts _ _ _ _ _ _ _ (grouped .octets) (q .octets)))
+
+        -- A block with neither groups nor data is its fields, and the octets that it declares.
+        entry-plain : gs ≡ none → s .datas ≡ [] → judged (rowEnd s gs seen) (entriesIs k i)
+            ≡ judged (rowEnd s gs (capped (seen + s .length))) (entriesIs (k - 1) x)
+        unfolding judgeGroups judgeDatas judged rowLength datasLength
+        entry-plain a b =
+            let q : capped (capped (capped (seen + s .length) + 0) + 0) ≡ capped (seen + s .length) = omega arith in
+            rw q at (entry-next x 0 (rw a refl) x 0 (rw b refl))
+
+-- ---- groups in a row
+
+module _ (l : List ℕ) (n : ℕ) (s : Shape) (seen : ℕ) where
+  pub row-end : (gs : Groups) (i : ℕ) → gs ≡ none → seen ≤ limit
+      → judged (rowEnd s gs seen) (judgeGroups l n gs i) ≡ To i seen
+  unfolding judgeGroups rowLength
+  row-end gs i e b = rw e (reached (rowEnd s none seen) (nil, i) refl (omega arith))
+
+  -- gs is a group with the block b and the groups `inner`, and then `rest`.
+  module _ (gs : Groups) (id since : ℕ) (b : Shape) (inner rest : Groups) (is : gs ≡ more id since b inner rest)
+      (i : ℕ) where
+    pub row-other : isGroup l i ≡ false → judged (rowEnd s gs seen) (judgeGroups l n gs i) ≡ Refused (refusal 51 i)
+    unfolding judgeGroups judged must _>>=_
+    row-other h = rw (is, h) refl
+
+    module _ (h : isGroup l i ≡ true) (k : ℕ) (e : k ≡ second l i) where
+      pub row-many : null16 ≤ k → judged (rowEnd s gs seen) (judgeGroups l n gs i) ≡ Refused (refusal 54 i)
+      unfolding judgeGroups judged must _>>=_
+      row-many m = rw (is, h, le-ltb (second l i) null16 (rw e at m)) refl
+
+      module _ (m : k < null16) where
+        row-step : judgeGroups l n gs i ≡ (entriesIs l n b inner k (i + 1) >>= λ r. judgeGroups l n rest (r .1)
+            >>= λ g. done (group (Group k) (r .0) (g .0), g .1))
+        unfolding judgeGroups must
+        row-step =
+            let q : i + 1 ≡ suc i = omega arith in
+            rw (is, h, q, lt-ltb (second l i) null16 (rw e at m), bind-done, bind-done, e) refl
+
+        pub row-entries : (z : Refusal) → Refused z ≡ judged (rowEnd b inner 0) (entriesIs l n b inner k (i + 1))
+            → judged (rowEnd s gs seen) (judgeGroups l n gs i) ≡ Refused z
+        row-entries z q = rw row-step (stops (rowEnd b inner 0) _ _ _ z q)
+
+        pub row-next : (x y : ℕ) → To x y ≡ judged (rowEnd b inner 0) (entriesIs l n b inner k (i + 1))
+            → judged (rowEnd s gs seen) (judgeGroups l n gs i)
+            ≡ judged (rowEnd s rest (capped (seen + capped (4 + y)))) (judgeGroups l n rest x)
+        unfolding rowLength
+        row-next x y q =
+            let r = inv-to (rowEnd b inner 0) _ x y q in
+            rw (row-step, goes-on r, r .next, is)
+            (ends-as _ _ _ _ λ g. ap (λ (v : ℕ). (g .1, v)) (omega (arith, r .octets)))
+
+-- ---- at places of the prepared book
+
+no-datas-at : (p : List ℕ) (n d : ℕ) → n ≤ 0 → parseDatas p n d ≡ []
+unfolding parseDatas
+no-datas-at p zero d h = refl
+no-datas-at p (suc n) d h = absurd (omega arith)
+
+-- An entry of a block that nothing follows.
+pub plain-next : (p : List ℕ) (depth a : ℕ) (l : List ℕ) (n seen k i x u follow : ℕ) → IsBlock p a
+    → follow ≡ word p (a + 7) → follow ≡ 0 → 0 < k
+    → To x u ≡ judged fieldsEnd (judgeFields l n (shapeAt p a .fields) i)
+    → judged (rowEnd (shapeAt p a) (innerAt p depth a) seen) (entriesAt p depth a l n k i)
+    ≡ judged (rowEnd (shapeAt p a) (innerAt p depth a) (capped (seen + word p (a + 2))))
+    (entriesAt p depth a l n (k - 1) x)
+plain-next p depth a l n seen k i x u follow b w z h e =
+    entry-plain l n (shapeAt p a) (innerAt p depth a) seen k i h x u e
+    (no-groups-at p depth (groupCount p a) (groupsFrom p a) (omega (arith, b .follow, w, z)))
+    (no-datas-at p (dataCount p a) (datasFrom p a) (omega (arith, b .follow, w, z)))
+
+-- ---- a whole listing
+
+module _ (l : List ℕ) (n : ℕ) (t : Template) where
+  abbrev rootIs : Result (Values × ℕ)
+  rootIs = entriesIs l n (t .shape) (t .groups) 1 0
+
+  abbrev listingJudged : Judged
+  listingJudged = judged (listingEnd (t .shape) (t .groups) l) (judgeListing l n t)
+
+  -- The root is one entry.
+  root-step : judgeListing l n t ≡ (rootIs >>= λ r. must (eqb (3 * r .1) (length l)) 51 (r .1) >>= λ _. done (r .0))
+  unfolding judgeListing judgeEntries _>>=_
+  root-step = sym (bind-assoc (judgeBlock l n (t .shape) (judgeGroups l n (t .groups)) 0) _ _)
+
+  pub listing-refused : (z : Refusal) → Refused z ≡ judged (rowEnd (t .shape) (t .groups) 0) rootIs
+      → listingJudged ≡ Refused z
+  listing-refused z e = rw root-step (stops (rowEnd (t .shape) (t .groups) 0) _ _ _ z e)
+
+  module _ (x k : ℕ) (e : To x k ≡ judged (rowEnd (t .shape) (t .groups) 0) rootIs) where
+    rooted : Reached (rowEnd (t .shape) (t .groups) 0) rootIs x k
+    rooted = inv-to (rowEnd (t .shape) (t .groups) 0) rootIs x k e
+
+    pub listing-left : (3 * x ≡ length l → ⊥) → listingJudged ≡ Refused (refusal 51 x)
+    unfolding judged must _>>=_
+    listing-left h = rw (root-step, goes-on rooted, rooted .next, ne-eqb (3 * x) (length l) h) refl
+
+    pub listing-whole : 3 * x ≡ length l → listingJudged ≡ To x k
+    unfolding must _>>=_
+    listing-whole h =
+        rw (root-step, goes-on rooted, rooted .next, eq-eqb (3 * x) (length l) h)
+        (reached (listingEnd (t .shape) (t .groups) l) _ (omega arith) (omega (arith, rooted .octets)))

@@ -1,0 +1,34 @@
+-- The block's groups, by the book's version.
+use mathlib.Core.Path.{_∙_, sym}
+use native.Mathlib.Omega.{arith}
+use borrow.Author.Needs.{needs}
+use borrow.Author.Tests.{eqb-true}
+use Rattle.prepared.proofs.Open.{groups-here, length-row}
+use Rattle.messages.proofs.Counts.{over-known, over-newer}
+use Rattle.messages.proofs.groups_over.Statement.{statement}
+use Rattle.messages.proofs.groups_over.Tie as tie
+
+returns : tie.Need-returns
+returns c =
+    let read = c .before in
+    let test = read .before in
+    let row = test .before .before .before .pre .row in
+    let all = read .number2 .ensures in
+    let newer = rw (test .before .number .ensures) at (test .if1 .taken) in
+    c .over .ensures
+    ∙ sym (over-newer _ _ _ _ _ newer (all ∙ sym (length-row _ _ _ _ row))
+    (groups-here _ _ _ _ _ (omega (arith, newer)) row ∙ sym all))
+
+returns-2 : tie.Need-returns-2
+returns-2 c =
+    let test = c .before .before in
+    rw (c .before .groups-here .ensures) at (c .over2 .ensures)
+    ∙ sym (over-known _ _ _ _ (rw (test .before .number .ensures) at (test .if1 .left)))
+
+pub groups-over-spec : {M : Type 1} → statement M
+groups-over-spec =
+    tie.close
+    (tie.spec (λ c κs. search needs) (λ c. search needs) (λ c κs. search needs) (λ c κs. search needs) returns
+    (λ c κs. search needs)
+    (λ c κs e. omega (arith, eqb-true (c .before .before .before .before .args .n) (c .groups-here .result) e))
+    returns-2)

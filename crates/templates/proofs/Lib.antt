@@ -1,3 +1,0 @@
-pub mod Open
-pub mod Rows
-pub mod Found

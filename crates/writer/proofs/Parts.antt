@@ -1,0 +1,279 @@
+-- What each part of a listing writes, taken apart in the code's terms. That it was judged good is known: no test is
+-- made.
+use mathlib.Core.Path.{_≡_, refl, sym, ap, _∙_}
+use mathlib.Core.List.{List, [], _∷_, _++_, append-nil}
+use mathlib.Core.Bool.{Bool, true, false}
+use Prim.Native.Nat.{ℕ, zero, suc, _+_, _-_, _*_, _/_, _≤_, _<_}
+use native.Mathlib.Omega.{arith}
+use lib.Dec.{eqb, ltb}
+use lib.ListN.{drop, length, length-append, replicate, take}
+use lib.Seq.{length-sets, sets}
+use borrow.Rule.Slice.PartMut.{putMid}
+use borrow.Author.Tests.{eqb-false, eqb-true, le-ltb, leb-true, lt-ltb, ne-eqb}
+use Rattle.layout.specs.Result.{done, if_then_else_, _and_}
+use Rattle.layout.specs.Octets.{null16, octetsOf}
+use Rattle.layout.specs.Types.{typeAt}
+use Rattle.layout.specs.Book.{Field, Groups, Shape, end, isArray, more, size}
+use Rattle.layout.specs.BookRules.{fieldAt, fieldsGood, lengthGood, parseFields, word}
+use Rattle.layout.specs.Writing.{fieldOctets, first, isGroup, isNumber, isThere, judgeData, judgeField}
+use Rattle.layout.specs.Writing.{numbers16, second, spanOf, third}
+use Rattle.layout.specs.declared.Answer.the-variants.{Null, Number}
+use Rattle.layout.proofs.Results.{and-left, and-right, or-right}
+use Rattle.layout.proofs.Fields.{field-good}
+use Rattle.layout.proofs.Said.{NumberSaid, array-said, data-said, number-said}
+use Rattle.layout.proofs.Lengths.{field-long, span-long}
+use Rattle.layout.proofs.Stands.{length-octets}
+use Rattle.octets.proofs.Joined.{sets-append}
+use Rattle.prepared.specs.Positions.{Derived, IsBlock, fieldCount, fieldsFrom, groupsAt, tableFrom}
+use Rattle.prepared.proofs.Open.{no-groups-at}
+use Rattle.prints.specs.Prints.{Accepted, Printed, Room, Stored, andThen, endOf, got, not, numbersOf, prepend, printed}
+use Rattle.prints.proofs.Going.{Done, was-done}
+use Rattle.writer.proofs.Zeros.{part-put, partOf}
+use Rattle.writer.specs.Parts.{FieldAt, dataPart, datasPart, entriesPart, fieldsPart, groupsPart, numberOr}
+use Rattle.writer.specs.Parts.{valuePart}
+
+-- ---- records
+
+there-is : (l : List ℕ) (i : ℕ) (t : Bool) → (isThere l i and t) ≡ true → i < length l / 3
+there-is l i t h = omega (arith, leb-true (3 * i + 3) (length l) (and-left _ _ h))
+
+-- A number's record says 0, or else 1.
+not-zero : (l : List ℕ) (i : ℕ) → isNumber l i ≡ true → (first l i ≡ 0 → ⊥) → first l i ≡ 1
+not-zero l i h k =
+    eqb-true (first l i) 1 (and-left _ _ (or-right _ _ (and-right _ _ (and-right _ _ h)) (ne-eqb (first l i) 0 k)))
+
+-- ---- one field
+
+module _ (l pool : List ℕ) (f : Field) (i k : ℕ) (r : Room (valuePart l pool f i) 0 k) where
+  value-done : Done (judgeField l (length pool) f i)
+  unfolding valuePart
+  value-done = was-done _ _ _ (r .whole)
+
+  -- Its record is there.
+  pub value-there : i < length l / 3
+  value-there = go (isArray f) refl
+    where
+      go : (y : Bool) → isArray f ≡ y → i < length l / 3
+      go true y = there-is l i _ (array-said l (length pool) f i _ y (value-done .is) .0 .kind)
+      go false y = there-is l i _ (number-said l (length pool) f i _ y (value-done .is) .kind)
+
+  -- The octets that it has, n in number.
+  pub record ValueOpen (e : List ℕ) (n : ℕ) : Type 0 where
+    pub same : valuePart l pool f i ≡ got (i + 1) e
+    pub fits : n ≤ k
+
+  value-open : {e : List ℕ} {n : ℕ} → length e ≡ n → fieldOctets pool f (value-done .value) ≡ e → ValueOpen e n
+  unfolding valuePart printed numbersOf
+  value-open {e} h q =
+      let same : valuePart l pool f i ≡ got (i + 1) e = rw (value-done .is, q) refl in
+      record { same = same; fits = omega (arith, rw same at (r .fits), h) }
+
+  -- It is as long as its size says.
+  pub value-stored : lengthGood f ≡ true → {d d′ : List ℕ} → d′ ≡ sets d 0 (numbersOf (valuePart l pool f i))
+      → Stored (valuePart l pool f i) 0 d (i + 1) (size f) d′
+  unfolding endOf numbersOf
+  value-stored g q =
+      let same = value-open refl refl .same in
+      let long = field-long l pool f i (value-done .value) g (value-done .is) in
+      record { place = rw same refl; taken = rw same (omega (arith, long)); room = q }
+
+  -- An array is octets of the pool.
+  module _ (n : ℕ) (is : n ≡ f .length) (h : 1 < n) where
+    pub array-within : second l i + n ≤ length pool
+    array-within =
+        let s = array-said l (length pool) f i _ (lt-ltb 1 (f .length) (rw is at h)) (value-done .is) in
+        omega (arith, s .0 .within, s .1, is)
+
+    pub array-open : ValueOpen (take n (drop (second l i) pool)) n
+    unfolding fieldOctets spanOf
+    array-open =
+        let s = array-said l (length pool) f i _ (lt-ltb 1 (f .length) (rw is at h)) (value-done .is) in
+        value-open (span-long pool (second l i) n array-within) (rw (← (s .0 .is), s .1, is) refl)
+
+  -- A number, or the type's null x.
+  pub number-open : f .length ≤ 1 → (n x : ℕ) → n ≡ typeAt (f .type) .width → x ≡ typeAt (f .type) .null
+      → ValueOpen (octetsOf n (numberOr l i x)) n
+  unfolding if_then_else_ fieldOctets
+  number-open h n x is e = value-open (length-octets n _) (rw (← (said .is), is, e) (go (eqb (first l i) 0) refl))
+    where
+      said : NumberSaid l (length pool) f i (value-done .value)
+      said = number-said l (length pool) f i _ (le-ltb 1 (f .length) h) (value-done .is)
+
+      go : (b : Bool) → eqb (first l i) 0 ≡ b
+          → fieldOctets pool f (if eqb (first l i) 1 then Null else Number (second l i))
+          ≡ octetsOf (typeAt (f .type) .width) (if b then second l i else typeAt (f .type) .null)
+      go true z = rw (eqb-true (first l i) 0 z) refl
+      go false z = rw (not-zero l i (said .kind) (eqb-false (first l i) 0 z)) refl
+
+-- ---- fields in a row
+
+-- n good fields stand at f, from octet `at` of a block of len octets on, and at t what is worked out of them.
+pub record FieldsLeft (p : List ℕ) (len at n f t : ℕ) : Type 0 where
+  pub short : length p ≤ 65535
+  pub fields : f + 6 * n ≤ length p
+  pub table : t + 5 * n ≤ length p
+  pub derived : (i : ℕ) → i < n → Derived p (t + 5 * i) (fieldAt p (f + 6 * i))
+  pub within : at ≤ len
+  pub good : fieldsGood len at (parseFields p n f) ≡ true
+
+pub fields-left : (p : List ℕ) (a : ℕ) → IsBlock p a
+    → FieldsLeft p (word p (a + 2)) 0 (fieldCount p a) (fieldsFrom p a) (tableFrom p a)
+fields-left p a b =
+    record {
+      short = b .short;
+      fields = b .fieldsFit;
+      table = b .tableFits;
+      derived = b .derived;
+      within = omega arith;
+      good = and-right _ _ (b .good);
+    }
+
+-- The first of them, and the others.
+pub record FieldNext (p : List ℕ) (len at n f t : ℕ) : Type 0 where
+  pub here : FieldAt p f t
+  pub placed : at ≤ word p (f + 3)
+  pub whole : lengthGood (fieldAt p f) ≡ true
+  pub rest : FieldsLeft p len (end (fieldAt p f)) (n - 1) (f + 6) (t + 5)
+
+pub field-next : (p : List ℕ) (len at n f t : ℕ) → 0 < n → FieldsLeft p len at n f t → FieldNext p len at n f t
+unfolding parseFields
+field-next p len at zero f t h w = absurd (omega arith)
+field-next p len at (suc n) f t h w =
+    let q : suc n - 1 ≡ n = omega arith in
+    let a : t + 5 * 0 ≡ t = omega arith in
+    let b : f + 6 * 0 ≡ f = omega arith in
+    let g = field-good len at (fieldAt p f) (parseFields p n (f + 6)) (w .good) in
+    record {
+      here = record { field = omega arith; table = omega arith; derived = rw (a, b) at (w .derived 0 h) };
+      placed = g .placed;
+      whole = g .length;
+      rest = record {
+        short = w .short;
+        fields = omega arith;
+        table = omega arith;
+        derived = λ i k.
+            let c : t + 5 + 5 * i ≡ t + 5 * (i + 1) = omega arith in
+            let e : f + 6 + 6 * i ≡ f + 6 * (i + 1) = omega arith in
+            rw (c, e) (w .derived (i + 1) (omega arith));
+        within = g .ended;
+        good = rw q (g .rest);
+      };
+    }
+
+module _ (l pool : List ℕ) where
+  pub fields-step : (p : List ℕ) (len at n f i : ℕ) → 0 < n
+      → fieldsPart l pool len at (parseFields p n f) i
+      ≡ prepend (replicate (word p (f + 3) - at) 0) (andThen (valuePart l pool (fieldAt p f) i)
+      (fieldsPart l pool len (end (fieldAt p f)) (parseFields p (n - 1) (f + 6))))
+  unfolding parseFields fieldsPart
+  fields-step p len at zero f i h = absurd (omega arith)
+  fields-step p len at (suc n) f i h = let q : suc n - 1 ≡ n = omega arith in rw q refl
+
+  pub fields-end : (p : List ℕ) (len at n f i : ℕ) → n ≤ 0
+      → fieldsPart l pool len at (parseFields p n f) i ≡ prepend (replicate (len - at) 0) (got i [])
+  unfolding parseFields fieldsPart prepend
+  fields-end p len at zero f i h = rw append-nil refl
+  fields-end p len at (suc n) f i h = absurd (omega arith)
+
+  -- ---- data
+
+  abbrev spanAt : ℕ → List ℕ
+  spanAt i = take (third l i) (drop (second l i) pool)
+
+  -- The data of record i, and a room of k octets.
+  pub record DataOpen (i k : ℕ) : Type 0 where
+    pub there : i < length l / 3
+    pub within : second l i + third l i ≤ length pool
+    pub long : length (spanAt i) ≡ third l i
+    pub fits : 2 + third l i ≤ k
+    pub same : dataPart l pool i ≡ got (i + 1) (octetsOf 2 (third l i) ++ spanAt i)
+
+  data-done : (i : ℕ) → Accepted (dataPart l pool i) → Done (judgeData l (length pool) i)
+  unfolding dataPart
+  data-done i r = was-done _ _ _ r
+
+  pub data-open : {i k : ℕ} → Room (dataPart l pool i) 0 k → DataOpen i k
+  unfolding dataPart printed spanOf numbersOf
+  data-open {i} r =
+      let d = data-done i (r .whole) in
+      let s = data-said l (length pool) i (d .value) (d .is) .0 in
+      let same : dataPart l pool i ≡ got (i + 1) (octetsOf 2 (third l i) ++ spanAt i) =
+      rw (d .is ∙ ap done (sym (s .is))) refl in
+      let long = span-long pool (second l i) (third l i) (s .within) in
+      let both = length-append (octetsOf 2 (third l i)) (spanAt i) in
+      record {
+        there = there-is l i _ (s .kind);
+        within = s .within;
+        long = long;
+        fits = omega (arith, rw same at (r .fits), both, length-octets 2 (third l i), long);
+        same = same;
+      }
+
+  -- Its length is stored, and its octets in the part that follows.
+  pub data-laid : {i : ℕ} {d₀ d ys : List ℕ} → DataOpen i (length d₀) → d ≡ sets d₀ 0 (octetsOf 2 (third l i))
+      → ys ≡ sets (partOf 2 d) 0 (spanAt i)
+      → Stored (dataPart l pool i) 0 d₀ (i + 1) (2 + third l i) (putMid 2 (length d - 2) d ys)
+  unfolding endOf numbersOf
+  data-laid {i} {d₀} {d} {ys} o p q =
+      let n = octetsOf 2 (third l i) in
+      let long = ap length p ∙ length-sets d₀ 0 n in
+      let both = length-append n (spanAt i) in
+      let two = length-octets 2 (third l i) in
+      record {
+        place = rw (o .same) refl;
+        taken = rw (o .same) (omega (arith, both, two, o .long));
+        room = part-put 2 d (spanAt i) ys (omega (arith, o .fits, o .long, long)) q
+            ∙ rw (o .same, sets-append d₀ 0 n (spanAt i), two, ← p) refl;
+      }
+
+  pub datas-step : (n i : ℕ) → 0 < n → datasPart l pool n i ≡ andThen (dataPart l pool i) (datasPart l pool (n - 1))
+  unfolding datasPart
+  datas-step zero i h = absurd (omega arith)
+  datas-step (suc n) i h = let q : suc n - 1 ≡ n = omega arith in rw q refl
+
+  pub datas-end : (n i : ℕ) → n ≤ 0 → datasPart l pool n i ≡ got i []
+  unfolding datasPart
+  datas-end zero i h = refl
+  datas-end (suc n) i h = absurd (omega arith)
+
+  -- ---- entries
+
+  module _ (s : Shape) (row : ℕ → Printed) where
+    pub entries-step : (k i : ℕ) → 0 < k → entriesPart l pool s row k i
+        ≡ andThen (fieldsPart l pool (s .length) 0 (s .fields) i)
+        (λ j. andThen (row j)
+        (λ d. andThen (datasPart l pool (length (s .datas)) d) (entriesPart l pool s row (k - 1))))
+    unfolding entriesPart
+    entries-step zero i h = absurd (omega arith)
+    entries-step (suc k) i h = let q : suc k - 1 ≡ k = omega arith in rw q refl
+
+    pub entries-end : (k i : ℕ) → k ≤ 0 → entriesPart l pool s row k i ≡ got i []
+    unfolding entriesPart
+    entries-end zero i h = refl
+    entries-end (suc k) i h = absurd (omega arith)
+
+  -- ---- groups in a row
+
+  pub groups-end : (p : List ℕ) (depth n a i : ℕ) → n ≤ 0 → groupsPart l pool (groupsAt p depth n a) i ≡ got i []
+  unfolding groupsPart
+  groups-end p depth n a i h = rw (no-groups-at p depth n a h) refl
+
+  -- gs is a group with the block s and the groups `inner`, and then `rest`.
+  module _ (gs : Groups) (s : Shape) (inner rest : Groups) (i : ℕ) where
+    abbrev groupThen : Printed
+    groupThen =
+        andThen (got (i + 1) (numbers16 (s .length ∷ second l i ∷ [])))
+        (λ j. andThen (entriesPart l pool s (groupsPart l pool inner) (second l i) j) (groupsPart l pool rest))
+
+    pub record GroupOpen : Type 0 where
+      pub there : i < length l / 3
+      pub same : groupsPart l pool gs i ≡ groupThen
+
+    pub group-open : {id since : ℕ} → gs ≡ more id since s inner rest → Accepted (groupsPart l pool gs i) → GroupOpen
+    unfolding groupsPart if_then_else_ endOf numbersOf
+    group-open is r = go (isGroup l i and ltb (second l i) null16) refl (rw is at r)
+      where
+        go : (b : Bool) → (isGroup l i and ltb (second l i) null16) ≡ b → Accepted (if b then groupThen else not)
+            → GroupOpen
+        go true q h = record { there = there-is l i _ (and-left _ _ q); same = rw (is, q) refl }
+        go false q h = absurd (let z : _≡_ {A = ℕ} 0 1 = cc h in omega arith)
