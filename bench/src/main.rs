@@ -1,7 +1,9 @@
 //! Times the library beside the plain reader and writer of its tests, lean ones that are made for speed, and a copy of
-//! the message's octets. The arguments are how many rounds there are to be and the one workload to run.
+//! the message's octets. The arguments are how many rounds there are to be and the one workload to run; or `once`, which
+//! times nothing.
 
 mod agree;
+mod counted;
 mod lean;
 mod preparing;
 mod rivals;
@@ -19,6 +21,9 @@ const ROUNDS: usize = 151;
 /// A round of the stream is long by itself: it has one of so many rounds, but five at least.
 const FEWER: usize = 10;
 const FEWEST: usize = 5;
+
+/// The word for calling once instead of timing.
+const ONCE: &str = "once";
 
 /// The names by which the growth and the cost of preparing are chosen.
 const GROWTH: &str = "growth";
@@ -50,7 +55,10 @@ impl Operation {
 }
 
 fn main() {
-    let mut words = std::env::args().skip(1);
+    let mut words = std::env::args().skip(1).peekable();
+    if words.next_if(|word| word == ONCE).is_some() {
+        return counted::run();
+    }
     let rounds: usize = words.next().map_or(ROUNDS, |word| word.parse().expect("a number of rounds"));
     let only = words.next();
     let chosen = |name: &str| only.as_deref().map_or(true, |only| only == name);

@@ -49,6 +49,11 @@ impl<'a> Contender<'a> {
         }
     }
 
+    /// A call for each message, once.
+    pub fn once(&mut self, rooms: &mut Rooms) {
+        (self.run)(0..self.messages, 1, rooms);
+    }
+
     fn time(&mut self, range: Range<usize>, times: usize, rooms: &mut Rooms) -> Duration {
         let start = Instant::now();
         (self.run)(range, times, rooms);

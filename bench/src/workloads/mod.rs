@@ -27,6 +27,22 @@ pub const ALL: [Entry; 7] = [
     ("stream", "eight templates in a random mix; one message in 100 is damaged", stream::stream),
 ];
 
+/// The same, the stream by its first messages, and the large books: what is called once to be counted.
+pub const COUNTED: [Entry; 9] = [
+    ALL[0],
+    ALL[1],
+    ALL[2],
+    ALL[3],
+    ALL[4],
+    ALL[5],
+    ("stream", "its first messages", || stream::first(STREAM_START)),
+    SIZED[0][1],
+    SIZED[1][1],
+];
+
+/// As many as have each template, an older version and damage among them.
+const STREAM_START: usize = 200;
+
 /// The KiB of the growing messages.
 pub const SIZES: [usize; 7] = [1, 2, 4, 8, 16, 32, 64];
 

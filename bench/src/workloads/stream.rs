@@ -18,10 +18,15 @@ const OLDER_PERCENT: usize = 5;
 const DAMAGED_PERCENT: usize = 1;
 
 pub fn stream() -> Workload {
+    first(MESSAGES)
+}
+
+/// So many messages of the stream, from its start on.
+pub fn first(messages: usize) -> Workload {
     let book = session();
     let mut fill = Fill { rng: Rng::new(SEED), entries: 1..=6, data: 4..=40 };
     let mut workload = Workload::new(&book, places());
-    for _ in 0..MESSAGES {
+    for _ in 0..messages {
         let number = template(&mut fill.rng);
         let message = message(&mut fill, &book, &book.templates[number]);
         workload.add(&book, &message, number);
