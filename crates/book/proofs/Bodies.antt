@@ -12,7 +12,7 @@ use Rattle.layout.specs.Book.{Groups, Shape, Template}
 use Rattle.layout.specs.BookRules.{ContentsRow, contentsGood, eachMust, layoutGood, parseBodies, parseBody}
 use Rattle.layout.specs.BookRules.{parseContents, parseGroups, parseShape, sinceGood, word}
 use Rattle.layout.specs.Contracts.{checked}
-use Rattle.book.specs.Answers.{allRules, blockOf, bodyOf, firstOf, groupsRules, judged, rowOf, seenOr, shapeRules}
+use Rattle.book.specs.Answers.{allRules, blockOf, bodyOf, firstOf, groupsRules, ruled, rowOf, seenOr, shapeRules}
 use Rattle.book.specs.Answers.{verdictOf}
 use Rattle.book.proofs.Groups.{BlockIs, RowIs, block-broken, block-is, row-broken, row-is}
 use Rattle.book.proofs.RuleLaws.{contents-step}
@@ -90,11 +90,11 @@ each-next : (f : Template → Bool) (seen n t : ℕ) (x : Template) (xs : List T
 unfolding eachMust
 each-next f seen n t x xs h = seen-next seen n t (f x) (eachMust f n (suc t) xs) h
 
-judged-next : (version t five six : ℕ) (x : Template) (y : Result (List Template)) → t < 64
-    → judged version t five six (y >>= λ xs. done (x ∷ xs))
-    ≡ judged version (suc t) (firstOf five (layoutGood x) t) (firstOf six (sinceGood version x) t) y
-unfolding judged
-judged-next version t five six x (done xs) h =
+ruled-next : (version t five six : ℕ) (x : Template) (y : Result (List Template)) → t < 64
+    → ruled version t five six (y >>= λ xs. done (x ∷ xs))
+    ≡ ruled version (suc t) (firstOf five (layoutGood x) t) (firstOf six (sinceGood version x) t) y
+unfolding ruled
+ruled-next version t five six x (done xs) h =
     rw (
       bind-done,
       bind-done,
@@ -103,11 +103,11 @@ judged-next version t five six x (done xs) h =
       each-next
           (sinceGood version) six 6 t x xs h,
     ) refl
-judged-next version t five six x (refused n p) h = unfold _>>=_ in refl
+ruled-next version t five six x (refused n p) h = unfold _>>=_ in refl
 
 pub bodies-end : (b : List ℕ) (version t five six left w : ℕ) → left ≤ 0
-    → checked (judged version t five six (parseBodies b t (parseContents b left w))) ≡ verdictOf five six
-unfolding parseContents parseBodies judged verdictOf eachMust
+    → checked (ruled version t five six (parseBodies b t (parseContents b left w))) ≡ verdictOf five six
+unfolding parseContents parseBodies ruled verdictOf eachMust
 bodies-end b version t five six zero w h = rw bind-done refl
 bodies-end b version t five six (suc left) w h = absurd (omega arith)
 
@@ -121,29 +121,29 @@ module _ (b : List ℕ) (version t five six left w : ℕ) (h : 0 < left) where
   abbrev others : ℕ → Result (List Template)
   others n = parseBodies b n (parseContents b (left - 1) (w + 3))
 
-  pub bodies-broken : Body.Broken ≡ bodyOf version (parseBody body) → judged version t five six rows ≡ refused 4 t
-  unfolding parseBodies judged asRefusal _>>=_
+  pub bodies-broken : Body.Broken ≡ bodyOf version (parseBody body) → ruled version t five six rows ≡ refused 4 t
+  unfolding parseBodies ruled asRefusal _>>=_
   bodies-broken e =
       let k = body-broken version (parseBody body) e in
       rw (contents-step b left w h, k .2) refl
 
   pub bodies-next : t < 64 → (q : Rules) → Body.Whole q ≡ bodyOf version (parseBody body)
-      → judged version t five six rows ≡ judged version (t + 1) (firstOf five (q .layout) t) (firstOf six (q .since) t)
+      → ruled version t five six rows ≡ ruled version (t + 1) (firstOf five (q .layout) t) (firstOf six (q .since) t)
       (others (t + 1))
   bodies-next few q e =
       let k = body-is version q (parseBody body) e in
       let i : t + 1 ≡ suc t = omega arith in
-      rw i (next (k .0) (k .1) ∙ ap (λ (r : Rules). judged version (suc t) (firstOf five (r .layout) t)
+      rw i (next (k .0) (k .1) ∙ ap (λ (r : Rules). ruled version (suc t) (firstOf five (r .layout) t)
       (firstOf six (r .since) t) (others (suc t))) (sym (k .2)))
     where
       next : (r : Shape × Groups) → parseBody body ≡ done r
           → let q = allRules (shapeRules version 0 version (r .0)) (groupsRules version 0 version (r .1)) in
-          judged version t five six rows ≡ judged version (suc t) (firstOf five (q .layout) t)
+          ruled version t five six rows ≡ ruled version (suc t) (firstOf five (q .layout) t)
           (firstOf six (q .since) t) (others (suc t))
       next r e =
           unfold parseBodies asRefusal allRules in
           rw (contents-step b left w h, e, bind-done)
-          (judged-next version t five six (record { id = word b w; shape = r .0; groups = r .1 })
+          (ruled-next version t five six (record { id = word b w; shape = r .0; groups = r .1 })
           (others (suc t)) few)
 
 -- ---- where the bodies lie

@@ -9,7 +9,7 @@ use Rattle.layout.specs.Book.{Book, Template}
 use Rattle.layout.specs.BookRules.{bookOf, eachMust, headGood, layoutGood, parseBodies, parseContents, sinceGood}
 use Rattle.layout.specs.BookRules.{sizeGood, word}
 use Rattle.layout.specs.Contracts.{checked, refusal}
-use Rattle.book.specs.Answers.{bodiesOf, contentsKept, judged, seenOr}
+use Rattle.book.specs.Answers.{bodiesOf, contentsKept, ruled, seenOr}
 use Rattle.layout.proofs.Results.{bind-done}
 use Rattle.layout.specs.declared.Checked.{Checked}
 use Rattle.layout.specs.declared.Checked.the-variants as Checked
@@ -43,7 +43,7 @@ module _ (s : List ℕ) where
       book-contents a = rw (size, head, a) refl
 
       pub book-bodies : contentsKept (wordsOf s) ≡ true → checked (bookOf s) ≡ checked (bodiesOf (wordsOf s))
-      unfolding bookOf must judged seenOr if_then_else_
+      unfolding bookOf must ruled seenOr if_then_else_
       book-bodies a =
           let b = wordsOf s in
           rw (size, head, a, bind-done, bind-done, bind-done)

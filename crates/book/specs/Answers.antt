@@ -97,8 +97,8 @@ unfoldable pub seenOr : ℕ → ℕ → Result (Unit {0}) → Result (Unit {0})
 seenOr seen n x = if ltb seen noTemplate then refused n seen else x
 
 -- 5 and 6 for the templates x from number t on, `five` and `six` being the first that broke a rule before them.
-unfoldable pub judged : ℕ → ℕ → ℕ → ℕ → Result (List Template) → Result (Unit {0})
-judged version t five six x = do
+unfoldable pub ruled : ℕ → ℕ → ℕ → ℕ → Result (List Template) → Result (Unit {0})
+ruled version t five six x = do
   ts ← x
   _ ← seenOr five 5 (eachMust layoutGood 5 t ts)
   seenOr six 6 (eachMust (sinceGood version) 6 t ts)
@@ -108,4 +108,4 @@ verdictOf five six = checked (seenOr five 5 (done tt) >>= λ _. seenOr six 6 (do
 
 -- 4 to 6, over the words of a book.
 abbrev pub bodiesOf : List ℕ → Result (Unit {0})
-bodiesOf b = judged (word b 1) 0 noTemplate noTemplate (parseBodies b 0 (parseContents b (word b 2) 4))
+bodiesOf b = ruled (word b 1) 0 noTemplate noTemplate (parseBodies b 0 (parseContents b (word b 2) 4))

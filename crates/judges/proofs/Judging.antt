@@ -26,8 +26,8 @@ use Rattle.layout.proofs.Said.{octets-said}
 use Rattle.layout.proofs.TypeLaws.{each-type, inside-not-null}
 use Rattle.number_types.proofs.Types.{in-span}
 use Rattle.prepared.specs.Numbers.{spread}
-use Rattle.prepared.specs.Positions.{Derived, IsBlock, IsField, dataCount, datasFrom, fieldCount, fieldsFrom, groupCount}
-use Rattle.prepared.specs.Positions.{groupsFrom, innerAt, shapeAt, tableFrom}
+use Rattle.prepared.specs.Positions.{Derived, IsBlock, IsField, datasFrom, fieldsFrom, groupsFrom, innerAt}
+use Rattle.prepared.specs.Positions.{manyDatas, manyFields, manyGroups, shapeAt, tableFrom}
 use Rattle.prepared.proofs.Open.{no-groups-at}
 use Rattle.judges.specs.Judges.{capped, datasEnd, entriesAt, fieldEnd, fieldsEnd, judged, listingEnd}
 use Rattle.judges.specs.Judges.{limit, octetsEnd, rowEnd}
@@ -216,11 +216,11 @@ module _ (l : List ℕ) (n : ℕ) (f : Field) (i : ℕ) where
   field-number h = rw (le-ltb 1 (f .length) h) refl
 
 -- The first of the fields that are left, which stand at f and whose table is at t.
-pub field-here : (p : List ℕ) (a left f t : ℕ) → IsBlock p a → 0 < left → left ≤ fieldCount p a
-    → f + 6 * left ≡ fieldsFrom p a + 6 * fieldCount p a → t + 5 * left ≡ tableFrom p a + 5 * fieldCount p a
+pub field-here : (p : List ℕ) (a left f t : ℕ) → IsBlock p a → 0 < left → left ≤ manyFields p a
+    → f + 6 * left ≡ fieldsFrom p a + 6 * manyFields p a → t + 5 * left ≡ tableFrom p a + 5 * manyFields p a
     → IsField p f t
 field-here p a left f t b some few at table =
-    let j = fieldCount p a - left in
+    let j = manyFields p a - left in
     let x : fieldsFrom p a + 6 * j ≡ f = omega arith in
     let y : tableFrom p a + 5 * j ≡ t = omega arith in
     record {
@@ -458,8 +458,8 @@ pub plain-next : (p : List ℕ) (depth a : ℕ) (l : List ℕ) (n seen k i x u f
     (entriesAt p depth a l n (k - 1) x)
 plain-next p depth a l n seen k i x u follow b w z h e =
     entry-plain l n (shapeAt p a) (innerAt p depth a) seen k i h x u e
-    (no-groups-at p depth (groupCount p a) (groupsFrom p a) (omega (arith, b .follow, w, z)))
-    (no-datas-at p (dataCount p a) (datasFrom p a) (omega (arith, b .follow, w, z)))
+    (no-groups-at p depth (manyGroups p a) (groupsFrom p a) (omega (arith, b .follow, w, z)))
+    (no-datas-at p (manyDatas p a) (datasFrom p a) (omega (arith, b .follow, w, z)))
 
 -- ---- a whole listing
 

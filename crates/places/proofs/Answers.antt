@@ -15,7 +15,7 @@ use Rattle.layout.specs.Values.{Step, Values, answerAt, elementOf, entry}
 use Rattle.layout.specs.declared.Answer.{Answer}
 use Rattle.layout.specs.declared.Element.{Element}
 use Rattle.layout.proofs.Results.{done-inj, inv-bind}
-use Rattle.prepared.specs.Positions.{BlockAt, groupCount, innerAt, shapeAt}
+use Rattle.prepared.specs.Positions.{BlockAt, manyGroups, innerAt, shapeAt}
 use Rattle.places.specs.Spots.{Spot, blockIn, nowhere, spotIn, stepSpot}
 use Rattle.places.specs.Seeks.{stepAt, stepsFrom}
 use Rattle.places.specs.Elements.{Accepted, Done, blockAfter, elementRead, entryRead}
@@ -33,14 +33,14 @@ pub record BlockThere (p : List ℕ) (depth a : ℕ) (ps : List Step) (x : Eleme
   pub has : hasElement x (shapeAt p (blockAfter p ps a)) (innerAt p (depth - length ps) (blockAfter p ps a)) ≡ true
 
 has-group : (p : List ℕ) (depth a g : ℕ) (has : Shape → Groups → Bool) → groupHas (innerAt p depth a) g has ≡ true
-    → g < groupCount p a
-has-group p depth a g has h = go (leb (groupCount p a) g) refl
+    → g < manyGroups p a
+has-group p depth a g has h = go (leb (manyGroups p a) g) refl
   where
-    go : (t : Bool) → leb (groupCount p a) g ≡ t → g < groupCount p a
+    go : (t : Bool) → leb (manyGroups p a) g ≡ t → g < manyGroups p a
     go true e =
-        let lacks = has-none g (innerAt p depth a) has (row-drops-all p depth _ _ _ (leb-true (groupCount p a) g e)) in
+        let lacks = has-none g (innerAt p depth a) has (row-drops-all p depth _ _ _ (leb-true (manyGroups p a) g e)) in
         absurd (let f : false ≡ true = sym lacks ∙ h in let z : _≡_ {A = ℕ} 0 1 = cc in omega arith)
-    go false e = leb-false (groupCount p a) g e
+    go false e = leb-false (manyGroups p a) g e
 
 pub block-there : (p : List ℕ) (depth a : ℕ) → BlockAt p depth a → (ps : List Step) (x : Element)
     → hasPlace ps x (shapeAt p a) (innerAt p depth a) ≡ true → BlockThere p depth a ps x

@@ -12,7 +12,7 @@ use Rattle.layout.specs.BookRules.{word}
 use Rattle.layout.specs.Reading.{groupHas, hasElement, hasPlace, stepsOf, wholeSteps}
 use Rattle.layout.specs.declared.Element.{Element}
 use Rattle.layout.specs.declared.Element.the-variants.{Data as DataAt, Field, Group}
-use Rattle.prepared.specs.Positions.{BlockAt, groupCount, groupsFrom, innerAt, shapeAt}
+use Rattle.prepared.specs.Positions.{BlockAt, manyGroups, groupsFrom, innerAt, shapeAt}
 use Rattle.prepared.specs.declared.Located.the-variants.{At, Unknown}
 use Rattle.prepared.proofs.Accepted.{datas-length}
 use Rattle.prepared.proofs.Open.{length-row}
@@ -53,7 +53,7 @@ has-more (suc g) (more j u t others more-rest) has i since s inner rest e =
     has-more g more-rest has i since s inner rest e
 
 -- Group g of the block at a is the block after g groups.
-module _ (p : List ℕ) (depth a g : ℕ) (stands : BlockAt p depth a) (less : g < groupCount p a) where
+module _ (p : List ℕ) (depth a g : ℕ) (stands : BlockAt p depth a) (less : g < manyGroups p a) where
   abbrev next : ℕ
   next = rowAfter p g (groupsFrom p a)
 
@@ -95,13 +95,13 @@ module _ (p : List ℕ) (depth a : ℕ) (stands : BlockAt p depth a) (path : Lis
   place-ends h = rw (steps-done path i h, has-element p depth a x stands) refl
 
   module _ (some : i + 2 ≤ length path) where
-    pub place-lacks : groupCount p a ≤ word path i → blockFor p depth a (stepsFrom path i) x ≡ Unknown
+    pub place-lacks : manyGroups p a ≤ word path i → blockFor p depth a (stepsFrom path i) x ≡ Unknown
     unfolding hasPlace if_then_else_
     place-lacks h =
         let has = hasPlace (stepsFrom path (i + 2)) x in
         rw (steps-next path i some, has-none (word path i) (innerAt p depth a) has (row-drops-all p depth _ _ _ h)) refl
 
-    pub place-on : (h : word path i < groupCount p a)
+    pub place-on : (h : word path i < manyGroups p a)
         → blockFor p depth a (stepsFrom path i) x
         ≡ blockFor p (depth - 1) (rowAfter p (word path i) (groupsFrom p a)) (stepsFrom path (i + 2)) x
     unfolding hasPlace blockAfter

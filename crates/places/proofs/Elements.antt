@@ -20,7 +20,7 @@ use Rattle.layout.specs.declared.Element.the-variants as Element
 use Rattle.layout.specs.declared.Refusal.{Refusal}
 use Rattle.layout.specs.declared.Answer.the-variants.{Absent, Group, Octets}
 use Rattle.layout.proofs.Results.{and-right, done-inj, inv-bind, inv-must}
-use Rattle.prepared.specs.Positions.{BlockAt, dataCount, fieldCount, fieldsFrom, groupCount, groupsFrom, innerAt}
+use Rattle.prepared.specs.Positions.{BlockAt, manyDatas, manyFields, fieldsFrom, manyGroups, groupsFrom, innerAt}
 use Rattle.prepared.specs.Positions.{shapeAt}
 use Rattle.wire.specs.Walks.{skipEnd, walked}
 use Rattle.wire.specs.declared.Walked as Walked
@@ -67,10 +67,10 @@ field-fits P p (suc n) (suc k) f h e =
     rw q (field-fits P p n k (f + 6) (omega (arith, h)) (e .1))
 
 pub field-readable : (p : List ℕ) (depth a : ℕ) (m : List ℕ) (v l at k : ℕ) → BlockAt p depth a
-    → need v (shapeAt p a) ≤ l → at + l ≤ length m → k < fieldCount p a
+    → need v (shapeAt p a) ≤ l → at + l ≤ length m → k < manyFields p a
     → Fits m v at (fieldAt p (fieldsFrom p a + 6 * k))
 field-readable p depth a m v l at k stands enough fits less =
-    field-fits (Fits m v at) p (fieldCount p a) k (fieldsFrom p a) less
+    field-fits (Fits m v at) p (manyFields p a) k (fieldsFrom p a) less
     (fields-fit m v at l (shapeAt p a .length) 0 0 (shapeAt p a .fields) (and-right _ _ (stands .block .good))
     (omega arith) enough fits)
 
@@ -109,8 +109,8 @@ module _ (m : List ℕ) (v : ℕ) where
       }
 
 -- Group k of the block at a, whose groups were read.
-module _ (p : List ℕ) (depth a : ℕ) (stands : BlockAt p depth a) (m : List ℕ) (v at k : ℕ) (less : k < groupCount p a)
-    (read : Done (rowAt p depth (groupCount p a) (groupsFrom p a) m v at)) where
+module _ (p : List ℕ) (depth a : ℕ) (stands : BlockAt p depth a) (m : List ℕ) (v at k : ℕ) (less : k < manyGroups p a)
+    (read : Done (rowAt p depth (manyGroups p a) (groupsFrom p a) m v at)) where
   abbrev from : RowFrom m v k (innerAt p depth a) 0 at (read .value)
   from = row-from m v k (innerAt p depth a) 0 at (read .value) (read .is)
 
@@ -121,7 +121,7 @@ module _ (p : List ℕ) (depth a : ℕ) (stands : BlockAt p depth a) (m : List �
   pub group-here : (x j : ℕ)
       → Walked.the-variants.To x j ≡ walked (valuesEnd 0) (rowAt p depth k (groupsFrom p a) m v at)
       → GroupHere m v (word p (rowAfter p k (groupsFrom p a) + 1)) x
-      (groupRead k (rowAt p depth (groupCount p a) (groupsFrom p a) m v at))
+      (groupRead k (rowAt p depth (manyGroups p a) (groupsFrom p a) m v at))
   unfolding groupRead
   group-here x j e =
       let before = rw (group-halves p depth a k stands less .takes) at (from .passed) in
@@ -221,7 +221,7 @@ module _ (p : List ℕ) (depth a : ℕ) (m : List ℕ) (v n at : ℕ) where
   datasOf x = readDatas m v (shapeAt p a .datas) 0 x
 
   pub record DatasAfter : Type 0 where
-    pub row : Done (rowAt p depth (groupCount p a) (groupsFrom p a) m v at)
+    pub row : Done (rowAt p depth (manyGroups p a) (groupsFrom p a) m v at)
     pub rest : Done (skipGroups m n (row .value .1))
     pub datas : Done (datasOf (rest .value))
     pub same : datasRead p depth a m v n at ≡ datasOf (rest .value)
@@ -242,7 +242,7 @@ module _ (p : List ℕ) (depth a : ℕ) (m : List ℕ) (v n at : ℕ) where
       }
 
   pub row-to : (d : DatasAfter) (x k : ℕ)
-      → Walked.the-variants.To x k ≡ walked (valuesEnd 0) (rowAt p depth (groupCount p a) (groupsFrom p a) m v at)
+      → Walked.the-variants.To x k ≡ walked (valuesEnd 0) (rowAt p depth (manyGroups p a) (groupsFrom p a) m v at)
       → x ≡ d .row .value .1
   row-to d x k e =
       let to = inv-to (valuesEnd 0) _ x k e in
@@ -264,21 +264,21 @@ module _ {p : List ℕ} {depth a : ℕ} {m : List ℕ} {v n l at : ℕ} (ok : Ac
   pub entry-fits : at + l ≤ length m
   entry-fits = parts .fits
 
-  pub element-field : (k : ℕ) → k < fieldCount p a
+  pub element-field : (k : ℕ) → k < manyFields p a
       → elementRead (Element.Field k) (entryRead p depth a m v n l at)
       ≡ readField m v at (fieldAt p (fieldsFrom p a + 6 * k))
   unfolding elementRead elementOf
   element-field k less =
-      rw (ok .reads .is, ← (parts .fields)) (field-in m v at p (fieldCount p a) k (fieldsFrom p a) less)
+      rw (ok .reads .is, ← (parts .fields)) (field-in m v at p (manyFields p a) k (fieldsFrom p a) less)
 
-  pub entry-row : Done (rowAt p depth (groupCount p a) (groupsFrom p a) m v (at + l))
+  pub entry-row : Done (rowAt p depth (manyGroups p a) (groupsFrom p a) m v (at + l))
   entry-row =
       let r = inv-bind (readGroups m v (innerAt p depth a) 0 (at + l)) _ _
       (sym (surplus-after m n v (innerAt p depth a) (at + l)) ∙ parts .groups) in
       record { value = r .value; is = r .first }
 
   pub element-group : (k : ℕ) → elementRead (Element.Group k) (entryRead p depth a m v n l at)
-      ≡ groupRead k (rowAt p depth (groupCount p a) (groupsFrom p a) m v (at + l))
+      ≡ groupRead k (rowAt p depth (manyGroups p a) (groupsFrom p a) m v (at + l))
   unfolding elementRead elementOf groupRead
   element-group k =
       let r = inv-bind (readGroups m v (innerAt p depth a) 0 (at + l)) _ _
@@ -300,14 +300,14 @@ module _ {p : List ℕ} {depth a : ℕ} {m : List ℕ} {v n l at : ℕ} (ok : Ac
     less : numberOf x < countOf p a x
     less = ltb-true (numberOf x) (countOf p a x) (sym (has-element p depth a x (ok .stands)) ∙ has)
 
-    pub field-less : (k : ℕ) → x ≡ Element.Field k → k < fieldCount p a
+    pub field-less : (k : ℕ) → x ≡ Element.Field k → k < manyFields p a
     unfolding numberOf countOf
     field-less k e = rw e at less
 
-    pub group-less : (k : ℕ) → x ≡ Element.Group k → k < groupCount p a
+    pub group-less : (k : ℕ) → x ≡ Element.Group k → k < manyGroups p a
     unfolding numberOf countOf
     group-less k e = rw e at less
 
-    pub data-less : (k : ℕ) → x ≡ Element.Data k → k < dataCount p a
+    pub data-less : (k : ℕ) → x ≡ Element.Data k → k < manyDatas p a
     unfolding numberOf countOf
     data-less k e = rw e at less

@@ -7,7 +7,7 @@ use lib.ListN.{drop, getD, length}
 use Rattle.layout.specs.Book.{more, none}
 use Rattle.layout.specs.Reading.{stepsOf}
 use Rattle.layout.specs.BookRules.{word}
-use Rattle.prepared.specs.Positions.{BlockAt, IsRow, Opened, groupCount, groupsAt, groupsFrom, innerAt, nextFrom}
+use Rattle.prepared.specs.Positions.{BlockAt, IsRow, Opened, manyGroups, groupsAt, groupsFrom, innerAt, nextFrom}
 use Rattle.prepared.specs.Positions.{shapeAt}
 use Rattle.prepared.proofs.Open.{no-groups-at, open-row}
 use Rattle.places.specs.Spots.{dropGroups, takeGroups}
@@ -48,16 +48,16 @@ row-halves p (suc depth) (suc n) (suc g) a h row =
     }
 
 -- Group g of the block at a, which has one: the groups before it, and the first after them.
-module _ (p : List ℕ) (depth a g : ℕ) (stands : BlockAt p depth a) (less : g < groupCount p a) where
-  pub group-halves : RowHalves p depth (groupCount p a) g (groupsFrom p a)
-  group-halves = row-halves p depth (groupCount p a) g (groupsFrom p a) (omega (arith, less)) (stands .row)
+module _ (p : List ℕ) (depth a g : ℕ) (stands : BlockAt p depth a) (less : g < manyGroups p a) where
+  pub group-halves : RowHalves p depth (manyGroups p a) g (groupsFrom p a)
+  group-halves = row-halves p depth (manyGroups p a) g (groupsFrom p a) (omega (arith, less)) (stands .row)
 
-  pub opens : Opened p depth (groupCount p a - g) (rowAfter p g (groupsFrom p a))
-  opens = open-row p depth (groupCount p a - g) _ (omega (arith, less)) (group-halves .others)
+  pub opens : Opened p depth (manyGroups p a - g) (rowAfter p g (groupsFrom p a))
+  opens = open-row p depth (manyGroups p a - g) _ (omega (arith, less)) (group-halves .others)
 
   pub group-is : let x = rowAfter p g (groupsFrom p a) in
       dropGroups g (innerAt p depth a) ≡ more (word p x) (word p (x + 1)) (shapeAt p x) (innerAt p (depth - 1) x)
-      (groupsAt p depth (groupCount p a - g - 1) (nextFrom p x))
+      (groupsAt p depth (manyGroups p a - g - 1) (nextFrom p x))
   group-is = group-halves .drops ∙ opens .tree
 
 -- From the last group on there are none.

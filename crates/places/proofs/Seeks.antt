@@ -15,7 +15,7 @@ use Rattle.layout.specs.Message.{Entry, readBlock, readDatas, readDimension, re
 use Rattle.layout.specs.Message.{skipGroups}
 use Rattle.layout.specs.Values.{Values, measure}
 use Rattle.layout.specs.declared.Refusal.{Refusal}
-use Rattle.prepared.specs.Positions.{BlockAt, IsBlock, dataCount, datasFrom, fieldCount, groupCount, groupsFrom}
+use Rattle.prepared.specs.Positions.{BlockAt, IsBlock, manyDatas, datasFrom, manyFields, manyGroups, groupsFrom}
 use Rattle.prepared.specs.Positions.{innerAt, shapeAt}
 use Rattle.prepared.proofs.Open.{no-groups-at}
 use Rattle.wire.specs.Dimensions.{dimensioned}
@@ -304,7 +304,7 @@ module _ (m : List ℕ) (v : ℕ) (s : Shape) (gs : Groups) (l : ℕ) (no-groups
 
 module _ (p : List ℕ) (depth a : ℕ) (m : List ℕ) (v : ℕ) (path : List ℕ) (i l : ℕ) (on : Bool) (z : Spot) (at : ℕ) where
   abbrev entryRow : Spot → Row
-  entryRow s = rowed (rowAt p depth (groupCount p a) (groupsFrom p a) m v (at + l)) s
+  entryRow s = rowed (rowAt p depth (manyGroups p a) (groupsFrom p a) m v (at + l)) s
 
   pub inner-on : on ≡ true → i + 2 ≤ length path
       → innerSought p depth a m v path i l on z at ≡ rowSought p depth a m v path i (at + l)
@@ -325,13 +325,13 @@ module _ (p : List ℕ) (depth a : ℕ) (stands : BlockAt p depth a) (m : List �
   abbrev rowIs : Row
   rowIs = rowSought p depth a m v path i at
 
-  pub row-lacks : groupCount p a ≤ word path i
-      → rowIs ≡ rowed (rowAt p depth (groupCount p a) (groupsFrom p a) m v at) nowhere
+  pub row-lacks : manyGroups p a ≤ word path i
+      → rowIs ≡ rowed (rowAt p depth (manyGroups p a) (groupsFrom p a) m v at) nowhere
   unfolding firstSpot
-  row-lacks h = rw (row-drops-all p depth (groupCount p a) (word path i) (groupsFrom p a) h) refl
+  row-lacks h = rw (row-drops-all p depth (manyGroups p a) (word path i) (groupsFrom p a) h) refl
 
-  module _ (h : word path i < groupCount p a) where
-    halves : RowHalves p depth (groupCount p a) (word path i) (groupsFrom p a)
+  module _ (h : word path i < manyGroups p a) where
+    halves : RowHalves p depth (manyGroups p a) (word path i) (groupsFrom p a)
     halves = group-halves p depth a (word path i) stands h
 
     pub row-refused : (z : Refusal) → Walked.the-variants.Refused z
@@ -341,7 +341,7 @@ module _ (p : List ℕ) (depth a : ℕ) (stands : BlockAt p depth a) (m : List �
     pub row-onward : (x k : ℕ) → Walked.the-variants.To x k
         ≡ walked (valuesEnd 0) (rowAt p depth (word path i) (groupsFrom p a) m v at)
         → rowIs ≡ groupSought p depth (rowAfter p (word path i) (groupsFrom p a)) m v path i
-        (groupCount p a - word path i) x
+        (manyGroups p a - word path i) x
     row-onward x k e =
         before-passed m v (word path i) (innerAt p depth a) at (word path (i + 1)) (spotIn m v (stepsFrom path (i + 2)))
         x k
@@ -357,9 +357,9 @@ pub plain-sought : (p : List ℕ) (depth a : ℕ) (m : List ℕ) (v : ℕ) (path
     (plainSpot l k start e (eqb (length path) (i + 2)) .1)
 unfolding foundAt
 plain-sought p depth a m v path i l k start e follow b w z fit q =
-    let walks = plain-walked p depth a m v l k start (fieldCount p a) follow b refl w z fit .0 in
+    let walks = plain-walked p depth a m v l k start (manyFields p a) follow b refl w z fit .0 in
     let spot = plain-spot m v (shapeAt p a) (innerAt p depth a) l
-    (no-groups-at p depth (groupCount p a) (groupsFrom p a) (omega (arith, b .follow, w, z)))
-    (no-datas-at p (dataCount p a) (datasFrom p a) (omega (arith, b .follow, w, z))) path (i + 2) q k e start fit in
+    (no-groups-at p depth (manyGroups p a) (groupsFrom p a) (omega (arith, b .follow, w, z)))
+    (no-datas-at p (manyDatas p a) (datasFrom p a) (omega (arith, b .follow, w, z))) path (i + 2) q k e start fit in
     rw spot (sym (told-found 0 _ _) ∙ ap (λ x. foundAt x (plainSpot l k start e (eqb (length path) (i + 2))))
     (sym walks))

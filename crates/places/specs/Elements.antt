@@ -12,7 +12,7 @@ use Rattle.layout.specs.declared.Answer.{Answer}
 use Rattle.layout.specs.declared.Answer.the-variants.{Absent}
 use Rattle.layout.specs.declared.Element as Element
 use Rattle.layout.specs.declared.Element.{Element}
-use Rattle.prepared.specs.Positions.{BlockAt, dataCount, fieldCount, groupCount, groupsFrom, innerAt, shapeAt}
+use Rattle.prepared.specs.Positions.{BlockAt, manyDatas, manyFields, manyGroups, groupsFrom, innerAt, shapeAt}
 use Rattle.prepared.specs.declared.Located.{Located}
 use Rattle.prepared.specs.declared.Located.the-variants.{At, Unknown}
 use Rattle.places.specs.Seeks.{rowAfter}
@@ -26,9 +26,9 @@ numberOf (Element.the-variants.Group k) = k
 numberOf (Element.the-variants.Data k) = k
 
 unfoldable pub countOf : List ℕ → ℕ → Element → ℕ
-countOf p a (Element.the-variants.Field k) = fieldCount p a
-countOf p a (Element.the-variants.Group k) = groupCount p a
-countOf p a (Element.the-variants.Data k) = dataCount p a
+countOf p a (Element.the-variants.Field k) = manyFields p a
+countOf p a (Element.the-variants.Group k) = manyGroups p a
+countOf p a (Element.the-variants.Data k) = manyDatas p a
 
 -- The block that steps lead to from the block at a.
 unfoldable pub blockAfter : List ℕ → List Step → ℕ → ℕ

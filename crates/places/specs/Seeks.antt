@@ -10,7 +10,7 @@ use Rattle.layout.specs.Reading.{stepsOf}
 use Rattle.layout.specs.BookRules.{word}
 use Rattle.layout.specs.Contracts.{refusal}
 use Rattle.layout.specs.Values.{Step, Values}
-use Rattle.prepared.specs.Positions.{groupCount, groupsAt, groupsFrom, innerAt, nextFrom}
+use Rattle.prepared.specs.Positions.{manyGroups, groupsAt, groupsFrom, innerAt, nextFrom}
 use Rattle.wire.specs.declared.Walked as Walked
 use Rattle.wire.specs.declared.Walked.{Walked}
 use Rattle.walk.specs.Walks.{entriesAt, entryAt, rowAt}
@@ -61,7 +61,7 @@ module _ (p : List ℕ) (depth a : ℕ) (m : List ℕ) (v : ℕ) (path : List �
   -- The row of the block at a, by the step at i and those after it.
   abbrev pub rowSought : ℕ → Row
   rowSought at =
-      rowed (rowAt p depth (groupCount p a) (groupsFrom p a) m v at)
+      rowed (rowAt p depth (manyGroups p a) (groupsFrom p a) m v at)
       (stepSpot m v (stepAt path i) (spotIn m v (stepsFrom path (i + 2))) (innerAt p depth a) at)
 
   -- n groups in a row at a, of which the step at i leads to the first.
@@ -79,7 +79,7 @@ module _ (p : List ℕ) (depth a : ℕ) (m : List ℕ) (v : ℕ) (path : List �
   -- The row of an entry of l octets at `at` of the block at a: if it is on the path, by the steps from i on.
   abbrev pub innerSought : ℕ → Bool → Spot → ℕ → Row
   innerSought l on z at =
-      rowed (rowAt p depth (groupCount p a) (groupsFrom p a) m v (at + l))
+      rowed (rowAt p depth (manyGroups p a) (groupsFrom p a) m v (at + l))
       (if on then spotIn m v (stepsFrom path i) (innerAt p depth a) l at else z)
 
 -- k entries of l octets that nothing follows, from `start` on: entry e, if it is the last step that leads to it.

@@ -17,7 +17,7 @@ ghost use Rattle.layout.specs.BookRules.{parseDatas, word};
 ghost use Rattle.layout.specs.Contracts.{refusal};
 ghost use Rattle.layout.specs.Message.{readDatas};
 ghost use Rattle.layout.specs.Reading.{hasElement, stepsOf};
-ghost use Rattle.prepared.specs.Positions.{BlockAt, IsBlock, IsRow, dataCount, groupCount, groupsFrom, innerAt};
+ghost use Rattle.prepared.specs.Positions.{BlockAt, IsBlock, IsRow, manyDatas, manyGroups, groupsFrom, innerAt};
 ghost use Rattle.prepared.specs.Positions.{shapeAt};
 ghost use Rattle.walk.specs.Walks.{Lent, rowAt};
 ghost use Rattle.places.specs.Spots.{nowhere};
@@ -328,10 +328,10 @@ fn group_at(
     start: usize,
     k: usize,
 ) -> Answer
-    requires { ⌜ BlockAt (now (now p)) depth a × Lent (now (now m)) start × (k < groupCount (now (now p)) a)
-        × Done (rowAt (now (now p)) depth (groupCount (now (now p)) a) (groupsFrom (now (now p)) a) (now (now m)) v
+    requires { ⌜ BlockAt (now (now p)) depth a × Lent (now (now m)) start × (k < manyGroups (now (now p)) a)
+        × Done (rowAt (now (now p)) depth (manyGroups (now (now p)) a) (groupsFrom (now (now p)) a) (now (now m)) v
         start) ⌝ }
-    ensures { λ r. ⌜ r ≡ groupRead k (rowAt (now (now (p .entry))) depth (groupCount (now (now (p .entry))) a)
+    ensures { λ r. ⌜ r ≡ groupRead k (rowAt (now (now (p .entry))) depth (manyGroups (now (now (p .entry))) a)
         (groupsFrom (now (now (p .entry))) a) (now (now (m .entry))) v start) ⌝ }
 {
     let s = *p;
@@ -378,7 +378,7 @@ fn data_after(
     surplus: usize,
     k: usize,
 ) -> Answer
-    requires { ⌜ BlockAt (now (now p)) depth a × Lent (now (now m)) start × (k < dataCount (now (now p)) a)
+    requires { ⌜ BlockAt (now (now p)) depth a × Lent (now (now m)) start × (k < manyDatas (now (now p)) a)
         × Done (datasRead (now (now p)) depth a (now (now m)) v surplus start) ⌝ }
     ensures { λ r. ⌜ r ≡ dataRead k (datasRead (now (now (p .entry))) depth a (now (now (m .entry))) v surplus
         start) ⌝ }

@@ -22,7 +22,7 @@ use Rattle.book.proofs.Words.{length-words, words-between}
 use Rattle.prepared.specs.Numbers.{preparedOf, sizesOf}
 use Rattle.prepared.proofs.Books.{length-prepared}
 use Rattle.prepared.proofs.Prepared.{length-numbers}
-use Rattle.prepare.specs.Positions.{IsRow, groupCount, groupsAt, groupsEnd, groupsFrom, innerAt, innerEnd}
+use Rattle.prepare.specs.Positions.{IsRow, manyGroups, groupsAt, groupsEnd, groupsFrom, innerAt, innerEnd}
 use Rattle.prepare.specs.Positions.{shapeAt}
 use Rattle.prepare.specs.Prepares.{IsBook, Prepares, preparing}
 use Rattle.prepare.specs.Templates.{AreTemplates, IsBody, IsPreparable, bodyAt, bookAt, templatesAt}
@@ -46,7 +46,7 @@ module _ (s : List ℕ) where
   record ShapeIs (w : ℕ) (r : Shape × ℕ × ℕ) : Type 0 where
     fits : groupsFrom s w ≤ length s / 2
     shape : shapeAt s w ≡ r .0
-    count : groupCount s w ≡ r .1
+    count : manyGroups s w ≡ r .1
     from : groupsFrom s w ≡ r .2
 
   shape-is : (few w : ℕ) (r : Shape × ℕ × ℕ) → parseShape b few w ≡ done r → ShapeIs w r
@@ -78,7 +78,7 @@ module _ (s : List ℕ) where
       let q = inv-bind _ _ _ (p .next) in
       let k = inv-bind _ _ _ (q .next) in
       let o = shape-is 1 (w + 2) (p .value) (p .first) in
-      let inner = row-is depth (groupCount s (w + 2)) (groupsFrom s (w + 2)) (q .value)
+      let inner = row-is depth (manyGroups s (w + 2)) (groupsFrom s (w + 2)) (q .value)
       (rw (o .count, o .from) (q .first)) in
       let rest = row-is (suc depth) n (innerEnd s depth (w + 2)) (k .value) (rw (inner .end) (k .first)) in
       subst (RowIs (suc depth) (suc n) w) (done-inj (k .next))
@@ -100,7 +100,7 @@ module _ (s : List ℕ) where
       let q = inv-bind _ _ _ (p .next) in
       let k = inv-bind _ _ _ (q .next) in
       let o = shape-is 0 0 (p .value) (p .first) in
-      let inner = row-is 4 (groupCount s 0) (groupsFrom s 0) (q .value) (rw (o .count, o .from) (q .first)) in
+      let inner = row-is 4 (manyGroups s 0) (groupsFrom s 0) (q .value) (rw (o .count, o .from) (q .first)) in
       let whole = eqb-true (q .value .1) (length b) (inv-must _ _ _ _ (k .first)) in
       subst BodyIs (done-inj (k .next))
       (record {

@@ -18,7 +18,7 @@ use Rattle.layout.proofs.TypeLaws.{each-type}
 use Rattle.prepared.specs.Numbers.{blockOf, blockSize, datasOf, fieldsOf, spread, tableOf}
 use Rattle.prepared.proofs.Accepted.{datas-length, fields-length}
 use Rattle.prepared.proofs.Prepared.{length-table}
-use Rattle.prepare.specs.Positions.{dataCount, elementsAt, fieldCount, groupCount, headAt, shapeAt}
+use Rattle.prepare.specs.Positions.{manyDatas, elementsAt, manyFields, manyGroups, headAt, shapeAt}
 use Rattle.prepare.specs.Positions.{sizeAt, wordsFrom, worked}
 use Rattle.prepare.proofs.Filling.{Filling, filling-on}
 
@@ -104,18 +104,18 @@ module _ (s : List ℕ) (w : ℕ) where
   abbrev b : List ℕ
   b = wordsOf s
 
-  fields-are : length (shapeAt s w .fields) ≡ fieldCount s w
-  fields-are = fields-length b (fieldCount s w) (w + 4)
+  fields-are : length (shapeAt s w .fields) ≡ manyFields s w
+  fields-are = fields-length b (manyFields s w) (w + 4)
 
-  datas-are : length (shapeAt s w .datas) ≡ dataCount s w
-  datas-are = datas-length b (dataCount s w) (w + 4 + 6 * fieldCount s w)
+  datas-are : length (shapeAt s w .datas) ≡ manyDatas s w
+  datas-are = datas-length b (manyDatas s w) (w + 4 + 6 * manyFields s w)
 
   pub block-size : blockSize (shapeAt s w) ≡ sizeAt s w
   block-size = omega (arith, fields-are, datas-are)
 
   -- The head is stored by sixes, of the length l and the counts f, g and d.
-  pub head-stored : (id since need next at l f g d : ℕ) (d₀ d₁ d₂ : List ℕ) → l ≡ word b w → f ≡ fieldCount s w
-      → g ≡ groupCount s w → d ≡ dataCount s w → d₁ ≡ sets d₀ at (id ∷ since ∷ l ∷ f ∷ g ∷ d ∷ [])
+  pub head-stored : (id since need next at l f g d : ℕ) (d₀ d₁ d₂ : List ℕ) → l ≡ word b w → f ≡ manyFields s w
+      → g ≡ manyGroups s w → d ≡ manyDatas s w → d₁ ≡ sets d₀ at (id ∷ since ∷ l ∷ f ∷ g ∷ d ∷ [])
       → d₂ ≡ sets d₁ (at + 6) (need ∷ (g + d) ∷ next ∷ (at + 12 + 6 * f + 2 * d + 5 * f) ∷ (at + 12 + 6 * f)
       ∷ (at + 12 + 6 * f + 2 * d) ∷ [])
       → d₂ ≡ sets d₀ at (headAt s w id since need next at)
@@ -127,20 +127,20 @@ module _ (s : List ℕ) (w : ℕ) where
   elements-long = simp (length-append, length-words, length-table, fields-are) (omega arith)
 
   -- n words are stored, and then the table of f fields.
-  pub elements-stored : (f n start : ℕ) (d d₁ d₂ : List ℕ) → f ≡ fieldCount s w → n ≡ 6 * f + 2 * dataCount s w
+  pub elements-stored : (f n start : ℕ) (d d₁ d₂ : List ℕ) → f ≡ manyFields s w → n ≡ 6 * f + 2 * manyDatas s w
       → d₁ ≡ sets d start (wordsFrom s n (w + 4)) → d₂ ≡ sets d₁ (start + n) (tableOf (parseFields b f (w + 4)))
       → d₂ ≡ sets d start (elementsAt s w)
   elements-stored f n start d d₁ d₂ ef en p q =
-      let k = 6 * fieldCount s w + 2 * dataCount s w in
+      let k = 6 * manyFields s w + 2 * manyDatas s w in
       q ∙ rw (p, en, ef) (sym (sets-append d start (wordsFrom s k (w + 4)) (tableOf (shapeAt s w .fields))
       ∙ rw length-words refl))
 
   pub block-is : (version id since need next at : ℕ) → need ≡ needOf version (shapeAt s w)
-      → blockOf version id since (shapeAt s w) (groupCount s w) next at
+      → blockOf version id since (shapeAt s w) (manyGroups s w) next at
       ≡ headAt s w id since need next at ++ elementsAt s w
   block-is version id since need next at en =
-      let f = fieldCount s w in
-      let d = dataCount s w in
+      let f = manyFields s w in
+      let d = manyDatas s w in
       let q : at + (12 + 6 * f + 2 * d + 5 * f) ≡ at + sizeAt s w = omega arith in
       rw (
         en,

@@ -11,7 +11,7 @@ use Rattle.layout.specs.Book.{Groups, Shape, groupSinces, more, need as needOf,
 use Rattle.layout.specs.BookRules.{word}
 use Rattle.prepared.specs.Numbers.{blockOf, blockSize, count, groupsOf, groupsSize}
 use Rattle.prepared.proofs.Prepared.{length-groups}
-use Rattle.prepare.specs.Positions.{BlockAt, IsRow, Opened, elementsAt, groupAt, groupCount, groupSize, groupsAt}
+use Rattle.prepare.specs.Positions.{BlockAt, IsRow, Opened, elementsAt, groupAt, manyGroups, groupSize, groupsAt}
 use Rattle.prepare.specs.Positions.{groupsEnd, groupsFrom, headAt, innerAt, innerEnd, shapeAt, sizeAt}
 use Rattle.prepare.specs.declared.Ends.{Ends}
 use Rattle.prepare.proofs.Filling.{Filling, filling-ends, filling-on, sets-past}
@@ -76,7 +76,7 @@ pub record Storing (s : List ℕ) (depth version w at : ℕ) (d₀ d : List ℕ)
       (groupsOf version (groupsAt s depth n x) to)
 
 pub storing-starts : (s : List ℕ) (depth version w at : ℕ) (d : List ℕ) (n x to : ℕ) → BlockAt s depth w
-    → at + groupSize s depth w ≤ length d → n ≡ groupCount s w → x ≡ groupsFrom s w
+    → at + groupSize s depth w ≤ length d → n ≡ manyGroups s w → x ≡ groupsFrom s w
     → to ≡ at + sizeAt s w → Storing s depth version w at d d n x to
 storing-starts s depth version w at d n x to block fits en ex et =
     record {
@@ -144,7 +144,7 @@ module _ (s : List ℕ) (depth w : ℕ) (block : BlockAt s depth w) where
       let own : at + blockSize (shapeAt s w) ≡ x = omega (arith, block-size s w) in
       let to : next ≡ at + blockSize (shapeAt s w) + groupsSize (innerAt s depth w) = omega (arith, block-size s w) in
       let counted = count-row s depth _ _ (block .row) in
-      let block-of = blockOf version id since (shapeAt s w) (groupCount s w) next at in
+      let block-of = blockOf version id since (shapeAt s w) (manyGroups s w) next at in
       let moved : groupsOf version (groupAt s depth w id since) at ≡ block-of ++ inner =
       rw (counted, append-nil, to, ← own) refl in
       let whole = moved ∙ ap (λ (l : List ℕ). l ++ inner) (block-is s w version id since need next at en)

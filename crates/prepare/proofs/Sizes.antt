@@ -5,7 +5,7 @@ use Prim.Native.Nat.{ℕ, zero, suc, _+_, _/_, _≤_, _<_}
 use native.Mathlib.Omega.{arith}
 use lib.ListN.{length}
 use Rattle.prepared.specs.Numbers.{groupsSize}
-use Rattle.prepare.specs.Positions.{IsRow, groupCount, groupSize, groupsAt, groupsEnd, groupsFrom, innerAt}
+use Rattle.prepare.specs.Positions.{IsRow, manyGroups, groupSize, groupsAt, groupsEnd, groupsFrom, innerAt}
 use Rattle.prepare.specs.Positions.{sizeAt}
 use Rattle.prepare.specs.Templates.{IsBody}
 use Rattle.prepare.proofs.Blocks.{block-size}
@@ -37,7 +37,7 @@ pub seeing-starts : (s : List ℕ) → IsBody s → (w seen : ℕ) → w ≡ gro
 seeing-starts s body w seen ew es =
     record {
       left = groupsSize (innerAt s 4 0);
-      run = rw ew (run-row s _ 4 (groupCount s 0) (groupsFrom s 0) 0 _ (body .block .row) (ends (body .end) refl)
+      run = rw ew (run-row s _ 4 (manyGroups s 0) (groupsFrom s 0) 0 _ (body .block .row) (ends (body .end) refl)
           (omega arith));
       sum = omega arith;
     }

@@ -21,38 +21,38 @@ wordsFrom s (suc n) w = word (wordsOf s) w ∷ wordsFrom s n (suc w)
 
 module _ (s : List ℕ) (w : ℕ) where
   -- The counts of the block at word w, and where its groups start.
-  abbrev pub fieldCount : ℕ
-  fieldCount = word (wordsOf s) (w + 1)
+  abbrev pub manyFields : ℕ
+  manyFields = word (wordsOf s) (w + 1)
 
-  abbrev pub groupCount : ℕ
-  groupCount = word (wordsOf s) (w + 2)
+  abbrev pub manyGroups : ℕ
+  manyGroups = word (wordsOf s) (w + 2)
 
-  abbrev pub dataCount : ℕ
-  dataCount = word (wordsOf s) (w + 3)
+  abbrev pub manyDatas : ℕ
+  manyDatas = word (wordsOf s) (w + 3)
 
   abbrev pub groupsFrom : ℕ
-  groupsFrom = w + 4 + 6 * fieldCount + 2 * dataCount
+  groupsFrom = w + 4 + 6 * manyFields + 2 * manyDatas
 
   abbrev pub shapeAt : Shape
   shapeAt =
       record {
         length = word (wordsOf s) w;
-        fields = parseFields (wordsOf s) fieldCount (w + 4);
-        datas = parseDatas (wordsOf s) dataCount (w + 4 + 6 * fieldCount);
+        fields = parseFields (wordsOf s) manyFields (w + 4);
+        datas = parseDatas (wordsOf s) manyDatas (w + 4 + 6 * manyFields);
       }
 
   -- How many numbers it is without its groups: its head, and then its fields, its data and its fields' table.
   abbrev pub sizeAt : ℕ
-  sizeAt = 12 + 11 * fieldCount + 2 * dataCount
+  sizeAt = 12 + 11 * manyFields + 2 * manyDatas
 
   abbrev pub headAt : ℕ → ℕ → ℕ → ℕ → ℕ → List ℕ
   headAt id since need next at =
-      id ∷ since ∷ word (wordsOf s) w ∷ fieldCount ∷ groupCount ∷ dataCount ∷ need ∷ (groupCount + dataCount) ∷ next
-      ∷ (at + sizeAt) ∷ (at + 12 + 6 * fieldCount) ∷ (at + 12 + 6 * fieldCount + 2 * dataCount) ∷ []
+      id ∷ since ∷ word (wordsOf s) w ∷ manyFields ∷ manyGroups ∷ manyDatas ∷ need ∷ (manyGroups + manyDatas) ∷ next
+      ∷ (at + sizeAt) ∷ (at + 12 + 6 * manyFields) ∷ (at + 12 + 6 * manyFields + 2 * manyDatas) ∷ []
 
   abbrev pub elementsAt : List ℕ
   elementsAt =
-      wordsFrom s (6 * fieldCount + 2 * dataCount) (w + 4) ++ tableOf (parseFields (wordsOf s) fieldCount (w + 4))
+      wordsFrom s (6 * manyFields + 2 * manyDatas) (w + 4) ++ tableOf (parseFields (wordsOf s) manyFields (w + 4))
 
 -- The word after the n groups in a row at word w, `depth` more levels being left, and the groups.
 unfoldable pub groupsEnd : List ℕ → ℕ → ℕ → ℕ → ℕ
@@ -60,7 +60,7 @@ groupsEnd s zero zero w = w
 groupsEnd s (suc depth) zero w = w
 groupsEnd s zero (suc n) w = w
 groupsEnd s (suc depth) (suc n) w =
-    groupsEnd s (suc depth) n (groupsEnd s depth (groupCount s (w + 2)) (groupsFrom s (w + 2)))
+    groupsEnd s (suc depth) n (groupsEnd s depth (manyGroups s (w + 2)) (groupsFrom s (w + 2)))
 
 unfoldable pub groupsAt : List ℕ → ℕ → ℕ → ℕ → Groups
 groupsAt s zero zero w = none
@@ -68,8 +68,8 @@ groupsAt s (suc depth) zero w = none
 groupsAt s zero (suc n) w = none
 groupsAt s (suc depth) (suc n) w =
     more (word (wordsOf s) w) (word (wordsOf s) (w + 1)) (shapeAt s (w + 2))
-    (groupsAt s depth (groupCount s (w + 2)) (groupsFrom s (w + 2)))
-    (groupsAt s (suc depth) n (groupsEnd s depth (groupCount s (w + 2)) (groupsFrom s (w + 2))))
+    (groupsAt s depth (manyGroups s (w + 2)) (groupsFrom s (w + 2)))
+    (groupsAt s (suc depth) n (groupsEnd s depth (manyGroups s (w + 2)) (groupsFrom s (w + 2))))
 
 -- They stand there.
 unfoldable pub IsRow : List ℕ → ℕ → ℕ → ℕ → Type 0
@@ -77,16 +77,16 @@ IsRow s zero zero w = Unit {0}
 IsRow s (suc depth) zero w = Unit {0}
 IsRow s zero (suc n) w = ⊥
 IsRow s (suc depth) (suc n) w =
-    (groupsFrom s (w + 2) ≤ length s / 2) × IsRow s depth (groupCount s (w + 2)) (groupsFrom s (w + 2))
-    × IsRow s (suc depth) n (groupsEnd s depth (groupCount s (w + 2)) (groupsFrom s (w + 2)))
+    (groupsFrom s (w + 2) ≤ length s / 2) × IsRow s depth (manyGroups s (w + 2)) (groupsFrom s (w + 2))
+    × IsRow s (suc depth) n (groupsEnd s depth (manyGroups s (w + 2)) (groupsFrom s (w + 2)))
 
 -- The groups of the block at word w, and the word after them.
 module _ (s : List ℕ) (depth w : ℕ) where
   abbrev pub innerAt : Groups
-  innerAt = groupsAt s depth (groupCount s w) (groupsFrom s w)
+  innerAt = groupsAt s depth (manyGroups s w) (groupsFrom s w)
 
   abbrev pub innerEnd : ℕ
-  innerEnd = groupsEnd s depth (groupCount s w) (groupsFrom s w)
+  innerEnd = groupsEnd s depth (manyGroups s w) (groupsFrom s w)
 
   -- How many numbers the block is with its groups.
   abbrev pub groupSize : ℕ
@@ -98,7 +98,7 @@ module _ (s : List ℕ) (depth w : ℕ) where
 
   pub record BlockAt : Type 0 where
     pub fits : groupsFrom s w ≤ length s / 2
-    pub row : IsRow s depth (groupCount s w) (groupsFrom s w)
+    pub row : IsRow s depth (manyGroups s w) (groupsFrom s w)
 
 -- The first of the n groups at word w: its block with its groups, and the groups after it.
 pub record Opened (s : List ℕ) (depth n w : ℕ) : Type 0 where

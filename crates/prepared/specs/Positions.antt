@@ -23,14 +23,14 @@ pub record Derived (p : List ℕ) (x : ℕ) (f : Field) : Type 0 where
   pub width : word p (x + 4) ≡ typeAt (f .type) .width
 
 module _ (p : List ℕ) (a : ℕ) where
-  abbrev pub fieldCount : ℕ
-  fieldCount = word p (a + 3)
+  abbrev pub manyFields : ℕ
+  manyFields = word p (a + 3)
 
-  abbrev pub groupCount : ℕ
-  groupCount = word p (a + 4)
+  abbrev pub manyGroups : ℕ
+  manyGroups = word p (a + 4)
 
-  abbrev pub dataCount : ℕ
-  dataCount = word p (a + 5)
+  abbrev pub manyDatas : ℕ
+  manyDatas = word p (a + 5)
 
   abbrev pub nextFrom : ℕ
   nextFrom = word p (a + 8)
@@ -51,27 +51,27 @@ module _ (p : List ℕ) (a : ℕ) where
   shapeAt =
       record {
         length = word p (a + 2);
-        fields = parseFields p fieldCount fieldsFrom;
-        datas = parseDatas p dataCount datasFrom;
+        fields = parseFields p manyFields fieldsFrom;
+        datas = parseDatas p manyDatas datasFrom;
       }
 
   -- A block of an accepted book stands at a, and what was worked out of it is right.
   pub record IsBlock : Type 0 where
     pub short : length p ≤ 65535
-    pub fewFields : fieldCount ≤ 64
-    pub fewGroups : groupCount ≤ 16
-    pub fewDatas : dataCount ≤ 16
-    pub fieldsFit : fieldsFrom + 6 * fieldCount ≤ length p
-    pub datasFit : datasFrom + 2 * dataCount ≤ length p
-    pub tableFits : tableFrom + 5 * fieldCount ≤ length p
+    pub fewFields : manyFields ≤ 64
+    pub fewGroups : manyGroups ≤ 16
+    pub fewDatas : manyDatas ≤ 16
+    pub fieldsFit : fieldsFrom + 6 * manyFields ≤ length p
+    pub datasFit : datasFrom + 2 * manyDatas ≤ length p
+    pub tableFits : tableFrom + 5 * manyFields ≤ length p
     pub good : shapeGood shapeAt ≡ true
     -- "never above the schema version", "never falling along the fields"
     pub since : word p (a + 1) ≤ versionAt p
-    pub rising : (i j : ℕ) → i ≤ j → j < fieldCount → word p (fieldsFrom + 6 * i + 5) ≤ word p (fieldsFrom + 6 * j + 5)
-    pub datasHere : (v : ℕ) → versionAt p ≤ v → present v (dataSinces (shapeAt .datas)) ≡ dataCount
+    pub rising : (i j : ℕ) → i ≤ j → j < manyFields → word p (fieldsFrom + 6 * i + 5) ≤ word p (fieldsFrom + 6 * j + 5)
+    pub datasHere : (v : ℕ) → versionAt p ≤ v → present v (dataSinces (shapeAt .datas)) ≡ manyDatas
     pub needs : (v : ℕ) → versionAt p ≤ v → word p (a + 6) ≡ need v shapeAt
-    pub follow : word p (a + 7) ≡ groupCount + dataCount
-    pub derived : (i : ℕ) → i < fieldCount → Derived p (tableFrom + 5 * i) (fieldAt p (fieldsFrom + 6 * i))
+    pub follow : word p (a + 7) ≡ manyGroups + manyDatas
+    pub derived : (i : ℕ) → i < manyFields → Derived p (tableFrom + 5 * i) (fieldAt p (fieldsFrom + 6 * i))
 
 -- The n groups in a row at a, `depth` more levels being left.
 unfoldable pub groupsAt : List ℕ → ℕ → ℕ → ℕ → Groups
@@ -79,7 +79,7 @@ groupsAt p zero zero a = none
 groupsAt p (suc depth) zero a = none
 groupsAt p zero (suc n) a = none
 groupsAt p (suc depth) (suc n) a =
-    more (word p a) (word p (a + 1)) (shapeAt p a) (groupsAt p depth (groupCount p a) (groupsFrom p a))
+    more (word p a) (word p (a + 1)) (shapeAt p a) (groupsAt p depth (manyGroups p a) (groupsFrom p a))
     (groupsAt p (suc depth) n (nextFrom p a))
 
 -- They stand there.
@@ -88,17 +88,17 @@ IsRow p zero zero a = Unit {0}
 IsRow p (suc depth) zero a = Unit {0}
 IsRow p zero (suc n) a = ⊥
 IsRow p (suc depth) (suc n) a =
-    IsBlock p a × IsRow p depth (groupCount p a) (groupsFrom p a) × IsRow p (suc depth) n (nextFrom p a)
+    IsBlock p a × IsRow p depth (manyGroups p a) (groupsFrom p a) × IsRow p (suc depth) n (nextFrom p a)
 
 module _ (p : List ℕ) (depth a : ℕ) where
   -- The groups of the block at a.
   abbrev pub innerAt : Groups
-  innerAt = groupsAt p depth (groupCount p a) (groupsFrom p a)
+  innerAt = groupsAt p depth (manyGroups p a) (groupsFrom p a)
 
   -- A block stands at a, with its groups, `depth` more levels being left.
   pub record BlockAt : Type 0 where
     pub block : IsBlock p a
-    pub row : IsRow p depth (groupCount p a) (groupsFrom p a)
+    pub row : IsRow p depth (manyGroups p a) (groupsFrom p a)
 
 -- The first of the n groups at a: its block with its groups, the groups after it, and the tree that they are.
 pub record Opened (p : List ℕ) (depth n a : ℕ) : Type 0 where

@@ -19,7 +19,7 @@ use Rattle.layout.specs.declared.Counted.the-variants as Counted
 use Rattle.layout.specs.declared.Refusal.{Refusal}
 use Rattle.layout.proofs.Records.{listing-three}
 use Rattle.layout.proofs.Results.{done-inj, inv-bind}
-use Rattle.prepared.specs.Positions.{dataCount, datasFrom, fieldCount, innerAt, shapeAt}
+use Rattle.prepared.specs.Positions.{manyDatas, datasFrom, manyFields, innerAt, shapeAt}
 use Rattle.prepared.specs.Books.{bookAt, templateAt}
 use Rattle.walk.proofs.Blocks.{length-fields}
 use Rattle.messages.proofs.Counts.{length-datas}
@@ -51,13 +51,13 @@ module _ {p m path : List ℕ} {a v l g k f n : ℕ} (o : Enters p m path a v l 
   abbrev pub treeOf : Values
   treeOf = treeAt p m (a, g, o .groups, o .datas)
 
-  data-records : length (o .datas) ≡ dataCount p a
+  data-records : length (o .datas) ≡ manyDatas p a
   unfolding restAt
   data-records =
       let q = inv-bind _ _ _ (inv-bind _ _ _ (o .rest) .next) in
       let same = ap (λ (x : List Answer × ℕ). length (x .0)) (done-inj (inv-bind _ _ _ (q .next) .next)) in
       let many = length-map (shapeAt p a .datas) (λ (d : Data). d .since) in
-      let all = length-datas p (dataCount p a) (datasFrom p a) in
+      let all = length-datas p (manyDatas p a) (datasFrom p a) in
       omega (arith, same, datas-length m _ _ _ _ (q .value) (q .first), many, all)
 
   -- As it is read.
@@ -95,13 +95,13 @@ list-refused p m room z e = not-listed _ room _ _ (rw e refl)
 
 -- A message that is accepted.
 module _ {p m : List ℕ} {a v l g k f n : ℕ} (o : Enters p m [] a v l g k f n) where
-  measured : fieldCount p a + k + dataCount p a ≡ measure (treeOf o)
+  measured : manyFields p a + k + manyDatas p a ≡ measure (treeOf o)
   unfolding measure recordsIn
   measured =
       omega (
         arith,
         length-map (shapeAt p a .fields) (readField m (versionOf m) headerSize),
-        length-fields p (fieldCount p a) (a + 12),
+        length-fields p (manyFields p a) (a + 12),
         data-records o,
         o .records,
       )
@@ -114,7 +114,7 @@ module _ {p m : List ℕ} {a v l g k f n : ℕ} (o : Enters p m [] a v l g k f n
       let q = root-prints m v (shapeAt p a) (innerAt p 4 a) g l headerSize (o .over) (r .block) (r .is-block) in
       (q .0, q .1 ∙ ap (λ (t : Values). got (q .0) (listing t)) (r .tree-is))
 
-  module _ (room : List ℕ) (all : ℕ) (e : all ≡ fieldCount p a + k + dataCount p a) where
+  module _ (room : List ℕ) (all : ℕ) (e : all ≡ manyFields p a + k + manyDatas p a) where
     -- The room is too small.
     pub list-full : length room / 3 < all → ListsAs (listIn (bookAt p) m) room (Counted.Refused (refusal 40 all)) room
     unfolding _>>=_ must

@@ -15,7 +15,7 @@ ghost use Prim.Native.Nat.{_+_, _≤_};
 ghost use Rattle.layout.specs.Contracts.{ListsAs, WritesAs, checked, found, refusal};
 ghost use Rattle.layout.specs.Reading.{checkIn, listIn, placeIn};
 ghost use Rattle.layout.specs.Writing.{writeIn};
-ghost use Rattle.prepared.specs.Positions.{BlockAt, IsBlock, dataCount, fieldCount};
+ghost use Rattle.prepared.specs.Positions.{BlockAt, IsBlock, manyDatas, manyFields};
 ghost use Rattle.places.specs.Seeks.{Path};
 ghost use Rattle.whole.specs.Wholes.{most};
 ghost use Rattle.stream.specs.Places.{noPlace, surplusIn};
@@ -37,7 +37,7 @@ pub fn check(p: &[u64], m: &[u8]) -> Checked
 // How many records a message has whose root is the block at a, its groups having k.
 fn count_records(p: &[u64], a: usize, k: usize) -> usize
     requires { ⌜ IsBlock (now p) a × (k ≤ most) ⌝ }
-    ensures { λ r. ⌜ r ≡ fieldCount (now (p .entry)) a + k + dataCount (now (p .entry)) a ⌝ }
+    ensures { λ r. ⌜ r ≡ manyFields (now (p .entry)) a + k + manyDatas (now (p .entry)) a ⌝ }
 {
     number(p, a + 3) + k + number(p, a + 5)
 }

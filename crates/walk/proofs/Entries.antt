@@ -14,7 +14,7 @@ use Rattle.layout.specs.Contracts.{refusal}
 use Rattle.layout.specs.Values.{Values, entry, measure, nil}
 use Rattle.layout.specs.Message.{Entry, readBlock, readDatas, readEntries, readField, readGroups, skipDatas, skipGroups}
 use Rattle.layout.specs.declared.Refusal.{Refusal}
-use Rattle.prepared.specs.Positions.{IsBlock, dataCount, datasFrom, fieldCount, fieldsFrom, groupCount, groupsFrom}
+use Rattle.prepared.specs.Positions.{IsBlock, manyDatas, datasFrom, manyFields, fieldsFrom, manyGroups, groupsFrom}
 use Rattle.prepared.specs.Positions.{innerAt, shapeAt}
 use Rattle.prepared.proofs.Open.{no-groups-at}
 use Rattle.wire.specs.Walks.{walked}
@@ -107,7 +107,7 @@ module _ (m : List ℕ) (v : ℕ) (s : Shape) (l : ℕ) (gs : Groups) (no-groups
 
 -- Entries of a block that nothing follows are passed at once where all of them fit.
 pub plain-walked : (p : List ℕ) (depth a : ℕ) (m : List ℕ) (v l k start fields follow : ℕ) → IsBlock p a
-    → fields ≡ fieldCount p a → follow ≡ word p (a + 7) → follow ≡ 0 → start + l * k ≤ length m
+    → fields ≡ manyFields p a → follow ≡ word p (a + 7) → follow ≡ 0 → start + l * k ≤ length m
     → Answers m start (96 * k) (walked (valuesEnd 0) (entriesAt p depth a m v l k start))
     (To (start + l * k) (fields * k))
 unfolding Bounded
@@ -115,8 +115,8 @@ plain-walked p depth a m v l k start fields follow b f w z h =
     let few : fields * k ≤ 64 * k = mul-le-mul-right k (omega (arith, f, b .fewFields)) in
     let s = shapeAt p a in
     let zero-plus : length (s .fields) * k ≡ 0 + length (s .fields) * k = omega arith in
-    let q : fields ≡ length (s .fields) = f ∙ sym (length-fields p (fieldCount p a) (fieldsFrom p a)) in
+    let q : fields ≡ length (s .fields) = f ∙ sym (length-fields p (manyFields p a) (fieldsFrom p a)) in
     let walk = plain-entries m v s l (innerAt p depth a)
-    (no-groups-at p depth (groupCount p a) (groupsFrom p a) (omega (arith, b .follow, w, z)))
-    (no-datas-at p (dataCount p a) (datasFrom p a) (omega (arith, b .follow, w, z))) k 0 start h in
+    (no-groups-at p depth (manyGroups p a) (groupsFrom p a) (omega (arith, b .follow, w, z)))
+    (no-datas-at p (manyDatas p a) (datasFrom p a) (omega (arith, b .follow, w, z))) k 0 start h in
     (rw (q, zero-plus) (sym walk), (omega arith, h, omega (arith, few)))

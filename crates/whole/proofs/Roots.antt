@@ -10,7 +10,7 @@ use Rattle.layout.specs.Contracts.{refusal}
 use Rattle.layout.specs.Message.{headerSize}
 use Rattle.layout.specs.Reading.{stepsOf}
 use Rattle.layout.specs.Values.{Values}
-use Rattle.prepared.specs.Positions.{groupCount, groupsFrom}
+use Rattle.prepared.specs.Positions.{manyGroups, groupsFrom}
 use Rattle.wire.specs.Walks.{walked}
 use Rattle.wire.specs.declared.Walked.{Walked}
 use Rattle.wire.specs.declared.Walked.the-variants as Walked
@@ -51,7 +51,7 @@ module _ (p : List ℕ) (a : ℕ) (m : List ℕ) (v l : ℕ) where
   answer path = rooted path (spotAt p a m v l path) (rootAt p a m v l)
 
   abbrev row : Result (Values × ℕ)
-  row = rowAt p 4 (groupCount p a) (groupsFrom p a) m v (headerSize + l)
+  row = rowAt p 4 (manyGroups p a) (groupsFrom p a) m v (headerSize + l)
 
   pub root-short : (path : List ℕ) → length m < headerSize + l → answer path ≡ Refused (refusal 16 headerSize)
   unfolding rooted rootAt must _>>=_

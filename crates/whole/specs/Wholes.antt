@@ -9,7 +9,7 @@ use Rattle.layout.specs.Message.{blockLength, headerSize, readDatas, readField,
 use Rattle.layout.specs.Reading.{stepsOf}
 use Rattle.layout.specs.Values.{Values, entry, measure, nil}
 use Rattle.layout.specs.declared.Answer.{Answer}
-use Rattle.prepared.specs.Positions.{groupCount, groupsFrom, innerAt, shapeAt}
+use Rattle.prepared.specs.Positions.{manyGroups, groupsFrom, innerAt, shapeAt}
 use Rattle.walk.specs.Walks.{rate, rowAt}
 use Rattle.places.specs.Spots.{Spot, spotIn}
 use Rattle.messages.specs.Openings.{openAt}
@@ -24,7 +24,7 @@ use Rattle.whole.specs.declared.Root.{Root}
 unfoldable pub rootAt : List ℕ → ℕ → List ℕ → ℕ → ℕ → Result (Values × ℕ)
 rootAt p a m v l = do
   _ ← must (leb (headerSize + l) (length m)) 16 headerSize
-  rowAt p 4 (groupCount p a) (groupsFrom p a) m v (headerSize + l)
+  rowAt p 4 (manyGroups p a) (groupsFrom p a) m v (headerSize + l)
 
 -- The records of a row, where no path is to be followed.
 unfoldable pub recordsIn : List ℕ → Values → ℕ

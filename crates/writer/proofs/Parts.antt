@@ -24,7 +24,7 @@ use Rattle.layout.proofs.Said.{NumberSaid, array-said, data-said, number-said}
 use Rattle.layout.proofs.Lengths.{field-long, span-long}
 use Rattle.layout.proofs.Stands.{length-octets}
 use Rattle.octets.proofs.Joined.{sets-append}
-use Rattle.prepared.specs.Positions.{Derived, IsBlock, fieldCount, fieldsFrom, groupsAt, tableFrom}
+use Rattle.prepared.specs.Positions.{Derived, IsBlock, manyFields, fieldsFrom, groupsAt, tableFrom}
 use Rattle.prepared.proofs.Open.{no-groups-at}
 use Rattle.prints.specs.Prints.{Accepted, Printed, Room, Stored, andThen, endOf, got, not, numbersOf, prepend, printed}
 use Rattle.prints.proofs.Going.{Done, was-done}
@@ -117,7 +117,7 @@ pub record FieldsLeft (p : List ℕ) (len at n f t : ℕ) : Type 0 where
   pub good : fieldsGood len at (parseFields p n f) ≡ true
 
 pub fields-left : (p : List ℕ) (a : ℕ) → IsBlock p a
-    → FieldsLeft p (word p (a + 2)) 0 (fieldCount p a) (fieldsFrom p a) (tableFrom p a)
+    → FieldsLeft p (word p (a + 2)) 0 (manyFields p a) (fieldsFrom p a) (tableFrom p a)
 fields-left p a b =
     record {
       short = b .short;

@@ -10,7 +10,7 @@ ghost use lib.Seq.{sets};
 ghost use Rattle.layout.specs.BookRules.{fieldAt, word};
 ghost use Rattle.layout.specs.Writing.{headerOf, numbers16};
 ghost use Rattle.prepared.specs.Books.{bookAt, templateAt};
-ghost use Rattle.prepared.specs.Positions.{BlockAt, IsBlock, dataCount, innerAt, shapeAt};
+ghost use Rattle.prepared.specs.Positions.{BlockAt, IsBlock, manyDatas, innerAt, shapeAt};
 ghost use Rattle.prints.specs.Prints.{Printed, Room, Stored, numbersOf};
 ghost use Rattle.writer.specs.Heads.{IsHead};
 ghost use Rattle.writer.specs.Zeros.{Ready, ZerosFrom};
@@ -171,9 +171,9 @@ fn write_datas(
     c: Cursor,
 ) -> Cursor
     requires { ⌜ IsBlock (now p) a ⌝ }
-    requires { ⌜ Room (datasPart (now listing) (now pool) (dataCount (now p) a) (c .record)) (c .at) (length
+    requires { ⌜ Room (datasPart (now listing) (now pool) (manyDatas (now p) a) (c .record)) (c .at) (length
         (now room)) ⌝ }
-    ensures { λ r. ⌜ Stored (datasPart (now (listing .entry)) (now (pool .entry)) (dataCount (now (p .entry)) a)
+    ensures { λ r. ⌜ Stored (datasPart (now (listing .entry)) (now (pool .entry)) (manyDatas (now (p .entry)) a)
         (c .record)) (c .at) (now (room .entry)) (r .record) (r .at) (now (room .exit)) ⌝ }
 {
     let mut left = number(p, a + 5);

@@ -1,4 +1,4 @@
--- What is left of the bodies is judged, with the faults so far, as all of them are.
+-- What is left of the bodies is ruled, with the faults so far, as all of them are.
 use mathlib.Core.Path.{_≡_, sym, _∙_, ap, refl}
 use Prim.Native.Nat.{_+_, _*_, _/_, _≤_}
 use native.Mathlib.Omega.{arith}
@@ -8,7 +8,7 @@ use Rattle.layout.specs.Result.{Result}
 use Rattle.layout.specs.Octets.{wordsOf}
 use Rattle.layout.specs.BookRules.{parseBodies, parseBody, parseContents, word}
 use Rattle.layout.specs.Contracts.{checked}
-use Rattle.book.specs.Answers.{bodiesOf, bodyOf, judged}
+use Rattle.book.specs.Answers.{bodiesOf, bodyOf, ruled}
 use Rattle.book.proofs.Words.{length-words, words-between}
 use Rattle.book.proofs.RuleLaws.{Head, head-says}
 use Rattle.book.proofs.Bodies.{Lies, lies-first, bodies-end, bodies-broken, bodies-next}
@@ -19,7 +19,7 @@ abbrev Inv-loop : tie.InvT-loop
 Inv-loop book version left₀ t₀ w₀ five₀ six₀ left t w five six =
     let b = wordsOf book in
     (t + left ≤ 64) × (w + 3 * left ≤ length book / 2) × Lies b left w
-    × (checked (bodiesOf b) ≡ checked (judged version t five six (parseBodies b t (parseContents b left w))))
+    × (checked (bodiesOf b) ≡ checked (ruled version t five six (parseBodies b t (parseContents b left w))))
 
 abbrev μ-loop : tie.MeasureT-loop
 μ-loop book version left₀ t₀ w₀ five₀ six₀ left t w five six = left

@@ -5,7 +5,7 @@ use native.Mathlib.Omega.{arith}
 use borrow.Author.Needs.{needs}
 use Rattle.layout.specs.BookRules.{parseFields}
 use Rattle.layout.specs.Writing.{judgeFields}
-use Rattle.prepared.specs.Positions.{IsBlock, fieldCount, fieldsFrom, shapeAt, tableFrom}
+use Rattle.prepared.specs.Positions.{IsBlock, manyFields, fieldsFrom, shapeAt, tableFrom}
 use Rattle.judges.specs.Judges.{fieldsEnd, judged}
 use Rattle.judges.proofs.Judging.{field-here, fields-end, fields-next, fields-refused}
 use Rattle.judges.proofs.judge_fields.Statement.{statement}
@@ -13,8 +13,8 @@ use Rattle.judges.proofs.judge_fields.Tie as tie
 
 abbrev Inv-loop : tie.InvT-loop
 Inv-loop p a listing n start left₀ f₀ t₀ i₀ left f t i =
-    IsBlock p a × (left ≤ fieldCount p a) × (f + 6 * left ≡ fieldsFrom p a + 6 * fieldCount p a)
-    × (t + 5 * left ≡ tableFrom p a + 5 * fieldCount p a)
+    IsBlock p a × (left ≤ manyFields p a) × (f + 6 * left ≡ fieldsFrom p a + 6 * manyFields p a)
+    × (t + 5 * left ≡ tableFrom p a + 5 * manyFields p a)
     × (judged fieldsEnd (judgeFields listing n (shapeAt p a .fields) start)
     ≡ judged fieldsEnd (judgeFields listing n (parseFields p left f) i))
 

@@ -82,5 +82,5 @@ pub find-place-spec : {M : Type 1} → statement M
 find-place-spec =
     tie.close
     (tie.spec Inv-loop μ-loop loop-holds (λ c κs. omega arith) (λ c. omega arith) (λ c κs. omega arith) returns
-    (λ c. omega arith) (λ c κs. omega arith) skip-row-requires sub-depth (λ c. omega arith) (λ c. omega arith) loop-again
-    (λ c κs. tt) (λ c κs. c .before .before .loop .inv .0 .block) returns-2 returns-3)
+    (λ c. omega arith) (λ c κs. omega arith) skip-row-requires sub-depth (λ c. omega arith) (λ c. omega arith)
+    loop-again (λ c κs. tt) (λ c κs. c .before .before .loop .inv .0 .block) returns-2 returns-3)

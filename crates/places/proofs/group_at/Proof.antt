@@ -2,7 +2,7 @@
 use mathlib.Core.Path.{sym, _∙_}
 use native.Mathlib.Omega.{arith}
 use borrow.Author.Needs.{needs}
-use Rattle.prepared.specs.Positions.{groupCount, groupsFrom}
+use Rattle.prepared.specs.Positions.{manyGroups, groupsFrom}
 use Rattle.walk.specs.Walks.{rowAt}
 use Rattle.places.specs.Elements.{groupRead}
 use Rattle.places.proofs.Elements.{GroupHere, group-here, groups-before, not-refused}
@@ -47,7 +47,7 @@ here : (c : tie.After-number2) → let told = c .before .before .before in
     let s = told .before .before .before .before .before .args in
     let p = s .p .now .now in
     GroupHere (s .m .now .now) (s .v) (c .number2 .result) (told .passed .given .0 .0)
-    (groupRead (s .k) (rowAt p (s .depth) (groupCount p (s .a)) (groupsFrom p (s .a)) (s .m .now .now) (s .v)
+    (groupRead (s .k) (rowAt p (s .depth) (manyGroups p (s .a)) (groupsFrom p (s .a)) (s .m .now .now) (s .v)
     (s .start)))
 here c =
     let told = c .before .before .before in

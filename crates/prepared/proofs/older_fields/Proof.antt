@@ -4,14 +4,14 @@ use Prim.Native.Nat.{_+_, _-_, _*_, _/_, _<_, _≤_}
 use native.Mathlib.Omega.{arith}
 use Rattle.layout.specs.Book.{need, needAfter}
 use Rattle.layout.specs.BookRules.{parseFields, word}
-use Rattle.prepared.specs.Positions.{IsBlock, fieldCount, shapeAt}
+use Rattle.prepared.specs.Positions.{IsBlock, manyFields, shapeAt}
 use Rattle.prepared.proofs.Needs.{need-cut}
 use Rattle.prepared.proofs.older_fields.Statement.{statement}
 use Rattle.prepared.proofs.older_fields.Tie as tie
 
 abbrev Inv-loop : tie.InvT-loop
 Inv-loop p a v low₀ high₀ low high =
-    IsBlock p a × (low ≤ high) × (high ≤ fieldCount p a)
+    IsBlock p a × (low ≤ high) × (high ≤ manyFields p a)
     × (0 < low → word p (a + 12 + 6 * (low - 1) + 5) ≤ v)
     × (need v (shapeAt p a) ≡ needAfter v 0 (parseFields p high (a + 12)))
 

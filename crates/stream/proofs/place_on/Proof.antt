@@ -83,5 +83,5 @@ place-on-spec =
     ))
     (λ c. search needs) (λ c. search needs)
     (λ c κs. (enters c .opens .block, start (c .before .before .before) .pre .1)) (λ c. search needs)
-    (λ c. search needs) (λ c κs. search needs) returns (λ c κs. search needs) returns-2 (λ c. omega arith) (λ c κs. search needs)
-    element-at-requires returns-3 returns-4)
+    (λ c. search needs) (λ c κs. search needs) returns (λ c κs. search needs) returns-2 (λ c. omega arith)
+    (λ c κs. search needs) element-at-requires returns-3 returns-4)

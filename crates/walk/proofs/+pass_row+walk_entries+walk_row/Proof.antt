@@ -8,7 +8,7 @@ use borrow.Author.Needs.{needs}
 use borrow.Fn.Kinds.{In, Out}
 use borrow.Fn.PlainCycle.{Measures, is, falls, and}
 use lib.ListN.{length}
-use Rattle.prepared.specs.Positions.{BlockAt, IsRow, fieldCount}
+use Rattle.prepared.specs.Positions.{BlockAt, IsRow, manyFields}
 use Rattle.prepared.proofs.Open.{no-groups-at}
 use Rattle.prepared.proofs.number.Reads as number-reads
 use Rattle.prepared.proofs.need.Reads as need-reads
@@ -48,7 +48,7 @@ row-μ κs a = 3 * a .1 .1 .1 .0
 -- Whatever is known at the start and used later stands in the invariant, so that no need looks further back than it.
 abbrev entries-Inv : entries-lts.InvT-loop
 entries-Inv p a depth m v l k start s t fields due₀ at₀ seen₀ due at seen =
-    BlockAt (p .now) depth a × (length (m .now) ≤ 65535) × (due ≤ k) × (k ≤ 65535) × (fields ≡ fieldCount (p .now) a)
+    BlockAt (p .now) depth a × (length (m .now) ≤ 65535) × (due ≤ k) × (k ≤ 65535) × (fields ≡ manyFields (p .now) a)
     × Way (m .now) start (96 * k) (walked (valuesEnd 0) (entriesAt (p .now) depth a (m .now) v l k start))
     (walked (valuesEnd seen) (entriesAt (p .now) depth a (m .now) v l due at)) seen (96 * due) at
 

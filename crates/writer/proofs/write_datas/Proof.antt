@@ -4,7 +4,7 @@ use native.Mathlib.Omega.{arith}
 use borrow.Author.Needs.{needs}
 use borrow.Rule.Slice.PartMut.{putMid}
 use lib.ListN.{length}
-use Rattle.prepared.specs.Positions.{dataCount}
+use Rattle.prepared.specs.Positions.{manyDatas}
 use Rattle.prints.proofs.Going.{Going, going-call, going-end, going-first, going-none, stored-none}
 use Rattle.writer.specs.Parts.{datasPart}
 use Rattle.writer.proofs.Parts.{datas-end, datas-step}
@@ -14,7 +14,7 @@ use Rattle.writer.proofs.write_datas.Tie as tie
 
 abbrev Inv-loop : tie.InvT-loop
 Inv-loop p a listing pool room₀ left₀ here₀ room left here =
-    Going (datasPart listing pool (dataCount p a) (here₀ .record)) (datasPart listing pool left (here .record))
+    Going (datasPart listing pool (manyDatas p a) (here₀ .record)) (datasPart listing pool left (here .record))
     (here₀ .at) room₀ (here .at) room
 
 abbrev μ-loop : tie.MeasureT-loop
@@ -26,7 +26,7 @@ wrote : (c : tie.After-write-data Inv-loop μ-loop)
     let a = c .before .before .before .before .before .before .before .before .before .args in
     let d = l .room in
     let at = l .here .at in
-    Going (datasPart (a .listing .now) (a .pool .now) (dataCount (a .p .now) (a .a)) (a .c .record))
+    Going (datasPart (a .listing .now) (a .pool .now) (manyDatas (a .p .now) (a .a)) (a .c .record))
     (datasPart (a .listing .now) (a .pool .now) (l .left - 1) (l .here .record + 1)) (a .c .at) (a .room .now)
     (at + c .write-data .result) (putMid at (length d - at) d (c .write-data .last .1 .1 .1 .0))
 wrote c =
