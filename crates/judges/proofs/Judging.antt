@@ -96,9 +96,9 @@ number-there l i h = there-is l i _ h
 pub group-there : (l : List ℕ) (i : ℕ) → isGroup l i ≡ true → i < length l / 3
 group-there l i h = there-is l i _ h
 
-module _ (l : List ℕ) (n i : ℕ) where
+module _ (l : List ℕ) (size i : ℕ) where
   abbrev octetsIs : Result Answer
-  octetsIs = judgeOctets l n true i
+  octetsIs = judgeOctets l size true i
 
   pub octets-missing : length l / 3 ≤ i → judged (octetsEnd i) octetsIs ≡ Refused (refusal 51 i)
   unfolding judgeOctets judged must _>>=_ _and_
@@ -110,16 +110,16 @@ module _ (l : List ℕ) (n i : ℕ) where
     octets-other k = rw (is-there l i h, ne-eqb (first l i) 2 k) refl
 
     module _ (k : first l i ≡ 2) where
-      pub octets-past : n < second l i + third l i → judged (octetsEnd i) octetsIs ≡ Refused (refusal 53 i)
+      pub octets-past : size < second l i + third l i → judged (octetsEnd i) octetsIs ≡ Refused (refusal 53 i)
       unfolding judgeOctets judged must _>>=_ _and_
       octets-past p =
-          rw (is-there l i h, eq-eqb (first l i) 2 k, lt-leb (second l i + third l i) n p)
+          rw (is-there l i h, eq-eqb (first l i) 2 k, lt-leb (second l i + third l i) size p)
           refl
 
-      pub octets-whole : second l i + third l i ≤ n → judged (octetsEnd i) octetsIs ≡ To (i + 1) (third l i)
+      pub octets-whole : second l i + third l i ≤ size → judged (octetsEnd i) octetsIs ≡ To (i + 1) (third l i)
       unfolding judgeOctets judged must _>>=_ _and_ spanOf
       octets-whole p =
-          rw (is-there l i h, eq-eqb (first l i) 2 k, le-leb (second l i + third l i) n p)
+          rw (is-there l i h, eq-eqb (first l i) 2 k, le-leb (second l i + third l i) size p)
           refl
 
   -- Octets of a length that fits.
@@ -130,12 +130,12 @@ module _ (l : List ℕ) (n i : ℕ) where
   fitting true false fits x = refl
   fitting true true fits x = refl
 
-  octets-fit : (fits : Bool) → judgeOctets l n fits i ≡ (octetsIs >>= λ a. must fits 53 i >>= λ _. done a)
+  octets-fit : (fits : Bool) → judgeOctets l size fits i ≡ (octetsIs >>= λ a. must fits 53 i >>= λ _. done a)
   unfolding judgeOctets
-  octets-fit fits = fitting (isOctets l i) (leb (second l i + third l i) n) fits (Octets (second l i) (third l i))
+  octets-fit fits = fitting (isOctets l i) (leb (second l i + third l i) size) fits (Octets (second l i) (third l i))
 
   pub fit-refused : (g : Answer → ℕ × ℕ) (fits : Bool) (z : Refusal) → Refused z ≡ judged (octetsEnd i) octetsIs
-      → judged g (judgeOctets l n fits i) ≡ Refused z
+      → judged g (judgeOctets l size fits i) ≡ Refused z
   fit-refused g fits z e = rw (octets-fit fits) (stops (octetsEnd i) octetsIs _ g z e)
 
   module _ (x k : ℕ) (e : To x k ≡ judged (octetsEnd i) octetsIs) where
@@ -147,15 +147,15 @@ module _ (l : List ℕ) (n i : ℕ) where
     unfolding spanOf
     length-said =
         let q = octets-reached in
-        sym (q .octets) ∙ ap (λ (a : Answer). spanOf a .1) (sym (octets-said l n true i (q .value) (q .is) .0 .is))
+        sym (q .octets) ∙ ap (λ (a : Answer). spanOf a .1) (sym (octets-said l size true i (q .value) (q .is) .0 .is))
 
     module _ (g : Answer → ℕ × ℕ) (fits : Bool) where
-      pub fit-not : (k ≡ third l i → fits ≡ false) → judged g (judgeOctets l n fits i) ≡ Refused (refusal 53 i)
+      pub fit-not : (k ≡ third l i → fits ≡ false) → judged g (judgeOctets l size fits i) ≡ Refused (refusal 53 i)
       unfolding must _>>=_ judged
       fit-not t = rw (octets-fit fits, goes-on octets-reached, t length-said) refl
 
       pub fit-whole : (k ≡ third l i → fits ≡ true) → (y : ℕ) → ((a : Answer) → spanOf a .1 ≡ k → g a ≡ (i + 1, y))
-          → judged g (judgeOctets l n fits i) ≡ To x y
+          → judged g (judgeOctets l size fits i) ≡ To x y
       unfolding must _>>=_
       fit-whole t y o =
           let q = octets-reached in
@@ -203,15 +203,15 @@ within t x d least far small e p q =
 
 -- ---- fields
 
-module _ (l : List ℕ) (n : ℕ) (f : Field) (i : ℕ) where
+module _ (l : List ℕ) (size : ℕ) (f : Field) (i : ℕ) where
   pub field-array : 1 < f .length
-      → judged (fieldEnd i) (judgeField l n f i)
-      ≡ judged (fieldEnd i) (judgeOctets l n (eqb (third l i) (f .length)) i)
+      → judged (fieldEnd i) (judgeField l size f i)
+      ≡ judged (fieldEnd i) (judgeOctets l size (eqb (third l i) (f .length)) i)
   unfolding if_then_else_
   field-array h = rw (lt-ltb 1 (f .length) h) refl
 
   pub field-number : f .length ≤ 1
-      → judged (fieldEnd i) (judgeField l n f i) ≡ judged (fieldEnd i) (judgeNumber l 0 f i)
+      → judged (fieldEnd i) (judgeField l size f i) ≡ judged (fieldEnd i) (judgeNumber l 0 f i)
   unfolding if_then_else_ judgeNumber
   field-number h = rw (le-ltb 1 (f .length) h) refl
 
@@ -231,12 +231,12 @@ field-here p a left f t b some few at table =
           (subst (λ (u : ℕ). Derived p (tableFrom p a + 5 * j) (fieldAt p u)) x (b .derived j (omega arith)));
     }
 
-module _ (l : List ℕ) (n : ℕ) (p : List ℕ) where
+module _ (l : List ℕ) (size : ℕ) (p : List ℕ) where
   abbrev pub fieldsIs : ℕ → ℕ → ℕ → Result (List Answer × ℕ)
-  fieldsIs k f i = judgeFields l n (parseFields p k f) i
+  fieldsIs k f i = judgeFields l size (parseFields p k f) i
 
   fields-step : (k f i : ℕ) → 0 < k → fieldsIs k f i
-      ≡ (judgeField l n (fieldAt p f) i >>= λ a. fieldsIs (k - 1) (f + 6) (i + 1) >>= λ r. done (a ∷ r .0, r .1))
+      ≡ (judgeField l size (fieldAt p f) i >>= λ a. fieldsIs (k - 1) (f + 6) (i + 1) >>= λ r. done (a ∷ r .0, r .1))
   unfolding judgeFields parseFields
   fields-step zero f i h = absurd (omega arith)
   fields-step (suc k) f i h =
@@ -253,11 +253,11 @@ module _ (l : List ℕ) (n : ℕ) (p : List ℕ) where
         go (suc k) h = absurd (omega arith)
 
     module _ (h : 0 < k) where
-      pub fields-refused : (z : Refusal) → Refused z ≡ judged (fieldEnd i) (judgeField l n (fieldAt p f) i)
+      pub fields-refused : (z : Refusal) → Refused z ≡ judged (fieldEnd i) (judgeField l size (fieldAt p f) i)
           → judged fieldsEnd (fieldsIs k f i) ≡ Refused z
       fields-refused z e = rw (fields-step k f i h) (stops (fieldEnd i) _ _ _ z e)
 
-      pub fields-next : (x y : ℕ) → To x y ≡ judged (fieldEnd i) (judgeField l n (fieldAt p f) i)
+      pub fields-next : (x y : ℕ) → To x y ≡ judged (fieldEnd i) (judgeField l size (fieldAt p f) i)
           → judged fieldsEnd (fieldsIs k f i) ≡ judged fieldsEnd (fieldsIs (k - 1) (f + 6) x)
       fields-next x y e =
           let q = inv-to (fieldEnd i) _ x y e in
@@ -265,12 +265,12 @@ module _ (l : List ℕ) (n : ℕ) (p : List ℕ) where
 
 -- ---- data
 
-module _ (l : List ℕ) (n : ℕ) (p : List ℕ) where
+module _ (l : List ℕ) (size : ℕ) (p : List ℕ) where
   abbrev pub datasIs : ℕ → ℕ → ℕ → Result (List Answer × ℕ)
-  datasIs k d i = judgeDatas l n (parseDatas p k d) i
+  datasIs k d i = judgeDatas l size (parseDatas p k d) i
 
   datas-step : (k d i : ℕ) → 0 < k → datasIs k d i
-      ≡ (judgeData l n i >>= λ a. datasIs (k - 1) (d + 2) (i + 1) >>= λ r. done (a ∷ r .0, r .1))
+      ≡ (judgeData l size i >>= λ a. datasIs (k - 1) (d + 2) (i + 1) >>= λ r. done (a ∷ r .0, r .1))
   unfolding judgeDatas parseDatas
   datas-step zero d i h = absurd (omega arith)
   datas-step (suc k) d i h =
@@ -287,20 +287,20 @@ module _ (l : List ℕ) (n : ℕ) (p : List ℕ) where
         go (suc k) h = absurd (omega arith)
 
     module _ (h : 0 < k) where
-      pub datas-refused : (z : Refusal) → Refused z ≡ judged (octetsEnd i) (judgeOctets l n true i)
+      pub datas-refused : (z : Refusal) → Refused z ≡ judged (octetsEnd i) (judgeOctets l size true i)
           → judged (datasEnd seen) (datasIs k d i) ≡ Refused z
       datas-refused z e =
-          rw (datas-step k d i h) (stops (octetsEnd i) _ _ _ z (sym (fit-refused l n i (octetsEnd i) _ z e)))
+          rw (datas-step k d i h) (stops (octetsEnd i) _ _ _ z (sym (fit-refused l size i (octetsEnd i) _ z e)))
 
-      module _ (x y : ℕ) (e : To x y ≡ judged (octetsEnd i) (judgeOctets l n true i)) where
+      module _ (x y : ℕ) (e : To x y ≡ judged (octetsEnd i) (judgeOctets l size true i)) where
         pub datas-long : null16 ≤ y → judged (datasEnd seen) (datasIs k d i) ≡ Refused (refusal 53 i)
         datas-long long =
             rw (datas-step k d i h) (stops (octetsEnd i) _ _ _ (refusal 53 i)
-            (sym (fit-not l n i x y e (octetsEnd i) _ (λ q. le-ltb _ null16 (rw q at long)))))
+            (sym (fit-not l size i x y e (octetsEnd i) _ (λ q. le-ltb _ null16 (rw q at long)))))
 
-        data-reached : y < null16 → Reached (octetsEnd i) (judgeData l n i) x y
+        data-reached : y < null16 → Reached (octetsEnd i) (judgeData l size i) x y
         data-reached short =
-            inv-to (octetsEnd i) _ x y (sym (fit-whole l n i x y e (octetsEnd i) _
+            inv-to (octetsEnd i) _ x y (sym (fit-whole l size i x y e (octetsEnd i) _
             (λ q. lt-ltb _ null16 (rw q at short)) y (λ a q. pair≡ refl q)))
 
         pub datas-next : y < null16
@@ -327,12 +327,12 @@ entry-counts seen l g d rest o m p q =
     rw (counts (seen + l) g o p, counts (seen + l + g) d m q, sum) (sym (capped-plus (seen + l + g + d) rest))
 
 -- k entries of the block s with the groups gs.
-module _ (l : List ℕ) (n : ℕ) (s : Shape) (gs : Groups) where
+module _ (l : List ℕ) (size : ℕ) (s : Shape) (gs : Groups) where
   abbrev pub entriesIs : ℕ → ℕ → Result (Values × ℕ)
-  entriesIs k i = judgeEntries l n k (judgeBlock l n s (judgeGroups l n gs)) i
+  entriesIs k i = judgeEntries l size k (judgeBlock l size s (judgeGroups l size gs)) i
 
   entries-step : (k i : ℕ) → 0 < k → entriesIs k i
-      ≡ (judgeBlock l n s (judgeGroups l n gs) i >>= λ e. entriesIs (k - 1) (e .3)
+      ≡ (judgeBlock l size s (judgeGroups l size gs) i >>= λ e. entriesIs (k - 1) (e .3)
       >>= λ r. done (entry (e .0) (e .1) (e .2) (r .0), r .1))
   unfolding judgeEntries
   entries-step zero i h = absurd (omega arith)
@@ -347,34 +347,34 @@ module _ (l : List ℕ) (n : ℕ) (s : Shape) (gs : Groups) where
         go (suc k) h = absurd (omega arith)
 
     module _ (h : 0 < k) where
-      pub entry-fields : (z : Refusal) → Refused z ≡ judged fieldsEnd (judgeFields l n (s .fields) i)
+      pub entry-fields : (z : Refusal) → Refused z ≡ judged fieldsEnd (judgeFields l size (s .fields) i)
           → judged (rowEnd s gs seen) (entriesIs k i) ≡ Refused z
       unfolding judgeBlock judged _>>=_
-      entry-fields z e = rw (entries-step k i h, inv-refused fieldsEnd (judgeFields l n (s .fields) i) z e) refl
+      entry-fields z e = rw (entries-step k i h, inv-refused fieldsEnd (judgeFields l size (s .fields) i) z e) refl
 
-      module _ (x u : ℕ) (f : To x u ≡ judged fieldsEnd (judgeFields l n (s .fields) i)) where
-        fielded : Reached fieldsEnd (judgeFields l n (s .fields) i) x u
+      module _ (x u : ℕ) (f : To x u ≡ judged fieldsEnd (judgeFields l size (s .fields) i)) where
+        fielded : Reached fieldsEnd (judgeFields l size (s .fields) i) x u
         fielded = inv-to fieldsEnd _ x u f
 
-        pub entry-row : (z : Refusal) → Refused z ≡ judged (rowEnd s gs 0) (judgeGroups l n gs x)
+        pub entry-row : (z : Refusal) → Refused z ≡ judged (rowEnd s gs 0) (judgeGroups l size gs x)
             → judged (rowEnd s gs seen) (entriesIs k i) ≡ Refused z
         unfolding judgeBlock judged _>>=_
         entry-row z e =
-            let r = inv-refused (rowEnd s gs 0) (judgeGroups l n gs x) z e in
+            let r = inv-refused (rowEnd s gs 0) (judgeGroups l size gs x) z e in
             rw (entries-step k i h, goes-on fielded, fielded .next, r) refl
 
-        module _ (y o : ℕ) (g : To y o ≡ judged (rowEnd s gs 0) (judgeGroups l n gs x)) where
-          grouped : Reached (rowEnd s gs 0) (judgeGroups l n gs x) y o
+        module _ (y o : ℕ) (g : To y o ≡ judged (rowEnd s gs 0) (judgeGroups l size gs x)) where
+          grouped : Reached (rowEnd s gs 0) (judgeGroups l size gs x) y o
           grouped = inv-to (rowEnd s gs 0) _ y o g
 
-          pub entry-datas : (z : Refusal) → Refused z ≡ judged (datasEnd 0) (judgeDatas l n (s .datas) y)
+          pub entry-datas : (z : Refusal) → Refused z ≡ judged (datasEnd 0) (judgeDatas l size (s .datas) y)
               → judged (rowEnd s gs seen) (entriesIs k i) ≡ Refused z
           unfolding judgeBlock judged _>>=_
           entry-datas z e =
-              let r = inv-refused (datasEnd 0) (judgeDatas l n (s .datas) y) z e in
+              let r = inv-refused (datasEnd 0) (judgeDatas l size (s .datas) y) z e in
               rw (entries-step k i h, goes-on fielded, fielded .next, goes-on grouped, grouped .next, r) refl
 
-          pub entry-next : (z m : ℕ) → To z m ≡ judged (datasEnd 0) (judgeDatas l n (s .datas) y)
+          pub entry-next : (z m : ℕ) → To z m ≡ judged (datasEnd 0) (judgeDatas l size (s .datas) y)
               → judged (rowEnd s gs seen) (entriesIs k i)
               ≡ judged (rowEnd s gs (capped (capped (capped (seen + s .length) + o) + m))) (entriesIs (k - 1) z)
           unfolding judgeBlock rowLength
@@ -403,39 +403,39 @@ module _ (l : List ℕ) (n : ℕ) (s : Shape) (gs : Groups) where
 
 -- ---- groups in a row
 
-module _ (l : List ℕ) (n : ℕ) (s : Shape) (seen : ℕ) where
+module _ (l : List ℕ) (size : ℕ) (s : Shape) (seen : ℕ) where
   pub row-end : (gs : Groups) (i : ℕ) → gs ≡ none → seen ≤ limit
-      → judged (rowEnd s gs seen) (judgeGroups l n gs i) ≡ To i seen
+      → judged (rowEnd s gs seen) (judgeGroups l size gs i) ≡ To i seen
   unfolding judgeGroups rowLength
   row-end gs i e b = rw e (reached (rowEnd s none seen) (nil, i) refl (omega arith))
 
   -- gs is a group with the block b and the groups `inner`, and then `rest`.
   module _ (gs : Groups) (id since : ℕ) (b : Shape) (inner rest : Groups) (is : gs ≡ more id since b inner rest)
       (i : ℕ) where
-    pub row-other : isGroup l i ≡ false → judged (rowEnd s gs seen) (judgeGroups l n gs i) ≡ Refused (refusal 51 i)
+    pub row-other : isGroup l i ≡ false → judged (rowEnd s gs seen) (judgeGroups l size gs i) ≡ Refused (refusal 51 i)
     unfolding judgeGroups judged must _>>=_
     row-other h = rw (is, h) refl
 
     module _ (h : isGroup l i ≡ true) (k : ℕ) (e : k ≡ second l i) where
-      pub row-many : null16 ≤ k → judged (rowEnd s gs seen) (judgeGroups l n gs i) ≡ Refused (refusal 54 i)
+      pub row-many : null16 ≤ k → judged (rowEnd s gs seen) (judgeGroups l size gs i) ≡ Refused (refusal 54 i)
       unfolding judgeGroups judged must _>>=_
       row-many m = rw (is, h, le-ltb (second l i) null16 (rw e at m)) refl
 
       module _ (m : k < null16) where
-        row-step : judgeGroups l n gs i ≡ (entriesIs l n b inner k (i + 1) >>= λ r. judgeGroups l n rest (r .1)
+        row-step : judgeGroups l size gs i ≡ (entriesIs l size b inner k (i + 1) >>= λ r. judgeGroups l size rest (r .1)
             >>= λ g. done (group (Group k) (r .0) (g .0), g .1))
         unfolding judgeGroups must
         row-step =
             let q : i + 1 ≡ suc i = omega arith in
             rw (is, h, q, lt-ltb (second l i) null16 (rw e at m), bind-done, bind-done, e) refl
 
-        pub row-entries : (z : Refusal) → Refused z ≡ judged (rowEnd b inner 0) (entriesIs l n b inner k (i + 1))
-            → judged (rowEnd s gs seen) (judgeGroups l n gs i) ≡ Refused z
+        pub row-entries : (z : Refusal) → Refused z ≡ judged (rowEnd b inner 0) (entriesIs l size b inner k (i + 1))
+            → judged (rowEnd s gs seen) (judgeGroups l size gs i) ≡ Refused z
         row-entries z q = rw row-step (stops (rowEnd b inner 0) _ _ _ z q)
 
-        pub row-next : (x y : ℕ) → To x y ≡ judged (rowEnd b inner 0) (entriesIs l n b inner k (i + 1))
-            → judged (rowEnd s gs seen) (judgeGroups l n gs i)
-            ≡ judged (rowEnd s rest (capped (seen + capped (4 + y)))) (judgeGroups l n rest x)
+        pub row-next : (x y : ℕ) → To x y ≡ judged (rowEnd b inner 0) (entriesIs l size b inner k (i + 1))
+            → judged (rowEnd s gs seen) (judgeGroups l size gs i)
+            ≡ judged (rowEnd s rest (capped (seen + capped (4 + y)))) (judgeGroups l size rest x)
         unfolding rowLength
         row-next x y q =
             let r = inv-to (rowEnd b inner 0) _ x y q in
@@ -450,30 +450,30 @@ no-datas-at p zero d h = refl
 no-datas-at p (suc n) d h = absurd (omega arith)
 
 -- An entry of a block that nothing follows.
-pub plain-next : (p : List ℕ) (depth a : ℕ) (l : List ℕ) (n seen k i x u follow : ℕ) → IsBlock p a
+pub plain-next : (p : List ℕ) (depth a : ℕ) (l : List ℕ) (size seen k i x u follow : ℕ) → IsBlock p a
     → follow ≡ word p (a + 7) → follow ≡ 0 → 0 < k
-    → To x u ≡ judged fieldsEnd (judgeFields l n (shapeAt p a .fields) i)
-    → judged (rowEnd (shapeAt p a) (innerAt p depth a) seen) (entriesAt p depth a l n k i)
+    → To x u ≡ judged fieldsEnd (judgeFields l size (shapeAt p a .fields) i)
+    → judged (rowEnd (shapeAt p a) (innerAt p depth a) seen) (entriesAt p depth a l size k i)
     ≡ judged (rowEnd (shapeAt p a) (innerAt p depth a) (capped (seen + word p (a + 2))))
-    (entriesAt p depth a l n (k - 1) x)
-plain-next p depth a l n seen k i x u follow b w z h e =
-    entry-plain l n (shapeAt p a) (innerAt p depth a) seen k i h x u e
+    (entriesAt p depth a l size (k - 1) x)
+plain-next p depth a l size seen k i x u follow b w z h e =
+    entry-plain l size (shapeAt p a) (innerAt p depth a) seen k i h x u e
     (no-groups-at p depth (manyGroups p a) (groupsFrom p a) (omega (arith, b .follow, w, z)))
     (no-datas-at p (manyDatas p a) (datasFrom p a) (omega (arith, b .follow, w, z)))
 
 -- ---- a whole listing
 
-module _ (l : List ℕ) (n : ℕ) (t : Template) where
+module _ (l : List ℕ) (size : ℕ) (t : Template) where
   abbrev rootIs : Result (Values × ℕ)
-  rootIs = entriesIs l n (t .shape) (t .groups) 1 0
+  rootIs = entriesIs l size (t .shape) (t .groups) 1 0
 
   abbrev listingJudged : Judged
-  listingJudged = judged (listingEnd (t .shape) (t .groups) l) (judgeListing l n t)
+  listingJudged = judged (listingEnd (t .shape) (t .groups) l) (judgeListing l size t)
 
   -- The root is one entry.
-  root-step : judgeListing l n t ≡ (rootIs >>= λ r. must (eqb (3 * r .1) (length l)) 51 (r .1) >>= λ _. done (r .0))
+  root-step : judgeListing l size t ≡ (rootIs >>= λ r. must (eqb (3 * r .1) (length l)) 51 (r .1) >>= λ _. done (r .0))
   unfolding judgeListing judgeEntries _>>=_
-  root-step = sym (bind-assoc (judgeBlock l n (t .shape) (judgeGroups l n (t .groups)) 0) _ _)
+  root-step = sym (bind-assoc (judgeBlock l size (t .shape) (judgeGroups l size (t .groups)) 0) _ _)
 
   pub listing-refused : (z : Refusal) → Refused z ≡ judged (rowEnd (t .shape) (t .groups) 0) rootIs
       → listingJudged ≡ Refused z

@@ -25,9 +25,10 @@ limit = 65536
 abbrev pub capped : ℕ → ℕ
 capped n = min n limit
 
--- k entries of the block at a, `depth` more levels being left: l is the listing, n the pool's length.
+-- k entries of the block at a, `depth` more levels being left: l is the listing, `size` the pool's length.
 abbrev pub entriesAt : List ℕ → ℕ → ℕ → List ℕ → ℕ → ℕ → ℕ → Result (Values × ℕ)
-entriesAt p depth a l n k i = judgeEntries l n k (judgeBlock l n (shapeAt p a) (judgeGroups l n (innerAt p depth a))) i
+entriesAt p depth a l size k i =
+    judgeEntries l size k (judgeBlock l size (shapeAt p a) (judgeGroups l size (innerAt p depth a))) i
 
 -- ---- where each ends and how many octets it has, `seen` having been counted before
 

@@ -43,9 +43,9 @@ fn plus(length: usize, n: usize) -> usize
     length + n
 }
 
-// Octets of a pool of n: the length is theirs.
-fn judge_octets(listing: &[u64], n: usize, i: usize) -> Judged
-    ensures { λ r. ⌜ r ≡ judged (octetsEnd i) (judgeOctets (now (listing .entry)) n true i) ⌝ }
+// Octets of a pool with `size` octets: the length is theirs.
+fn judge_octets(listing: &[u64], size: usize, i: usize) -> Judged
+    ensures { λ r. ⌜ r ≡ judged (octetsEnd i) (judgeOctets (now (listing .entry)) size true i) ⌝ }
 {
     if listing.len() / 3 <= i {
         return refuse(51, i);
@@ -55,7 +55,7 @@ fn judge_octets(listing: &[u64], n: usize, i: usize) -> Judged
     }
     let start = listing[3 * i + 1];
     let len = listing[3 * i + 2];
-    let end = n as u64;
+    let end = size as u64;
     if end < start {
         return refuse(53, i);
     }
@@ -117,14 +117,14 @@ fn judge_number(p: &[u64], f: usize, t: usize, listing: &[u64], i: usize) -> Jud
 }
 
 // The field at f, whose table is at t. Its octets are the block's.
-fn judge_field(p: &[u64], f: usize, t: usize, listing: &[u64], n: usize, i: usize) -> Judged
+fn judge_field(p: &[u64], f: usize, t: usize, listing: &[u64], size: usize, i: usize) -> Judged
     requires { ⌜ IsField (now p) f t ⌝ }
-    ensures { λ r. ⌜ r ≡ judged (fieldEnd i) (judgeField (now (listing .entry)) n (fieldAt (now (p .entry)) f)
+    ensures { λ r. ⌜ r ≡ judged (fieldEnd i) (judgeField (now (listing .entry)) size (fieldAt (now (p .entry)) f)
         i) ⌝ }
 {
     let len = number(p, f + 2);
     if 1 < len {
-        let octets = judge_octets(listing, n, i);
+        let octets = judge_octets(listing, size, i);
         let Judged::To { next, length } = octets else {
             return octets;
         };
@@ -137,9 +137,9 @@ fn judge_field(p: &[u64], f: usize, t: usize, listing: &[u64], n: usize, i: usiz
 }
 
 // The fields of the block at a.
-fn judge_fields(p: &[u64], a: usize, listing: &[u64], n: usize, start: usize) -> Judged
+fn judge_fields(p: &[u64], a: usize, listing: &[u64], size: usize, start: usize) -> Judged
     requires { ⌜ IsBlock (now p) a ⌝ }
-    ensures { λ r. ⌜ r ≡ judged fieldsEnd (judgeFields (now (listing .entry)) n (shapeAt (now (p .entry)) a .fields)
+    ensures { λ r. ⌜ r ≡ judged fieldsEnd (judgeFields (now (listing .entry)) size (shapeAt (now (p .entry)) a .fields)
         start) ⌝ }
 {
     let mut left = number(p, a + 3);
@@ -147,7 +147,7 @@ fn judge_fields(p: &[u64], a: usize, listing: &[u64], n: usize, start: usize) ->
     let mut t = number(p, a + 11);
     let mut i = start;
     while 0 < left {
-        let field = judge_field(p, f, t, listing, n, i);
+        let field = judge_field(p, f, t, listing, size, i);
         let Judged::To { next, .. } = field else {
             return field;
         };
@@ -160,16 +160,16 @@ fn judge_fields(p: &[u64], a: usize, listing: &[u64], n: usize, start: usize) ->
 }
 
 // As many data as the block at a has.
-fn judge_datas(p: &[u64], a: usize, listing: &[u64], n: usize, start: usize) -> Judged
+fn judge_datas(p: &[u64], a: usize, listing: &[u64], size: usize, start: usize) -> Judged
     requires { ⌜ IsBlock (now p) a ⌝ }
-    ensures { λ r. ⌜ r ≡ judged (datasEnd 0) (judgeDatas (now (listing .entry)) n (shapeAt (now (p .entry)) a .datas)
+    ensures { λ r. ⌜ r ≡ judged (datasEnd 0) (judgeDatas (now (listing .entry)) size (shapeAt (now (p .entry)) a .datas)
         start) ⌝ }
 {
     let mut left = number(p, a + 5);
     let mut i = start;
     let mut seen = 0;
     while 0 < left {
-        let data = judge_octets(listing, n, i);
+        let data = judge_octets(listing, size, i);
         let Judged::To { next, length } = data else {
             return data;
         };
@@ -213,13 +213,13 @@ fn judge_entries(
     a: usize,
     depth: usize,
     listing: &&[u64],
-    n: usize,
+    size: usize,
     k: u64,
     start: usize,
 ) -> Judged
     requires { ⌜ BlockAt (now (now p)) depth a ⌝ }
     ensures { λ r. ⌜ r ≡ judged (rowEnd (shapeAt (now (now (p .entry))) a) (innerAt (now (now (p .entry))) depth a) 0)
-        (entriesAt (now (now (p .entry))) depth a (now (now (listing .entry))) n k start) ⌝ }
+        (entriesAt (now (now (p .entry))) depth a (now (now (listing .entry))) size k start) ⌝ }
 {
     let s = *p;
     let t = *listing;
@@ -228,7 +228,7 @@ fn judge_entries(
     let mut seen = 0;
     while 0 < due {
         due = due - 1;
-        let fields = judge_fields(s, a, t, n, i);
+        let fields = judge_fields(s, a, t, size, i);
         let Judged::To { next, .. } = fields else {
             return fields;
         };
@@ -237,12 +237,12 @@ fn judge_entries(
             i = next;
             continue;
         }
-        let row = judge_row(p, a, depth, listing, n, next);
+        let row = judge_row(p, a, depth, listing, size, next);
         let Judged::To { next: on, length } = row else {
             return row;
         };
         seen = plus(seen, length);
-        let datas = judge_datas(s, a, t, n, on);
+        let datas = judge_datas(s, a, t, size, on);
         let Judged::To {
             next: end,
             length: more,
@@ -260,10 +260,17 @@ fn judge_entries(
 }
 
 // The groups of the block at a, `depth` more levels being left: of each its dimension and its entries.
-fn judge_row(p: &&[u64], a: usize, depth: usize, listing: &&[u64], n: usize, start: usize) -> Judged
+fn judge_row(
+    p: &&[u64],
+    a: usize,
+    depth: usize,
+    listing: &&[u64],
+    size: usize,
+    start: usize,
+) -> Judged
     requires { ⌜ BlockAt (now (now p)) depth a ⌝ }
     ensures { λ r. ⌜ r ≡ judged (rowEnd (shapeAt (now (now (p .entry))) a) (innerAt (now (now (p .entry))) depth a) 0)
-        (judgeGroups (now (now (listing .entry))) n (innerAt (now (now (p .entry))) depth a) start) ⌝ }
+        (judgeGroups (now (now (listing .entry))) size (innerAt (now (now (p .entry))) depth a) start) ⌝ }
 {
     let s = *p;
     let t = *listing;
@@ -281,7 +288,7 @@ fn judge_row(p: &&[u64], a: usize, depth: usize, listing: &&[u64], n: usize, sta
         if 65535 <= k {
             return refuse(54, i);
         }
-        let entries = judge_entries(p, g, depth - 1, listing, n, k, i + 1);
+        let entries = judge_entries(p, g, depth - 1, listing, size, k, i + 1);
         let Judged::To { next, length } = entries else {
             return entries;
         };
@@ -296,14 +303,14 @@ fn judge_row(p: &&[u64], a: usize, depth: usize, listing: &&[u64], n: usize, sta
 }
 
 // A whole listing by the template whose block stands at a: the octets of the message without its header.
-pub fn judge_listing(p: &&[u64], a: usize, listing: &&[u64], n: usize) -> Judged
+pub fn judge_listing(p: &&[u64], a: usize, listing: &&[u64], size: usize) -> Judged
     requires { ⌜ BlockAt (now (now p)) 4 a ⌝ }
     ensures { λ r. ⌜ r ≡ judged (listingEnd (shapeAt (now (now (p .entry))) a) (innerAt (now (now (p .entry))) 4 a)
-        (now (now (listing .entry)))) (judgeListing (now (now (listing .entry))) n (templateAt (now (now (p .entry)))
+        (now (now (listing .entry)))) (judgeListing (now (now (listing .entry))) size (templateAt (now (now (p .entry)))
         a)) ⌝ }
 {
     let t = *listing;
-    let root = judge_entries(p, a, 4, listing, n, 1, 0);
+    let root = judge_entries(p, a, 4, listing, size, 1, 0);
     let Judged::To { next, .. } = root else {
         return root;
     };

@@ -47,15 +47,15 @@ module _ (l : List ℕ) where
       let k = typeAt (f .type) in
       if eqb (first i) 1 then isOptional f else inRange k (second i) and not (eqb (second i) (k .null))
 
--- ---- 51 to 54, in the listing's order, for a pool of n octets
+-- ---- 51 to 54, in the listing's order, `size` being the pool's length
 
-module _ (l : List ℕ) (n : ℕ) where
+module _ (l : List ℕ) (size : ℕ) where
   -- "53: start plus length past the pool's end, length not the field's, or data over 65,534": octets, whose length
   -- `fits`.
   unfoldable pub judgeOctets : Bool → ℕ → Result Answer
   judgeOctets fits i = do
     _ ← must (isOctets l i) 51 i
-    _ ← must (leb (second l i + third l i) n and fits) 53 i
+    _ ← must (leb (second l i + third l i) size and fits) 53 i
     done (Octets (second l i) (third l i))
 
   unfoldable pub judgeNumber : Field → ℕ → Result Answer

@@ -37,27 +37,27 @@ abbrev row-μ : Measures 4 row-kinds.ps ℕ
 row-μ κs a = 2 * a .1 .1 .0
 
 abbrev entries-Inv : entries-lts.InvT-loop
-entries-Inv p a depth listing n k start s t due₀ i₀ seen₀ due i seen =
+entries-Inv p a depth listing size k start s t due₀ i₀ seen₀ due i seen =
     let b = shapeAt (p .now) a in
     let gs = innerAt (p .now) depth a in
     BlockAt (p .now) depth a × (seen ≤ limit)
-    × (judged (rowEnd b gs 0) (entriesAt (p .now) depth a (listing .now) n k start)
-    ≡ judged (rowEnd b gs seen) (entriesAt (p .now) depth a (listing .now) n due i))
+    × (judged (rowEnd b gs 0) (entriesAt (p .now) depth a (listing .now) size k start)
+    ≡ judged (rowEnd b gs seen) (entriesAt (p .now) depth a (listing .now) size due i))
 
 abbrev entries-μ-loop : entries-lts.MeasureT-loop
-entries-μ-loop p a depth listing n k start s t due₀ i₀ seen₀ due i seen = due
+entries-μ-loop p a depth listing size k start s t due₀ i₀ seen₀ due i seen = due
 
 abbrev row-Inv : row-lts.InvT-loop
-row-Inv p a depth listing n start s t g₀ left₀ i₀ seen₀ g left i seen =
+row-Inv p a depth listing size start s t g₀ left₀ i₀ seen₀ g left i seen =
     let b = shapeAt (p .now) a in
     let gs = innerAt (p .now) depth a in
     let rest = groupsAt (p .now) depth left g in
     IsRow (p .now) depth left g × (seen ≤ limit)
-    × (judged (rowEnd b gs 0) (judgeGroups (listing .now) n gs start)
-    ≡ judged (rowEnd b rest seen) (judgeGroups (listing .now) n rest i))
+    × (judged (rowEnd b gs 0) (judgeGroups (listing .now) size gs start)
+    ≡ judged (rowEnd b rest seen) (judgeGroups (listing .now) size rest i))
 
 abbrev row-μ-loop : row-lts.MeasureT-loop
-row-μ-loop p a depth listing n start s t g₀ left₀ i₀ seen₀ g left i seen = left
+row-μ-loop p a depth listing size start s t g₀ left₀ i₀ seen₀ g left i seen = left
 
 module _ (t : ℕ) where
   abbrev entries-at : In 4 entries-kinds.ps

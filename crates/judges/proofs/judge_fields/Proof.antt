@@ -12,14 +12,14 @@ use Rattle.judges.proofs.judge_fields.Statement.{statement}
 use Rattle.judges.proofs.judge_fields.Tie as tie
 
 abbrev Inv-loop : tie.InvT-loop
-Inv-loop p a listing n start left₀ f₀ t₀ i₀ left f t i =
+Inv-loop p a listing size start left₀ f₀ t₀ i₀ left f t i =
     IsBlock p a × (left ≤ manyFields p a) × (f + 6 * left ≡ fieldsFrom p a + 6 * manyFields p a)
     × (t + 5 * left ≡ tableFrom p a + 5 * manyFields p a)
-    × (judged fieldsEnd (judgeFields listing n (shapeAt p a .fields) start)
-    ≡ judged fieldsEnd (judgeFields listing n (parseFields p left f) i))
+    × (judged fieldsEnd (judgeFields listing size (shapeAt p a .fields) start)
+    ≡ judged fieldsEnd (judgeFields listing size (parseFields p left f) i))
 
 abbrev μ-loop : tie.MeasureT-loop
-μ-loop p a listing n start left₀ f₀ t₀ i₀ left f t i = left
+μ-loop p a listing size start left₀ f₀ t₀ i₀ left f t i = left
 
 loop-holds : tie.Need-loop-holds Inv-loop μ-loop
 loop-holds c =
