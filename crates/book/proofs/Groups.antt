@@ -13,7 +13,7 @@ use Rattle.layout.specs.BookRules.{groupsGood, groupsSince, parseGroups, parseS
 use Rattle.book.specs.Answers.{allRules, blockOf, groupRules, groupsRules, rowOf, rulesAre, shapeRules}
 use Rattle.book.proofs.Blocks.{block-short}
 use Rattle.book.proofs.RuleLaws.{and-assoc, and-true, rules-assoc, rules-start}
-use Rattle.layout.proofs.Results.{bind-done, done-inj, inv-bind, inv-must}
+use Rattle.layout.proofs.Results.{bind-done, done-inj, inv-bind, inv-both, inv-must}
 use Rattle.book.specs.declared.Rules.{Rules}
 use Rattle.book.specs.declared.Row.{Row}
 use Rattle.book.specs.declared.Row.the-variants as Row
@@ -103,12 +103,11 @@ groups-within b (suc depth) zero w r e h = subst (λ (x : Groups × ℕ). x .1 �
 groups-within b zero (suc n) w r e h = absurd (let z : _≡_ {A = ℕ} 0 1 = cc in omega arith)
 groups-within b (suc depth) (suc n) w r e h =
     let p = inv-bind _ _ _ e in
-    let q = inv-bind _ _ _ (p .next) in
-    let k = inv-bind _ _ _ (q .next) in
+    let q = inv-both _ _ _ _ (p .next) in
     let y = groups-within b depth (p .value .1) (p .value .2) (q .value) (q .first)
     (shape-within b 1 (w + 2) (p .value) (p .first)) in
-    subst (λ (x : Groups × ℕ). x .1 ≤ length b) (done-inj (k .next))
-    (groups-within b (suc depth) n (q .value .1) (k .value) (k .first) y)
+    subst (λ (x : Groups × ℕ). x .1 ≤ length b) (q .is)
+    (groups-within b (suc depth) n (q .value .1) (q .other) (q .second) y)
 
 pub block-within : (b : List ℕ) (few w version low high g x : ℕ) (q : Rules)
     → Block.Whole g x q ≡ blockOf version low high (parseShape b few w)

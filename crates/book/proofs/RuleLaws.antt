@@ -14,7 +14,7 @@ use Rattle.layout.specs.BookRules.{contentsGood, fieldAt, fieldsGood, fieldsSin
 use Rattle.layout.specs.BookRules.{parseDatas, parseFields, rising, word}
 use Rattle.book.specs.Answers.{BookHead, allRules, fieldOf, fieldsRules, rulesAre}
 use Rattle.book.proofs.Words.{length-words}
-use Rattle.layout.proofs.Results.{and-left, and-right}
+use Rattle.layout.proofs.Results.{and-left, and-right, none-left, one-less, some-left}
 use Rattle.book.specs.declared.Rules.{Rules}
 
 pub and-assoc : (a b c : Bool) → ((a and b) and c) ≡ (a and (b and c))
@@ -47,8 +47,7 @@ fields-rules version low high l e f fs =
 
 fields-step : (b : List ℕ) (n w : ℕ) → 0 < n → parseFields b n w ≡ fieldAt b w ∷ parseFields b (n - 1) (w + 6)
 unfolding parseFields
-fields-step b zero w h = absurd (omega arith)
-fields-step b (suc n) w h = let q : suc n - 1 ≡ n = omega arith in rw q refl
+fields-step b n w h = rw (some-left h, one-less) refl
 
 -- A field more: `so-far` are the rules of the fields before it.
 pub fields-more : (b : List ℕ) (version low high l e n w : ℕ) (so-far : Rules) → 0 < n → let f = fieldAt b w in
@@ -71,16 +70,15 @@ and-true false = refl
 pub fields-end : (b : List ℕ) (version low high l e n w : ℕ) (so-far : Rules) → n ≤ 0
     → allRules so-far (fieldsRules version low high l e (parseFields b n w)) ≡ so-far
 unfolding parseFields fieldsGood fieldsSince allRules
-fields-end b version low high l e zero w so-far h = rw (and-true (so-far .layout), and-true (so-far .since)) refl
-fields-end b version low high l e (suc n) w so-far h = absurd (omega arith)
+fields-end b version low high l e n w so-far h =
+    rw (none-left h, and-true (so-far .layout), and-true (so-far .since)) refl
 
 -- ---- data
 
 pub datas-step : (b : List ℕ) (n w : ℕ) → 0 < n
     → dataSinces (parseDatas b n w) ≡ word b (w + 1) ∷ dataSinces (parseDatas b (n - 1) (w + 2))
 unfolding parseDatas
-datas-step b zero w h = absurd (omega arith)
-datas-step b (suc n) w h = let q : suc n - 1 ≡ n = omega arith in rw q refl
+datas-step b n w h = rw (some-left h, one-less) refl
 
 module _ (b : List ℕ) (high low n w : ℕ) (h : 0 < n) where
   abbrev since : ℕ
@@ -97,8 +95,7 @@ module _ (b : List ℕ) (high low n w : ℕ) (h : 0 < n) where
 
 pub datas-end : (b : List ℕ) (high low n w : ℕ) → n ≤ 0 → rising high low (dataSinces (parseDatas b n w)) ≡ true
 unfolding rising parseDatas
-datas-end b high low zero w h = refl
-datas-end b high low (suc n) w h = absurd (omega arith)
+datas-end b high low n w h = rw (none-left h) refl
 
 -- ---- rows of the contents
 
@@ -106,8 +103,7 @@ pub contents-step : (b : List ℕ) (n w : ℕ) → 0 < n
     → parseContents b n w ≡ record { id = word b w; first = word b (w + 1); words = word b (w + 2) }
     ∷ parseContents b (n - 1) (w + 3)
 unfolding parseContents
-contents-step b zero w h = absurd (omega arith)
-contents-step b (suc n) w h = let q : suc n - 1 ≡ n = omega arith in rw q refl
+contents-step b n w h = rw (some-left h, one-less) refl
 
 module _ (b : List ℕ) (total low at n w : ℕ) (h : 0 < n) where
   abbrev rowGood : Bool
@@ -132,8 +128,7 @@ module _ (b : List ℕ) (total low at n w : ℕ) (h : 0 < n) where
 pub contents-end : (b : List ℕ) (total low at n w : ℕ) → n ≤ 0
     → contentsGood total low at (parseContents b n w) ≡ eqb at total
 unfolding contentsGood parseContents
-contents-end b total low at zero w h = refl
-contents-end b total low at (suc n) w h = absurd (omega arith)
+contents-end b total low at n w h = rw (none-left h) refl
 
 -- What a good head says of the contents: they are few, and lie in the book.
 pub record Head (s : List ℕ) : Type 0 where

@@ -19,7 +19,8 @@ use Rattle.demands.proofs.Kept.{kept}
 use Rattle.demands.proofs.Needs.{need-adds}
 use Rattle.demands.proofs.Sees.{AtLeast, Sees, seen-done, sees-after, sees-bind, sees-change, sees-done}
 use Rattle.demands.proofs.Sees.{sees-leb, sees-pick, sees-same, sees-unless}
-use Rattle.layout.proofs.Results.{and-left, and-right, bind-assoc, bind-done, done-inj, inv-bind, inv-must}
+use Rattle.layout.proofs.Results.{and-left, and-right, bind-assoc, bind-done, done-inj, inv-bind, inv-both, inv-must}
+use Rattle.layout.proofs.Results.{each-way}
 use Rattle.layout.specs.declared.Answer.{Answer}
 use Rattle.layout.specs.declared.Answer.the-variants.{Absent, Group}
 
@@ -75,22 +76,15 @@ module _ (m : List ℕ) (v : ℕ) (strict : Bool) where
       let q : n ≡ n′ = omega arith in
       rw q (sees-bind strict (λ (x : ℕ). x) (keptDatas []) _ _ _ _ (sees-same strict _) λ x. sees-done strict _
       ([], x) _ refl)
-  sees-added (d ∷ ds) n n′ at e = go (leb (d .since) v) e (λ k x q. sees-added ds k n′ x q)
-    where
-      go : (t : Bool) → n ≡ n′ + ((if t then 1 else 0) + present v (dataSinces ds))
-          → ((k x : ℕ) → k ≡ n′ + present v (dataSinces ds)
-          → Sees strict (keptDatas []) (readDatas m v [] k x) (readDatas m v ds n′ x))
-          → Sees strict (keptDatas []) (readDatas m v [] n at)
-          ((if t then readData m at else done (Absent, at)) >>= λ x. readDatas m v ds n′ (x .1)
-          >>= λ r. done (x .0 ∷ r .0, r .1))
-      go true e ih =
-          let q : n ≡ suc (n′ + present v (dataSinces ds)) = omega arith in
-          rw (q, bind-assoc)
-          (sees-bind strict (λ (x : Answer × ℕ). x) (keptDatas []) _ _ _ _ (sees-same strict _) λ x.
-          sees-after strict (keptDatas []) (keptDatas []) _ _ _
-          (ih (n′ + present v (dataSinces ds)) (x .1) refl) λ r. refl)
-      go false e ih =
-          rw bind-done (sees-after strict (keptDatas []) (keptDatas []) _ _ _ (ih n at (omega arith)) λ r. refl)
+  sees-added (d ∷ ds) n n′ at e =
+      let rest = n′ + present v (dataSinces ds) in
+      each-way (leb (d .since) v)
+      (λ t. let q : n ≡ suc rest = omega (arith, rw t at e) in
+      rw (t, q, bind-assoc)
+      (sees-bind strict (λ (x : Answer × ℕ). x) (keptDatas []) _ _ _ _ (sees-same strict _) λ x.
+      sees-after strict (keptDatas []) (keptDatas []) _ _ _ (sees-added ds rest n′ (x .1) refl) λ r. refl))
+      (λ t. let q : n ≡ rest = omega (arith, rw t at e) in
+      rw (t, bind-done) (sees-after strict (keptDatas []) (keptDatas []) _ _ _ (sees-added ds n n′ at q) λ r. refl))
 
   sees-datas : (old added : List Data) (n n′ at : ℕ) → n ≡ n′ + present v (dataSinces added)
       → Sees strict (keptDatas old) (readDatas m v old n at) (readDatas m v (old ++ added) n′ at)
@@ -159,14 +153,13 @@ module _ (m : List ℕ) (v : ℕ) (strict : Bool) where
         let q : a ≡ r .1 = ap (λ (x : Values × ℕ). x .1) (done-inj e) in
         (omega arith, omega arith)
     entries-flat s (suc k) l a r d h e =
-        let i = inv-bind _ _ _ e in
-        let j = inv-bind _ _ _ (i .next) in
+        let i = inv-both _ _ _ _ e in
         let b = inv-bind _ _ _ (sym (flat s l a d) ∙ i .first) in
         let fits : a + l ≤ length m = leb-true (a + l) (length m) (inv-must _ _ _ _ (b .first)) in
         let next : a + l ≡ i .value .3 = ap (λ (x : Entry). x .3)
         (done-inj (b .next)) in
-        let last : j .value .1 ≡ r .1 = ap (λ (x : Values × ℕ). x .1) (done-inj (j .next)) in
-        let ih = entries-flat s k l (i .value .3) (j .value) d (omega arith) (j .first) in
+        let last : i .other .1 ≡ r .1 = ap (λ (x : Values × ℕ). x .1) (i .is) in
+        let ih = entries-flat s k l (i .value .3) (i .other) d (omega arith) (i .second) in
         (omega arith, omega arith)
 
     surplus-next : (n at b : ℕ) (d : ℕ × ℕ) → readDimension m b at ≡ done d → at + 4 + d .0 * d .1 ≤ length m
@@ -185,15 +178,13 @@ module _ (m : List ℕ) (v : ℕ) (strict : Bool) where
         → readGroups m v none (suc n) at ≡ done (keptNone a)
     unfolding readGroup
     added-next i since s inner rest n n′ at h ih a e =
-        let p = inv-bind _ _ _ (rw (h .noGroups) at e) in
-        let q = inv-bind _ _ _ (p .next) in
-        let d = inv-bind _ _ _ (p .first) in
-        let c = inv-bind _ _ _ (d .next) in
-        let w = entries-flat s (d .value .1) (d .value .0) (at + 4) (c .value) (h .noDatas)
-        (dimension-fits m v _ at _ (d .first)) (c .first) in
-        let next : c .value .1 ≡ p .value .2 = ap (λ (x : Answer × Values × ℕ). x .2) (done-inj (c .next)) in
-        let last : q .value .1 ≡ a .1 = ap (λ (x : Values × ℕ). x .1) (done-inj (q .next)) in
-        let o = seen-done strict keptNone _ _ (q .value) (ih (p .value .2)) (q .first) in
+        let p = inv-both _ _ _ _ (rw (h .noGroups) at e) in
+        let d = inv-both _ _ _ _ (p .first) in
+        let w = entries-flat s (d .value .1) (d .value .0) (at + 4) (d .other) (h .noDatas)
+        (dimension-fits m v _ at _ (d .first)) (d .second) in
+        let next : d .other .1 ≡ p .value .2 = ap (λ (x : Answer × Values × ℕ). x .2) (d .is) in
+        let last : p .other .1 ≡ a .1 = ap (λ (x : Values × ℕ). x .1) (p .is) in
+        let o = seen-done strict keptNone _ _ (p .other) (ih (p .value .2)) (p .second) in
         rw (surplus-next n at _ (d .value) (d .first) (omega (arith, w .0, w .1)), ← (w .0), next, o, last) refl
 
     sees-added-groups : (new : Groups) (n n′ at : ℕ) → AddedGroups limit new → (strict ≡ true → v ≤ limit)
@@ -205,20 +196,15 @@ module _ (m : List ℕ) (v : ℕ) (strict : Bool) where
         rw q (sees-bind strict (λ (y : ℕ). y) keptNone _ _ _ _ (sees-same strict _) λ y. sees-done strict _
         (nil, y) _ refl)
     sees-added-groups (more i since s inner rest) n n′ at x h e =
-        go (leb since v) refl e (λ k y q. sees-added-groups rest k n′ y (x .1) h q)
-      where
-        go : (t : Bool) → leb since v ≡ t → n ≡ n′ + ((if t then 1 else 0) + present v (groupSinces rest))
-            → ((k y : ℕ) → k ≡ n′ + present v (groupSinces rest)
-            → Sees strict keptNone (readGroups m v none k y) (readGroups m v rest n′ y))
-            → Sees strict keptNone (readGroups m v none n at)
-            ((if t then readGroup m v s (readGroups m v inner 0) at else done (Absent, nil, at))
-            >>= λ g. readGroups m v rest n′ (g .2) >>= λ r. done (group (g .0) (g .1) (r .0), r .1))
-        go true q e ih =
-            let j : n ≡ suc (n′ + present v (groupSinces rest)) = omega arith in
-            rw j (sees-unless strict keptNone _ _ (λ z. omega (arith, h z, x .0 .young, leb-true since v q))
-            (added-next i since s inner rest (n′ + present v (groupSinces rest)) n′ at (x .0)
-            (λ y. ih (n′ + present v (groupSinces rest)) y refl)))
-        go false q e ih = rw bind-done (sees-after strict keptNone keptNone _ _ _ (ih n at (omega arith)) λ r. refl)
+        let left = n′ + present v (groupSinces rest) in
+        each-way (leb since v)
+        (λ t. let q : n ≡ suc left = omega (arith, rw t at e) in
+        rw (t, q) (sees-unless strict keptNone _ _ (λ z. omega (arith, h z, x .0 .young, leb-true since v t))
+        (added-next i since s inner rest left n′ at (x .0)
+        (λ y. sees-added-groups rest left n′ y (x .1) h refl))))
+        (λ t. let q : n ≡ left = omega (arith, rw t at e) in
+        rw (t, bind-done)
+        (sees-after strict keptNone keptNone _ _ _ (sees-added-groups rest n n′ at (x .1) h q) λ r. refl))
 
     -- A row of groups holds no entries.
     added-kept : (s : Shape) (new : Groups) (n at : ℕ) (r : Values × ℕ) → readGroups m v new n at ≡ done r
@@ -229,9 +215,8 @@ module _ (m : List ℕ) (v : ℕ) (strict : Bool) where
         let q : (nil, i .value) ≡ r = done-inj (i .next) in
         rw (← q) refl
     added-kept s (more i since sh inner rest) n at r e =
-        let p = inv-bind _ _ _ e in
-        let j = inv-bind _ _ _ (p .next) in
-        let q : (group (p .value .0) (p .value .1) (j .value .0), j .value .1) ≡ r = done-inj (j .next) in
+        let p = inv-both _ _ _ _ e in
+        let q : (group (p .value .0) (p .value .1) (p .other .0), p .other .1) ≡ r = p .is in
         rw (← q) refl
 
     all-added : (root : Bool) (new : Groups) → AddsGroups limit root new → AddedGroups limit new

@@ -34,7 +34,7 @@ use Rattle.demands.proofs.Theorems.{written-length, written-reads-back}
 use Rattle.demands.proofs.TwoBooks.{same-answer}
 use Rattle.demands.proofs.Written.{lists-within, written-by}
 use Rattle.layout.proofs.Records.{listing-three}
-use Rattle.layout.proofs.Results.{and-left, and-right, done-inj, inv-bind}
+use Rattle.layout.proofs.Results.{and-left, and-right, done-inj, each-way, inv-bind}
 use Rattle.layout.specs.declared.Answer.{Answer}
 use Rattle.layout.specs.declared.Checked.{Checked}
 use Rattle.layout.specs.declared.Checked.the-variants as Checked
@@ -370,18 +370,13 @@ module _
       → ¬ (r ≡ Found.Refused (refusal 30 0))
       → r ≡ r′
   both-calls-answer-alike-but-for-30 a steps x r r′ c c′ has =
-      go (wholeSteps steps and leb (length (stepsOf steps)) 4 and has-it) refl
-    where
-      has-it : Bool
-      has-it = hasPlace (stepsOf steps) x (t .shape) (t .groups)
-
-      go : (b : Bool) → (wholeSteps steps and leb (length (stepsOf steps)) 4 and has-it) ≡ b → r ≡ r′
-      go true e = both-calls-answer-alike a steps x (and-right _ _ (and-right _ _ e)) r r′ c c′
-      go false e =
-          let q = accepted-is-read older m (sym (older-call-accepts a _ refl)) in
-          let is : q .1 .by ≡ old = done-inj (sym (q .1 .accepted) ∙ isOlder) in
-          let reads = rw is at (q .1 .reads) in
-          absurd (has (place-is-unknown older m old t (q .0) isOlder inBoth reads steps x r c e))
+      let there = hasPlace (stepsOf steps) x (t .shape) (t .groups) in
+      each-way (wholeSteps steps and leb (length (stepsOf steps)) 4 and there)
+      (λ e. both-calls-answer-alike a steps x (and-right _ _ (and-right _ _ e)) r r′ c c′)
+      (λ e. let q = accepted-is-read older m (sym (older-call-accepts a _ refl)) in
+      let is : q .1 .by ≡ old = done-inj (sym (q .1 .accepted) ∙ isOlder) in
+      let reads = rw is at (q .1 .reads) in
+      absurd (has (place-is-unknown older m old t (q .0) isOlder inBoth reads steps x r c e)))
 
   -- "if the message's version is no later than the older book's, both accept or both refuse, with the same number and
   -- place"

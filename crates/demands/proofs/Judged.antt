@@ -26,7 +26,7 @@ use Rattle.demands.proofs.Reread.{no-datas, no-groups}
 use Rattle.layout.proofs.Fields.{field-good, size-array}
 use Rattle.layout.proofs.Present.{GoodGroups, GoodShape, UpTo}
 use Rattle.layout.proofs.Records.{record-three}
-use Rattle.layout.proofs.Results.{and-left, done-inj, inv-bind, inv-must}
+use Rattle.layout.proofs.Results.{and-left, done-inj, each-way, inv-bind, inv-both, inv-must}
 use Rattle.layout.proofs.Stands.{Stands, all-stands, split-to, three-stand}
 use Rattle.layout.proofs.TypeLaws.{inside-not-null}
 use Rattle.layout.specs.declared.Answer.{Answer}
@@ -81,18 +81,12 @@ module _ (l m : List ℕ) (v : ℕ) where
   class-judged : (f : Field) (i x to : ℕ) → let a = classify (typeAt (f .type)) (isOptional f) x in
       InRange a → Stands l (3 * i) (recordOf a) to → judgeNumber l (length m) f i ≡ done a
   unfolding classify if_then_else_ InRange
-  class-judged f i x to ranges s = go (isOptional f and eqb x (k .null)) refl (inRange k x) refl ranges s
-    where
-      k : TypeRow
-      k = typeAt (f .type)
-
-      go : (b : Bool) → (isOptional f and eqb x (k .null)) ≡ b → (c : Bool) → inRange k x ≡ c
-          → InRange (if b then Null else if c then Number x else OutOfRange x)
-          → Stands l (3 * i) (recordOf (if b then Null else if c then Number x else OutOfRange x)) to
-          → judgeNumber l (length m) f i ≡ done (if b then Null else if c then Number x else OutOfRange x)
-      go true e c o ranges s = null-judged f i to (and-left _ _ e) s
-      go false e true o ranges s = number-judged f i x to o (inside-not-null (f .type) x o) s
-      go false e false o ranges s = absurd ranges
+  class-judged f i x to ranges s =
+      each-way (isOptional f and eqb x (typeAt (f .type) .null))
+      (λ e. rw e (null-judged f i to (and-left _ _ e) (rw e at s)))
+      (λ e. each-way (inRange (typeAt (f .type)) x)
+      (λ o. rw (e, o) (number-judged f i x to o (inside-not-null (f .type) x o) (rw (e, o) at s)))
+      (λ o. absurd (rw (e, o) at ranges)))
 
   field-judged : (f : Field) (i at to : ℕ) → lengthGood f ≡ true → f .since ≤ v → at + end f ≤ length m
       → InRange (readField m v at f)
@@ -100,22 +94,12 @@ module _ (l m : List ℕ) (v : ℕ) where
   unfolding readField if_then_else_
   field-judged f i at to g u h ranges s =
       let q = le-leb (f .since) v u in
-      rw q (go (isArray f) refl (rw q at ranges) (rw q at s))
-    where
-      k : TypeRow
-      k = typeAt (f .type)
-
-      a : Bool → Answer
-      a y = if y then Octets (at + f .offset) (f .length) else classify k (isOptional f)
-          (valueOf k (numberAt (k .width) m (at + f .offset)))
-
-      go : (y : Bool) → isArray f ≡ y → InRange (a y) → Stands l (3 * i) (recordOf (a y)) to
-          → (if y then judgeOctets l (length m) (eqb (third l i) (f .length)) i else judgeNumber l (length m) f i)
-          ≡ done (a y)
-      go true y ranges s =
-          let r = record-is i 2 (at + f .offset) (f .length) to (unfold recordOf in s) in
-          octets-judged _ i (at + f .offset) (f .length) to (eq-eqb _ _ (r .is₃)) (omega (arith, size-array f g y)) s
-      go false y ranges s = class-judged f i _ to ranges s
+      each-way (isArray f)
+      (λ y. let z = rw (q, y) at s in
+      let r = record-is i 2 (at + f .offset) (f .length) to (unfold recordOf in z) in
+      rw (q, y) (octets-judged _ i (at + f .offset) (f .length) to (eq-eqb _ _ (r .is₃))
+      (omega (arith, size-array f g y)) z))
+      (λ y. rw (q, y) (class-judged f i _ to (rw (q, y) at ranges) (rw (q, y) at s)))
 
   fields-next : (f : Field) (fs : List Field) (i j : ℕ) (a : Answer) (r : List Answer)
       → judgeField l (length m) f i ≡ done a
@@ -221,16 +205,15 @@ module _ (l m : List ℕ) (v : ℕ) where
     unfolding readBlock
     block-judged i at b rest to in₁ in₂ e st =
         let p = inv-bind _ _ _ e in
-        let q = inv-bind _ _ _ (p .next) in
-        let k = inv-bind _ _ _ (q .next) in
+        let q = inv-both _ _ _ _ (p .next) in
         let fits : at + n ≤ length m = leb-true (at + n) (length m) (inv-must _ _ _ _ (p .first)) in
         subst (λ (x : Entry). Each InRange (x .0) → ValuesInRange (x .1) → Stands l (3 * i) (entryListed x rest) to
         → (j : ℕ) × (judgeBlock l (length m) s f′ i ≡ done (x .0, x .1, x .2, j)) × (Stands l (3 * j) rest to))
-        (done-inj (k .next))
+        (q .is)
         (λ in₁′ in₂′ o.
         let fs = map (readField m v at) (s .fields) in
         let gs = q .value .0 in
-        let ds = k .value .0 in
+        let ds = q .other .0 in
         let o₁ = split-to (recordsOf fs) (listing gs ++ (recordsOf ds ++ rest)) _ refl o in
         let w₁ = fields-judged (s .fields) i at (s .length) 0 0 _ (good .fields) (good .fieldsIn)
         (omega (arith, enough, fits)) in₁′ (o₁ .0) in
@@ -239,7 +222,7 @@ module _ (l m : List ℕ) (v : ℕ) where
         let w₂ = ih (at + n) (w₁ .0) _ (q .value) (q .first) in₂′ (o₂ .0) in
         let o₃ = split-to (recordsOf ds) rest _ refl
         (subst (λ (y : ℕ). Stands l y (recordsOf ds ++ rest) to) (w₂ .1) (o₂ .1)) in
-        let w₃ = datas-judged (s .datas) (w₂ .0) (q .value .1) _ (k .value) (good .datasIn) (k .first) (o₃ .0) in (
+        let w₃ = datas-judged (s .datas) (w₂ .0) (q .value .1) _ (q .other) (good .datasIn) (q .second) (o₃ .0) in (
           w₃ .0,
           block-next s f′ i (w₁ .0) (w₂ .0) (w₃ .0) fs gs ds (w₁ .2) (w₂ .2) (w₃ .2),
           subst (λ (y : ℕ). Stands l y rest to) (w₃ .1) (o₃ .1),
@@ -264,15 +247,14 @@ module _ (l m : List ℕ) (v : ℕ) where
         → Judges (judgeEntries l (length m) 0 (judgeBlock l (length m) s f′)) i to (x .0)) (done-inj e)
         (λ o. (i, omega (arith, o .ends), entries-stop i)) st
     entries-judged (suc k) at i to r e ranges st =
-        let p = inv-bind _ _ _ e in
-        let q = inv-bind _ _ _ (p .next) in
+        let p = inv-both _ _ _ _ e in
         let b = p .value in
-        let rest = q .value .0 in
+        let rest = p .other .0 in
         subst (λ (x : Values × ℕ). ValuesInRange (x .0) → Stands l (3 * i) (listing (x .0)) to
-        → Judges (judgeEntries l (length m) (suc k) (judgeBlock l (length m) s f′)) i to (x .0)) (done-inj (q .next))
+        → Judges (judgeEntries l (length m) (suc k) (judgeBlock l (length m) s f′)) i to (x .0)) (p .is)
         (λ ranges′ o.
         let w = block-judged i at b (listing rest) to (ranges′ .0) (ranges′ .1) (p .first) o in
-        let z = entries-judged k (b .3) (w .0) to (q .value) (q .first) (ranges′ .2) (w .2) in
+        let z = entries-judged k (b .3) (w .0) to (p .other) (p .second) (ranges′ .2) (w .2) in
         (z .0, z .1, entries-next k i (w .0) (z .0) (b .0) (b .1) (b .2) rest (w .1) (z .2))) ranges st
 
   groups-next : (id since : ℕ) (s : Shape) (inner rest : Groups) (i j k e : ℕ) (es gs : Values) → RecordIs i 4 k 0

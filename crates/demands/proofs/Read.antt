@@ -10,7 +10,7 @@ use Rattle.layout.specs.Book.{Data, Groups, Shape, more, need}
 use Rattle.layout.specs.Values.{Values, group}
 use Rattle.layout.specs.Message.{dimensionSize, readBlock, readData, readDatas, readDimension, readEntries, readGroup}
 use Rattle.layout.specs.Message.{readGroups}
-use Rattle.layout.proofs.Results.{and-right, done-inj, inv-bind, inv-must}
+use Rattle.layout.proofs.Results.{and-right, done-inj, inv-bind, inv-both, inv-must}
 use Rattle.layout.specs.declared.Answer.{Answer}
 use Rattle.layout.specs.declared.Answer.the-variants.{Group, Octets}
 
@@ -25,13 +25,12 @@ module _ (m : List ℕ) (v : ℕ) where
   unfolding readData
   data-read at a e =
       let p = inv-bind _ _ _ e in
-      let q = inv-bind _ _ _ (p .next) in
-      let k = inv-bind _ _ _ (q .next) in
+      let q = inv-both _ _ _ _ (p .next) in
       record {
         head = leb-true (at + 2) (length m) (inv-must _ _ _ _ (p .first));
         whole = ltb-true (number16 m at) null16 (inv-must _ _ _ _ (q .first));
-        fits = leb-true (at + 2 + number16 m at) (length m) (inv-must _ _ _ _ (k .first));
-        is = done-inj (k .next);
+        fits = leb-true (at + 2 + number16 m at) (length m) (inv-must _ _ _ _ (q .second));
+        is = q .is;
       }
 
   pub record DatasRead (ds : List Data) (at : ℕ) (r : List Answer × ℕ) : Type 0 where
@@ -46,9 +45,8 @@ module _ (m : List ℕ) (v : ℕ) where
       → DatasRead ds at r
   unfolding readDatas if_then_else_
   datas-read d ds at r u e =
-      let p = inv-bind _ _ _ (rw (le-leb (d .since) v u) at e) in
-      let q = inv-bind _ _ _ (p .next) in
-      record { first = p .value; rest = q .value; reads = p .first; after = q .first; is = done-inj (q .next) }
+      let p = inv-both _ _ _ _ (rw (le-leb (d .since) v u) at e) in
+      record { first = p .value; rest = p .other; reads = p .first; after = p .second; is = p .is }
 
   pub record GroupRead (s : Shape) (inner rest : Groups) (at : ℕ) (r : Values × ℕ) : Type 0 where
     pub sizes : ℕ × ℕ
@@ -64,19 +62,17 @@ module _ (m : List ℕ) (v : ℕ) where
       → readGroups m v (more i since s inner rest) 0 at ≡ done r → GroupRead s inner rest at r
   unfolding readGroups readGroup if_then_else_
   group-read i since s inner rest at r u e =
-      let p = inv-bind _ _ _ (rw (le-leb since v u) at e) in
-      let q = inv-bind _ _ _ (p .next) in
-      let d = inv-bind _ _ _ (p .first) in
-      let c = inv-bind _ _ _ (d .next) in
-      let g = done-inj (c .next) in
+      let p = inv-both _ _ _ _ (rw (le-leb since v u) at e) in
+      let d = inv-both _ _ _ _ (p .first) in
+      let g = d .is in
       record {
         sizes = d .value;
-        entries = c .value;
-        others = q .value;
+        entries = d .other;
+        others = p .other;
         dimension = d .first;
-        reads = c .first;
-        after = ap (λ (x : Answer × Values × ℕ). readGroups m v rest 0 (x .2)) g ∙ q .first;
-        is = ap (λ (x : Answer × Values × ℕ). (group (x .0) (x .1) (q .value .0), q .value .1)) g ∙ done-inj (q .next);
+        reads = d .second;
+        after = ap (λ (x : Answer × Values × ℕ). readGroups m v rest 0 (x .2)) g ∙ p .second;
+        is = ap (λ (x : Answer × Values × ℕ). (group (x .0) (x .1) (p .other .0), p .other .1)) g ∙ p .is;
       }
 
   -- What a dimension that was read says.
@@ -91,12 +87,11 @@ module _ (m : List ℕ) (v : ℕ) where
   unfolding readDimension
   dimension-read least at d e =
       let p = inv-bind _ _ _ e in
-      let q = inv-bind _ _ _ (p .next) in
-      let k = inv-bind _ _ _ (q .next) in
-      subst (DimensionRead least at) (done-inj (k .next))
+      let q = inv-both _ _ _ _ (p .next) in
+      subst (DimensionRead least at) (q .is)
       (record {
         fits = leb-true (at + dimensionSize) (length m) (inv-must _ _ _ _ (p .first));
-        enough = leb-true least (number16 m at) (inv-must _ _ _ _ (k .first));
+        enough = leb-true least (number16 m at) (inv-must _ _ _ _ (q .second));
         whole = ltb-true (number16 m (at + 2)) null16 (and-right _ _ (inv-must _ _ _ _ (q .first)));
         length-is = refl;
         count-is = refl;

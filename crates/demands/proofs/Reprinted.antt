@@ -24,7 +24,7 @@ use Rattle.demands.proofs.Read.{DimensionRead, data-read, datas-read, d
 use Rattle.demands.proofs.Reread.{no-datas, no-groups}
 use Rattle.layout.proofs.Fields.{field-good, size-array, size-plain}
 use Rattle.layout.proofs.Present.{GoodGroups, GoodShape, UpTo}
-use Rattle.layout.proofs.Results.{and-right, done-inj, inv-bind, inv-must}
+use Rattle.layout.proofs.Results.{and-right, done-inj, each-way, inv-bind, inv-both, inv-must}
 use Rattle.layout.proofs.Stands.{AreAt, Stands, join, nothing-stands, numbers-stand, octets-stand, slice-stands}
 use Rattle.layout.proofs.TypeLaws.{octets-value}
 use Rattle.layout.specs.declared.Answer.{Answer}
@@ -42,22 +42,15 @@ module _ (m : List ℕ) (v : ℕ) (octets : AllOctets m) where
       let a = classify k (isOptional f) (valueOf k (numberAt (k .width) m p)) in
       p + k .width ≤ length m → InRange a → Stands m p (fieldOctets m f a) (p + k .width)
   unfolding classify if_then_else_ fieldOctets InRange
-  class-stands f p h s = go (isOptional f and eqb y (k .null)) refl (inRange k y) s
-    where
-      k : TypeRow
-      k = typeAt (f .type)
-
-      y : ℕ
-      y = valueOf k (numberAt (k .width) m p)
-
-      go : (b : Bool) → (isOptional f and eqb y (k .null)) ≡ b → (c : Bool)
-          → InRange (if b then Null else if c then Number y else OutOfRange y)
-          → Stands m p (fieldOctets m f (if b then Null else if c then Number y else OutOfRange y)) (p + k .width)
-      go true e c s =
-          let n : y ≡ k .null = eqb-true y (k .null) (and-right _ _ e) in
-          octets-stand m octets (k .width) p (k .null) h (ap (octetsOf (k .width)) (sym n) ∙ octets-value (f .type) _)
-      go false e true s = octets-stand m octets (k .width) p y h (octets-value (f .type) _)
-      go false e false s = absurd s
+  class-stands f p h s =
+      let k = typeAt (f .type) in
+      let y = valueOf k (numberAt (k .width) m p) in
+      each-way (isOptional f and eqb y (k .null))
+      (λ e. rw e (octets-stand m octets (k .width) p (k .null) h
+      (ap (octetsOf (k .width)) (sym (eqb-true y (k .null) (and-right _ _ e))) ∙ octets-value (f .type) _)))
+      (λ e. each-way (inRange k y)
+      (λ o. rw (e, o) (octets-stand m octets (k .width) p y h (octets-value (f .type) _)))
+      (λ o. absurd (rw (e, o) at s)))
 
   array-stands : (f : Field) (p : ℕ) → p + f .length ≤ length m
       → Stands m p (fieldOctets m f (Octets p (f .length))) (p + f .length)
@@ -68,24 +61,14 @@ module _ (m : List ℕ) (v : ℕ) (octets : AllOctets m) where
       → InRange (readField m v at f)
       → Stands m (at + f .offset) (fieldOctets m f (readField m v at f)) (at + end f)
   unfolding readField if_then_else_
-  field-stands f at g u h s = rw (le-leb (f .since) v u) (go (isArray f) refl (rw (le-leb (f .since) v u) at s))
-    where
-      k : TypeRow
-      k = typeAt (f .type)
-
-      p : ℕ
-      p = at + f .offset
-
-      a : Bool → Answer
-      a y = if y then Octets p (f .length) else classify k (isOptional f) (valueOf k (numberAt (k .width) m p))
-
-      go : (y : Bool) → isArray f ≡ y → InRange (a y) → Stands m p (fieldOctets m f (a y)) (at + end f)
-      go true y s =
-          let q : p + f .length ≡ at + end f = omega (arith, size-array f g y) in
-          rw (← q) (array-stands f p (omega (arith, q)))
-      go false y s =
-          let q : p + k .width ≡ at + end f = omega (arith, size-plain f g y) in
-          rw (← q) (class-stands f p (omega (arith, q)) s)
+  field-stands f at g u h s =
+      let here = le-leb (f .since) v u in
+      let p = at + f .offset in
+      each-way (isArray f)
+      (λ y. let q : p + f .length ≡ at + end f = omega (arith, size-array f g y) in
+      rw (here, y, ← q) (array-stands f p (omega (arith, q))))
+      (λ y. let q : p + typeAt (f .type) .width ≡ at + end f = omega (arith, size-plain f g y) in
+      rw (here, y, ← q) (class-stands f p (omega (arith, q)) (rw (here, y) at s)))
 
   fields-stand : (fs : List Field) (base len from : ℕ) → fieldsGood len from fs ≡ true → UpTo v (fieldSinces fs)
       → from ≤ len
@@ -159,22 +142,19 @@ module _ (m : List ℕ) (v : ℕ) (octets : AllOctets m) where
   unfolding readBlock rowLength
   block-stands s gs f at b good ih pad own in₁ in₂ e =
       let p = inv-bind _ _ _ e in
-      let q = inv-bind _ _ _ (p .next) in
-      let k = inv-bind _ _ _ (q .next) in
+      let q = inv-both _ _ _ _ (p .next) in
       let fits : at + s .length ≤ length m = leb-true (at + s .length) (length m) (inv-must _ _ _ _ (p .first)) in
+      let first : at + 0 ≡ at = omega arith in
       subst (λ (x : Entry). OwnBlocks m s gs (at + s .length) (x .1) → Each InRange (x .0) → ValuesInRange (x .1)
       → Stands m at (entryPrinted s gs x) (x .3)
-      × (x .3 ≡ at + (s .length + (rowLength s gs (x .1) + (datasLength (x .2) + 0))))) (done-inj (k .next))
+      × (x .3 ≡ at + (s .length + (rowLength s gs (x .1) + (datasLength (x .2) + 0))))) (q .is)
       (λ own′ in₁′ in₂′.
       let g = ih (at + s .length) (q .value) fits own′ in₂′ (q .first) in
-      let d = datas-stand (s .datas) (q .value .1) (k .value) (good .datasIn) (g .0 .fits) (k .first) in (
-        join _ _ (to-zero (fields-stand (s .fields) at (s .length) 0 (good .fields) (good .fieldsIn)
+      let d = datas-stand (s .datas) (q .value .1) (q .other) (good .datasIn) (g .0 .fits) (q .second) in (
+        join _ _ (rw first at (fields-stand (s .fields) at (s .length) 0 (good .fields) (good .fieldsIn)
             (omega arith) fits pad in₁′)) (join _ _ (g .0) (d .0)),
         omega (arith, g .1, d .1),
       )) own in₁ in₂
-    where
-      to-zero : {at to : ℕ} {xs : List ℕ} → Stands m (at + 0) xs to → Stands m at xs to
-      to-zero {at} st = let q : at + 0 ≡ at = omega arith in rw q at st
 
   entries-stand : (s : Shape) (gs : Groups) (f : ℕ → Result (Values × ℕ)) (k : ℕ) → GoodShape v s → Reprints s gs f
       → Reprints s gs (readEntries k (readBlock m v s f 0 (s .length)))
@@ -182,14 +162,13 @@ module _ (m : List ℕ) (v : ℕ) (octets : AllOctets m) where
   entries-stand s gs f zero good ih at r h own ranges e =
       subst (Printed s gs at) (done-inj e) (nothing-stands m at h, omega arith)
   entries-stand s gs f (suc k) good ih at r h own ranges e =
-      let p = inv-bind _ _ _ e in
-      let q = inv-bind _ _ _ (p .next) in
+      let p = inv-both _ _ _ _ e in
       subst (λ (x : Values × ℕ). OwnBlocks m s gs at (x .0) → ValuesInRange (x .0) → Printed s gs at x)
-      (done-inj (q .next))
+      (p .is)
       (λ o i.
       let b = block-stands s gs f at (p .value) good ih (o .0) (o .1) (i .0) (i .1) (p .first) in
-      let rest = entries-stand s gs f k good ih (p .value .3) (q .value) (b .0 .fits)
-      (subst (λ (x : ℕ). OwnBlocks m s gs x (q .value .0)) (sym (b .1)) (o .2)) (i .2) (q .first) in
+      let rest = entries-stand s gs f k good ih (p .value .3) (p .other) (b .0 .fits)
+      (subst (λ (x : ℕ). OwnBlocks m s gs x (p .other .0)) (sym (b .1)) (o .2)) (i .2) (p .second) in
       (join _ _ (b .0) (rest .0), omega (arith, b .1, rest .1))) own ranges
 
   group-stands : (i since : ℕ) (s : Shape) (inner rest : Groups) (s₀ : Shape) (at : ℕ) (d : ℕ × ℕ)

@@ -25,7 +25,7 @@ use Rattle.layout.proofs.Lengths.{field-long, fields-long, span-long}
 use Rattle.layout.proofs.Present.{GoodGroups, GoodShape, UpTo}
 use Rattle.layout.proofs.Said.{OctetsSaid, array-said, data-said, number-said}
 use Rattle.layout.proofs.Fields.{field-good, need-within}
-use Rattle.layout.proofs.Results.{and-left, and-right, done-inj, inv-bind, inv-must}
+use Rattle.layout.proofs.Results.{and-left, and-right, done-inj, each-way, inv-bind, inv-both, inv-must}
 use Rattle.layout.proofs.Stands.{AreAt, Stands, length-numbers, length-octets, number-stands, numbers-are, split-to}
 use Rattle.layout.proofs.TypeLaws.{null-back, number-back}
 use Rattle.layout.specs.declared.Answer.{Answer}
@@ -90,15 +90,10 @@ module _ (l pool m : List ℕ) (v : ℕ) (small : Numbers64 l) where
   unfolding if_then_else_ contentOf
   number-field f i at to a y e s =
       let q = number-said l (length pool) f i a y e in
-      go (eqb (first l i) 1) (q .fits) (q .is)
-    where
-      k : TypeRow
-      k = typeAt (f .type)
-
-      go : (b : Bool) → (if b then isOptional f else inRange k (second l i) and not (eqb (second l i) (k .null))) ≡ true
-          → (if b then Null else Number (second l i)) ≡ a → ReadAs f at a × (contentOf m a ≡ contentOf pool a)
-      go true h q = rw (← q) (null-back-at f at to h (rw (← q) at s), refl)
-      go false h q = rw (← q) (number-back-at f (second l i) at to (small (3 * i + 1)) h (rw (← q) at s), refl)
+      each-way (eqb (first l i) 1)
+      (λ t. let z = rw t at (q .is) in rw (← z) (null-back-at f at to (rw t at (q .fits)) (rw (← z) at s), refl))
+      (λ t. let z = rw t at (q .is) in
+      rw (← z) (number-back-at f (second l i) at to (small (3 * i + 1)) (rw t at (q .fits)) (rw (← z) at s), refl))
 
   -- Octets that stand elsewhere are the same octets.
   octets-same : (a : Answer) (at to i : ℕ) → OctetsSaid l (length pool) i a → Stands m at (spanOctets pool a) to
@@ -128,18 +123,10 @@ module _ (l pool m : List ℕ) (v : ℕ) (small : Numbers64 l) where
       → judgeField l (length pool) f i ≡ done a
       → Stands m (base + f .offset) (fieldOctets pool f a) to → contentOf m (readField m v base f) ≡ contentOf pool a
   unfolding readField if_then_else_
-  field-back f i base to a h e s = rw (le-leb (f .since) v h) (go (isArray f) refl)
-    where
-      k : TypeRow
-      k = typeAt (f .type)
-
-      go : (y : Bool) → isArray f ≡ y
-          → contentOf m (if y then Octets (base + f .offset) (f .length) else classify k (isOptional f)
-          (valueOf k (numberAt (k .width) m (base + f .offset)))) ≡ contentOf pool a
-      go true y = array-field f i (base + f .offset) to a y e s
-      go false y =
-          let b = number-field f i (base + f .offset) to a y e s in
-          ap (contentOf m) (b .0) ∙ b .1
+  field-back f i base to a h e s =
+      each-way (isArray f) (λ y. rw (le-leb (f .since) v h, y) (array-field f i (base + f .offset) to a y e s))
+      (λ y. let b = number-field f i (base + f .offset) to a y e s in
+      rw (le-leb (f .since) v h, y) (ap (contentOf m) (b .0) ∙ b .1))
 
   -- ---- the fields of a block that starts at base, from its octet `from` on
 
@@ -150,11 +137,10 @@ module _ (l pool m : List ℕ) (v : ℕ) (small : Numbers64 l) where
   unfolding Each judgeFields blockOctets
   fields-back [] len from i base to r g u e s = ap (λ (x : List Answer × ℕ). contentsOf pool (x .0)) (done-inj e)
   fields-back (f ∷ fs) len from i base to r g u e s =
-      let p = inv-bind _ _ _ e in
-      let n = inv-bind _ _ _ (p .next) in
+      let p = inv-both _ _ _ _ e in
       let a : Answer = p .value in
-      let rest : List Answer × ℕ = n .value in
-      let q : (a ∷ rest .0, rest .1) ≡ r = done-inj (n .next) in
+      let rest : List Answer × ℕ = p .other in
+      let q : (a ∷ rest .0, rest .1) ≡ r = p .is in
       let k = field-good len from f fs g in
       let xs = fieldOctets pool f a in
       let ys = blockOctets pool len (end f) fs (rest .0) in
@@ -163,7 +149,7 @@ module _ (l pool m : List ℕ) (v : ℕ) (small : Numbers64 l) where
       (rw (← q) at s) in
       let o₂ = split-to xs ys (base + end f) (omega (arith, field-long l pool f i a (k .length) (p .first))) (o₁ .1) in
       let b = field-back f i base (base + end f) a (u .0) (p .first) (o₂ .0) in
-      cons-same b (fields-back fs len (end f) (suc i) base to rest (k .rest) (u .1) (n .first) (o₂ .1))
+      cons-same b (fields-back fs len (end f) (suc i) base to rest (k .rest) (u .1) (p .second) (o₂ .1))
       ∙ ap (λ (x : List Answer × ℕ). contentsOf pool (x .0)) q
 
   -- ---- data
@@ -212,11 +198,10 @@ module _ (l pool m : List ℕ) (v : ℕ) (small : Numbers64 l) where
       let w : at ≡ to = omega (arith, s′ .ends) in
       ([], rw (← w) (no-datas m v at), rw (← q) refl)
   datas-back (d ∷ ds) i at to r u e s =
-      let p = inv-bind _ _ _ e in
-      let n = inv-bind _ _ _ (p .next) in
-      let q : (p .value ∷ n .value .0, n .value .1) ≡ r = done-inj (n .next) in
-      let b = data-back i at to (p .value) (n .value .0) (p .first) (rw (← q) at s) in
-      let w = datas-back ds (suc i) (b .0 .1) to (n .value) (u .1) (n .first) (b .3) in (
+      let p = inv-both _ _ _ _ e in
+      let q : (p .value ∷ p .other .0, p .other .1) ≡ r = p .is in
+      let b = data-back i at to (p .value) (p .other .0) (p .first) (rw (← q) at s) in
+      let w = datas-back ds (suc i) (b .0 .1) to (p .other) (u .1) (p .second) (b .3) in (
         b .0 .0 ∷ w .0,
         datas-next d ds at to (b .0) (w .0) (u .0) (b .1) (w .1),
         cons-same (b .2) (w .2)
@@ -273,6 +258,7 @@ module _ (l pool m : List ℕ) (v : ℕ) (small : Numbers64 l) where
         let xs = blockOctets pool (s .length) 0 (s .fields) fs in
         let ys = rowOctets pool s gs g in
         let mid = at + s .length in
+        let start : at + 0 ≡ at = omega arith in
         let long = fields-long l pool (s .fields) (s .length) 0 i (fs, j) (good .fields) (omega arith) a in
         let o₁ = split-to xs (ys ++ dataOctets pool ds) mid (omega (arith, long)) st in
         let o₂ = split-to ys (dataOctets pool ds) (mid + length ys) refl (o₁ .1) in
@@ -285,13 +271,10 @@ module _ (l pool m : List ℕ) (v : ℕ) (small : Numbers64 l) where
           reads = block-reads s f (s .length) at (mid + length ys) to (w₂ .values) (w₃ .0) (o₁ .0 .fits) (w₂ .reads)
               (w₃ .1);
           sameFields = fields-back (s .fields) (s .length) 0 i at mid (fs, j) (good .fields) (good .fieldsIn) a
-              (from-zero (o₁ .0));
+              (rw start (o₁ .0));
           sameGroups = w₂ .same;
           sameDatas = w₃ .2;
         }
-      where
-        from-zero : {at to : ℕ} {xs : List ℕ} → Stands m at xs to → Stands m (at + 0) xs to
-        from-zero {at} st = let q : at ≡ at + 0 = omega arith in rw (← q) st
 
     pub block-back : (i at to : ℕ) (b : Entry) → judgeBlock l (length pool) s f′ i ≡ done b
         → Stands m at (entryOctets b) to
@@ -299,11 +282,10 @@ module _ (l pool m : List ℕ) (v : ℕ) (small : Numbers64 l) where
     unfolding judgeBlock
     block-back i at to b e st =
         let p = inv-bind _ _ _ e in
-        let n = inv-bind _ _ _ (p .next) in
-        let k = inv-bind _ _ _ (n .next) in
-        subst (λ (x : Entry). Stands m at (entryOctets x) to → EntryBack x to (readOne at)) (done-inj (k .next))
-        (block-forth i (p .value .1) (n .value .1) (k .value .1) at to (p .value .0) (n .value .0) (k .value .0)
-        (p .first) (n .first) (k .first))
+        let n = inv-both _ _ _ _ (p .next) in
+        subst (λ (x : Entry). Stands m at (entryOctets x) to → EntryBack x to (readOne at)) (n .is)
+        (block-forth i (p .value .1) (n .value .1) (n .other .1) at to (p .value .0) (n .value .0) (n .other .0)
+        (p .first) (n .first) (n .second))
         st
 
     entries-next : (k at x to : ℕ) (fs : List Answer) (g : Values) (ds : List Answer) (r : Values)
@@ -341,12 +323,11 @@ module _ (l pool m : List ℕ) (v : ℕ) (small : Numbers64 l) where
         → RowBack (x .0) to (readEntries 0 readOne at)) (done-inj e)
         (nothing-back s gs (readEntries 0 readOne) at to (entries-stop at)) st
     entries-back (suc k) i at to r e st =
-        let p = inv-bind _ _ _ e in
-        let n = inv-bind _ _ _ (p .next) in
+        let p = inv-both _ _ _ _ e in
         subst (λ (x : Values × ℕ). Stands m at (rowOctets pool s gs (x .0)) to
-        → RowBack (x .0) to (readEntries (suc k) readOne at)) (done-inj (n .next))
-        (entries-forth k i at to (p .value) (n .value) (p .first)
-        (λ x o. entries-back k (p .value .3) x to (n .value) (n .first) o)) st
+        → RowBack (x .0) to (readEntries (suc k) readOne at)) (p .is)
+        (entries-forth k i at to (p .value) (p .other) (p .first)
+        (λ x o. entries-back k (p .value .3) x to (p .other) (p .second) o)) st
 
   dimension-reads : (least n k at : ℕ) → AreAt m at (n ∷ k ∷ []) → at + dimensionSize ≤ length m → n < null16
       → k < null16 → least ≤ n
@@ -403,14 +384,13 @@ module _ (l pool m : List ℕ) (v : ℕ) (small : Numbers64 l) where
       (nothing-back s₀ none (readGroups m v none 0) at to (no-groups m v at)) st
   groups-back (more id since s inner rest) s₀ i at to r good e st =
       let n = inv-bind _ _ _ (inv-bind _ _ _ e .next) in
-      let p = inv-bind _ _ _ (n .next) in
-      let q = inv-bind _ _ _ (p .next) in
+      let p = inv-both _ _ _ _ (n .next) in
       let k = second l i in
       let gs = more id since s inner rest in
       subst (λ (x : Values × ℕ). Stands m at (rowOctets pool s₀ gs (x .0)) to
-      → RowBack (x .0) to (readGroups m v gs 0 at)) (done-inj (q .next))
-      (groups-forth id since s inner rest s₀ k at to (p .value .0) (q .value .0) (good .0) (good .1)
+      → RowBack (x .0) to (readGroups m v gs 0 at)) (p .is)
+      (groups-forth id since s inner rest s₀ k at to (p .value .0) (p .other .0) (good .0) (good .1)
       (ltb-true k null16 (inv-must _ _ _ _ (n .first)))
       (λ x y o. entries-back s inner (good .1) (judgeGroups l (length pool) inner) (readGroups m v inner 0)
       (λ i′ at′ to′ r′ e′ o′. groups-back inner s i′ at′ to′ r′ (good .2) e′ o′) k (suc i) x y (p .value) (p .first) o)
-      (λ x y o. groups-back rest s₀ (p .value .1) x y (q .value) (good .3) (q .first) o)) st
+      (λ x y o. groups-back rest s₀ (p .value .1) x y (p .other) (good .3) (p .second) o)) st

@@ -24,7 +24,7 @@ use Rattle.demands.proofs.Reprinted.{block-stands, entryPrinted, groups
 use Rattle.layout.proofs.Fields.{need-within}
 use Rattle.layout.proofs.Accepted.{accepted}
 use Rattle.layout.proofs.Present.{UpTo, Writable, present-up, writable}
-use Rattle.layout.proofs.Results.{and-left, and-right, bind-done, done-inj, inv-bind, inv-must}
+use Rattle.layout.proofs.Results.{and-left, and-right, bind-done, done-inj, inv-bind, inv-both, inv-must}
 use Rattle.layout.proofs.Stands.{AreAt, Stands, join, nothing-stands, numbers-stand, stands-all}
 
 -- ---- the root of a message of the book's own version and root block length
@@ -51,13 +51,11 @@ root-read b t m r w ve le e =
     let gs = groupSinces (t .groups) in
     let ds = dataSinces (t .shape .datas) in
     let p₁ = inv-bind _ _ _ (rw (ve, le) at e) in
-    let p₂ = inv-bind _ _ _ (inv-bind _ _ _ (p₁ .first) .next) in
-    let p₃ = inv-bind _ _ _ (p₂ .next) in
-    let left = done-inj (p₃ .next) in
-    let p₄ = inv-bind _ _ _ (rw (sym left, ve, le) at (p₁ .next)) in
-    let p₅ = inv-bind _ _ _ (p₄ .next) in
+    let p₂ = inv-both _ _ _ _ (inv-bind _ _ _ (p₁ .first) .next) in
+    let left = p₂ .is in
+    let p₄ = inv-both _ _ _ _ (rw (sym left, ve, le) at (p₁ .next)) in
     let g = count-is v gs (groupCount m) (w .groupsIn) (inv-must _ _ _ _ (p₂ .first)) in
-    let d = count-is v ds (dataCount m) (w .shape .datasIn) (inv-must _ _ _ _ (p₃ .first)) in
+    let d = count-is v ds (dataCount m) (w .shape .datasIn) (inv-must _ _ _ _ (p₂ .second)) in
     let zg : 0 ≡ groupCount m - present v gs = omega (arith, g) in
     let zd : 0 ≡ dataCount m - present v ds = omega (arith, d) in
     record {
@@ -69,8 +67,8 @@ root-read b t m r w ve le e =
           ∙ ap (λ (x : ℕ). readBlock m v (t .shape) (readGroups m v (t .groups) (groupCount m - present v gs)) x
           (t .shape .length) headerSize) zd
           ∙ p₄ .first;
-      ends = eqb-true (p₄ .value .3) (length m) (inv-must _ _ _ _ (p₅ .first));
-      is = done-inj (p₅ .next);
+      ends = eqb-true (p₄ .value .3) (length m) (inv-must _ _ _ _ (p₄ .second));
+      is = p₄ .is;
     }
 
 -- ---- the tree is printed as the message, and the listing judged to be the tree

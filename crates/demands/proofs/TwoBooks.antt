@@ -24,7 +24,7 @@ use Rattle.demands.proofs.Needs.{need-adds, present-absent, present-app
 use Rattle.demands.proofs.Sees.{Sees, seen-done, sees-bind, sees-done, sees-leb, sees-must, sees-same, sees-then}
 use Rattle.layout.proofs.Accepted.{accepted, found-holds}
 use Rattle.layout.proofs.Present.{UpTo, present-up, writable}
-use Rattle.layout.proofs.Results.{and-left, and-right, bind-done, inv-bind, inv-must}
+use Rattle.layout.proofs.Results.{and-left, and-right, bind-done, each-way, inv-bind, inv-if, inv-must}
 use Rattle.layout.specs.declared.Element.{Element}
 use Rattle.layout.specs.declared.Element as Element
 
@@ -35,24 +35,18 @@ module _ (vo vn v : ℕ) (so sn : List ℕ) (newer : vo < vn) (all : UpTo vo so)
     (same : v ≤ vo → present v so ≡ present v sn) where
   -- The count that the newer book allows covers what it knows.
   count-covers : (n : ℕ) → countGood vn v sn n ≡ true → present v sn ≤ n
-  unfolding countGood if_then_else_
-  count-covers n e = go (leb v vn) e
-    where
-      go : (t : Bool) → (if t then eqb n (present v sn) else leb (length sn) n) ≡ true → present v sn ≤ n
-      go true q = omega (arith, eqb-true n (present v sn) q)
-      go false q = omega (arith, leb-true (length sn) n q, present-most v sn)
+  unfolding countGood
+  count-covers n e =
+      inv-if (leb v vn) e (λ t q. omega (arith, eqb-true n (present v sn) q))
+      (λ t q. omega (arith, leb-true (length sn) n q, present-most v sn))
 
   count-older : (n : ℕ) → countGood vn v sn n ≡ true → countGood vo v so n ≡ true
   unfolding countGood if_then_else_
-  count-older n e = go (leb v vo) refl
-    where
-      go : (t : Bool) → leb v vo ≡ t → (if t then eqb n (present v so) else leb (length so) n) ≡ true
-      go true q =
-          let h : v ≤ vo = leb-true v vo q in
-          rw (same h) (rw (le-leb v vn (omega arith)) at e)
-      go false q =
-          let h : vo < v = leb-false v vo q in
-          le-leb (length so) n (omega (arith, count-covers n e, present-up v vo so all (omega arith)))
+  count-older n e =
+      each-way (leb v vo)
+      (λ q. let h : v ≤ vo = leb-true v vo q in rw (q, same h) (rw (le-leb v vn (omega arith)) at e))
+      (λ q. let h : vo < v = leb-false v vo q in
+      rw q (le-leb (length so) n (omega (arith, count-covers n e, present-up v vo so all (omega arith)))))
 
   count-same : (n : ℕ) → v ≤ vo → countGood vo v so n ≡ countGood vn v sn n
   unfolding countGood if_then_else_

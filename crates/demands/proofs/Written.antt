@@ -26,7 +26,7 @@ use Rattle.layout.proofs.Fields.{need-within}
 use Rattle.layout.proofs.Accepted.{Accepted, accepted}
 use Rattle.layout.proofs.Present.{Writable, present-up, writable}
 use Rattle.layout.proofs.Records.{listing-three}
-use Rattle.layout.proofs.Results.{and-left, and-right, bind-done, done-inj, inv-bind, inv-found, inv-must}
+use Rattle.layout.proofs.Results.{and-left, and-right, bind-done, done-inj, inv-bind, inv-both, inv-found, inv-must}
 use Rattle.layout.proofs.Stands.{AllWhole, AreAt, Stands, all-stands, length-numbers, numbers-are, split-to}
 use Rattle.layout.specs.declared.Answer.{Answer}
 
@@ -43,17 +43,14 @@ header-good : (b : Book) (t : Template) (m : List ℕ) → headerSize ≤ length
     → AllWhole (headerOf b t) → checkHeader (b .schema) m ≡ done tt
 unfolding checkHeader must _>>=_ _and_
 header-good b t m long few a h =
+    let schema : schemaId m ≡ b .schema = unfold AreAt in a .1 .1 .0 in
     rw (
       le-leb 12 (length m) long,
       le-leb (length m) 65535 few,
       header-whole m 0 (headerOf b t) a h,
-      schema a,
-      eq-eqb
-          (b .schema) (b .schema) refl,
+      schema,
+      eq-eqb (b .schema) (b .schema) refl,
     ) refl
-  where
-    schema : AreAt m 0 (headerOf b t) → schemaId m ≡ b .schema
-    schema a = unfold AreAt in a .1 .1 .0
 
 -- The header stands at the start of what is written, and the root after it.
 header-stands : (b : Book) (t : Template) (pool : List ℕ) (r : Values) → AllWhole (headerOf b t)
@@ -163,10 +160,9 @@ module _ (b : Book) (t : Template) (l pool : List ℕ) (small : Numbers64 l) (a 
       → ReadsBack b (messageOctets b t pool said) pool said
   unfolding judgeListing
   listing-reads said e few =
-      let p = inv-bind _ _ _ e in
-      let q = inv-bind _ _ _ (p .next) in
+      let p = inv-both _ _ _ _ e in
       subst (λ (x : Values). length (messageOctets b t pool x) ≤ 65535 → ReadsBack b (messageOctets b t pool x) pool x)
-      (done-inj (q .next))
+      (p .is)
       (entry-reads (p .value) (p .first)) few
 
 -- ---- from the octets
@@ -190,10 +186,9 @@ unfolding writeOf
 written-by book id l pool room m e =
     let b = inv-bind _ _ _ e in
     let t = inv-bind _ _ _ (b .next) in
-    let r = inv-bind _ _ _ (t .next) in
-    let k = inv-bind _ _ _ (r .next) in
+    let r = inv-both _ _ _ _ (t .next) in
     let n = length (messageOctets (b .value) (t .value) pool (r .value)) in
-    let h = inv-must _ _ _ _ (k .first) in
+    let h = inv-must _ _ _ _ (r .second) in
     record {
       by = b .value;
       template = t .value;
@@ -203,7 +198,7 @@ written-by book id l pool room m e =
       judged = r .first;
       fits = leb-true n room (and-left _ _ h);
       short = leb-true n 65535 (and-right _ _ h);
-      is = done-inj (k .next);
+      is = r .is;
     }
 
 -- What is read of what was written: a listing with the same contents.

@@ -16,7 +16,7 @@ use Rattle.layout.specs.BookRules.{fieldAt, fieldsGood, lengthGood, parseFields
 use Rattle.layout.specs.Message.{readField}
 use Rattle.layout.specs.declared.Answer.the-variants.{Absent, Octets}
 use Rattle.layout.proofs.Fields.{FieldGood, field-good}
-use Rattle.layout.proofs.Results.{and-left, either, or-right}
+use Rattle.layout.proofs.Results.{and-left, each-way, either, or-right}
 use Rattle.fields.specs.Readable.{Fits}
 
 module _ (m : List ℕ) (v at : ℕ) (f : Field) where
@@ -44,25 +44,20 @@ module _ (m : List ℕ) (v at : ℕ) (f : Field) where
 -- ---- the fields of a good block
 
 some-length : (f : Field) → lengthGood f ≡ true → 1 ≤ f .length
-some-length f g = go (eqb (f .length) 1) refl
-  where
-    go : (t : Bool) → eqb (f .length) 1 ≡ t → 1 ≤ f .length
-    go true e = omega (arith, eqb-true (f .length) 1 e)
-    go false e = omega (arith, leb-true 2 (f .length) (and-left _ _ (or-right _ _ g e)))
+some-length f g =
+    each-way (eqb (f .length) 1) (λ e. omega (arith, eqb-true (f .length) 1 e))
+    (λ e. omega (arith, leb-true 2 (f .length) (and-left _ _ (or-right _ _ g e))))
 
 -- Of good fields every one that is present ends within the need.
 need-least : (v l e least : ℕ) (fs : List Field) → fieldsGood l e fs ≡ true → least ≤ e → least ≤ needAfter v least fs
 unfolding needAfter
 need-least v l e least [] g h = omega arith
 need-least v l e least (f ∷ fs) g h =
-    go (leb (f .since) v) (λ x. need-least v l (end f) x fs (field-good l e f fs g .rest))
-  where
-    low : least ≤ end f
-    low = omega (arith, field-good l e f fs g .placed)
-
-    go : (t : Bool) → ((x : ℕ) → x ≤ end f → x ≤ needAfter v x fs) → least ≤ needAfter v (if t then end f else least) fs
-    go true on = unfold if_then_else_ in omega (arith, low, on (end f) (omega arith))
-    go false on = unfold if_then_else_ in on least low
+    let k = field-good l e f fs g in
+    let low : least ≤ end f = omega (arith, k .placed) in
+    either (λ (x : ℕ). least ≤ needAfter v x fs) (leb (f .since) v) (end f) least
+    (omega (arith, low, need-least v l (end f) (end f) fs (k .rest) (omega arith)))
+    (need-least v l (end f) least fs (k .rest) low)
 
 pub fields-fit : (m : List ℕ) (v at size l e least : ℕ) (fs : List Field) → fieldsGood l e fs ≡ true → least ≤ e
     → needAfter v least fs ≤ size → at + size ≤ length m → Each (Fits m v at) fs

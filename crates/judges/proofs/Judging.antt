@@ -21,31 +21,27 @@ use Rattle.layout.specs.Writing.{judgeNumber, judgeOctets, numberFits, rowLengt
 use Rattle.layout.specs.declared.Answer.{Answer}
 use Rattle.layout.specs.declared.Answer.the-variants.{Group, Octets}
 use Rattle.layout.specs.declared.Refusal.{Refusal}
-use Rattle.layout.proofs.Results.{and-left, bind-assoc, bind-done}
+use Rattle.layout.proofs.Results.{Reached, and-left, bind-assoc, bind-done, each-way, none-left, one-less, some-left}
 use Rattle.layout.proofs.Said.{octets-said}
 use Rattle.layout.proofs.TypeLaws.{each-type, inside-not-null}
 use Rattle.number_types.proofs.Types.{in-span}
 use Rattle.prepared.specs.Numbers.{spread}
 use Rattle.prepared.specs.Positions.{Derived, IsBlock, IsField, datasFrom, fieldsFrom, groupsFrom, innerAt}
 use Rattle.prepared.specs.Positions.{manyDatas, manyFields, manyGroups, shapeAt, tableFrom}
-use Rattle.prepared.proofs.Open.{no-groups-at}
+use Rattle.prepared.proofs.Open.{no-datas-at, no-groups-at}
 use Rattle.judges.specs.Judges.{capped, datasEnd, entriesAt, fieldEnd, fieldsEnd, judged, listingEnd}
 use Rattle.judges.specs.Judges.{limit, octetsEnd, rowEnd}
 use Rattle.judges.specs.declared.Judged.{Judged}
 use Rattle.judges.specs.declared.Judged.the-variants.{To, Refused}
+use native.Mathlib.Numerals.{add-one}
 
 -- ---- whatever is judged
 
 -- What was judged good was done.
-pub record Reached {A : Type 0} (f : A → ℕ × ℕ) (r : Result A) (x k : ℕ) : Type 0 where
-  pub value : A
-  pub is : r ≡ done value
-  pub next : f value .0 ≡ x
-  pub octets : f value .1 ≡ k
 
 pub inv-to : {A : Type 0} (f : A → ℕ × ℕ) (r : Result A) (x k : ℕ) → To x k ≡ judged f r → Reached f r x k
 unfolding judged
-inv-to f (done a) x k e = record { value = a; is = refl; next = cc; octets = cc }
+inv-to f (done a) x k e = record { value = a; is = refl; next = cc; counted = cc }
 inv-to f (refused n p) x k e = absurd (let z : _≡_ {A = ℕ} 0 1 = cc in omega arith)
 
 pub inv-refused : {A : Type 0} (f : A → ℕ × ℕ) (r : Result A) (z : Refusal) → Refused z ≡ judged f r
@@ -147,7 +143,7 @@ module _ (l : List ℕ) (size i : ℕ) where
     unfolding spanOf
     length-said =
         let q = octets-reached in
-        sym (q .octets) ∙ ap (λ (a : Answer). spanOf a .1) (sym (octets-said l size true i (q .value) (q .is) .0 .is))
+        sym (q .counted) ∙ ap (λ (a : Answer). spanOf a .1) (sym (octets-said l size true i (q .value) (q .is) .0 .is))
 
     module _ (g : Answer → ℕ × ℕ) (fits : Bool) where
       pub fit-not : (k ≡ third l i → fits ≡ false) → judged g (judgeOctets l size fits i) ≡ Refused (refusal 53 i)
@@ -159,7 +155,7 @@ module _ (l : List ℕ) (size i : ℕ) where
       unfolding must _>>=_
       fit-whole t y o =
           let q = octets-reached in
-          let w = o (q .value) (q .octets) in
+          let w = o (q .value) (q .counted) in
           rw (octets-fit fits, goes-on q, t length-said)
           (reached g (q .value) (ap (λ (v : ℕ × ℕ). v .0) w ∙ q .next) (ap (λ (v : ℕ × ℕ). v .1) w))
 
@@ -189,11 +185,8 @@ spread-to t =
 -- What is in range is not null.
 inside-only : (t x : ℕ) → (inRange (typeAt t) x and not (eqb x (typeAt t .null))) ≡ inRange (typeAt t) x
 unfolding _and_
-inside-only t x = go (inRange (typeAt t) x) refl
-  where
-    go : (b : Bool) → inRange (typeAt t) x ≡ b → (b and not (eqb x (typeAt t .null))) ≡ b
-    go false e = refl
-    go true e = rw (inside-not-null t x e) refl
+inside-only t x =
+    each-way (inRange (typeAt t) x) (λ e. rw (e, inside-not-null t x e) refl) (λ e. rw e refl)
 
 -- A number d above the least of a type fits it where d is no more than the spread.
 pub within : (t x d least far : ℕ) → d < 2 ^ 64 → (d + least) % 2 ^ 64 ≡ x → least ≡ typeAt t .least
@@ -238,19 +231,12 @@ module _ (l : List ℕ) (size : ℕ) (p : List ℕ) where
   fields-step : (k f i : ℕ) → 0 < k → fieldsIs k f i
       ≡ (judgeField l size (fieldAt p f) i >>= λ a. fieldsIs (k - 1) (f + 6) (i + 1) >>= λ r. done (a ∷ r .0, r .1))
   unfolding judgeFields parseFields
-  fields-step zero f i h = absurd (omega arith)
-  fields-step (suc k) f i h =
-      let q : suc k - 1 ≡ k = omega arith in
-      let e : i + 1 ≡ suc i = omega arith in
-      rw (q, e) refl
+  fields-step k f i h = rw (some-left h, one-less, add-one i) refl
 
   module _ (k f i : ℕ) where
     pub fields-end : k ≤ 0 → judged fieldsEnd (fieldsIs k f i) ≡ To i 0
-    fields-end h = go k h
-      where
-        go : (k : ℕ) → k ≤ 0 → judged fieldsEnd (fieldsIs k f i) ≡ To i 0
-        go zero h = unfold judged judgeFields parseFields in refl
-        go (suc k) h = absurd (omega arith)
+    unfolding judged judgeFields parseFields
+    fields-end h = rw (none-left h) refl
 
     module _ (h : 0 < k) where
       pub fields-refused : (z : Refusal) → Refused z ≡ judged (fieldEnd i) (judgeField l size (fieldAt p f) i)
@@ -272,19 +258,12 @@ module _ (l : List ℕ) (size : ℕ) (p : List ℕ) where
   datas-step : (k d i : ℕ) → 0 < k → datasIs k d i
       ≡ (judgeData l size i >>= λ a. datasIs (k - 1) (d + 2) (i + 1) >>= λ r. done (a ∷ r .0, r .1))
   unfolding judgeDatas parseDatas
-  datas-step zero d i h = absurd (omega arith)
-  datas-step (suc k) d i h =
-      let q : suc k - 1 ≡ k = omega arith in
-      let e : i + 1 ≡ suc i = omega arith in
-      rw (q, e) refl
+  datas-step k d i h = rw (some-left h, one-less, add-one i) refl
 
   module _ (seen k d i : ℕ) where
     pub datas-end : seen ≤ limit → k ≤ 0 → judged (datasEnd seen) (datasIs k d i) ≡ To i seen
-    datas-end s h = go k h
-      where
-        go : (k : ℕ) → k ≤ 0 → judged (datasEnd seen) (datasIs k d i) ≡ To i seen
-        go zero h = unfold judgeDatas parseDatas datasLength in reached (datasEnd seen) ([], i) refl (omega arith)
-        go (suc k) h = absurd (omega arith)
+    unfolding judgeDatas parseDatas datasLength
+    datas-end s h = rw (none-left h) (reached (datasEnd seen) ([], i) refl (omega arith))
 
     module _ (h : 0 < k) where
       pub datas-refused : (z : Refusal) → Refused z ≡ judged (octetsEnd i) (judgeOctets l size true i)
@@ -309,7 +288,7 @@ module _ (l : List ℕ) (size : ℕ) (p : List ℕ) where
         unfolding datasLength
         datas-next short =
             rw (datas-step k d i h, goes-on (data-reached short), data-reached short .next)
-            (ends-as _ _ _ _ λ r. ap (λ (o : ℕ). (r .1, o)) (omega (arith, data-reached short .octets)))
+            (ends-as _ _ _ _ λ r. ap (λ (o : ℕ). (r .1, o)) (omega (arith, data-reached short .counted)))
 
 -- ---- entries
 
@@ -335,16 +314,12 @@ module _ (l : List ℕ) (size : ℕ) (s : Shape) (gs : Groups) where
       ≡ (judgeBlock l size s (judgeGroups l size gs) i >>= λ e. entriesIs (k - 1) (e .3)
       >>= λ r. done (entry (e .0) (e .1) (e .2) (r .0), r .1))
   unfolding judgeEntries
-  entries-step zero i h = absurd (omega arith)
-  entries-step (suc k) i h = let q : suc k - 1 ≡ k = omega arith in rw q refl
+  entries-step k i h = rw (some-left h, one-less) refl
 
   module _ (seen k i : ℕ) where
     pub entries-end : seen ≤ limit → k ≤ 0 → judged (rowEnd s gs seen) (entriesIs k i) ≡ To i seen
-    entries-end b h = go k h
-      where
-        go : (k : ℕ) → k ≤ 0 → judged (rowEnd s gs seen) (entriesIs k i) ≡ To i seen
-        go zero h = unfold judgeEntries rowLength in reached (rowEnd s gs seen) (nil, i) refl (omega arith)
-        go (suc k) h = absurd (omega arith)
+    unfolding judgeEntries rowLength
+    entries-end b h = rw (none-left h) (reached (rowEnd s gs seen) (nil, i) refl (omega arith))
 
     module _ (h : 0 < k) where
       pub entry-fields : (z : Refusal) → Refused z ≡ judged fieldsEnd (judgeFields l size (s .fields) i)
@@ -391,7 +366,7 @@ module _ (l : List ℕ) (size : ℕ) (s : Shape) (gs : Groups) where
                 q .next,
               )
               (ends-as _ _ _ _ λ r.
-              ap (λ (v : ℕ). (r .1, v)) (entry-counts _ _ _ _ _ _ _ (grouped .octets) (q .octets)))
+              ap (λ (v : ℕ). (r .1, v)) (entry-counts _ _ _ _ _ _ _ (grouped .counted) (q .counted)))
 
         -- A block with neither groups nor data is its fields, and the octets that it declares.
         entry-plain : gs ≡ none → s .datas ≡ [] → judged (rowEnd s gs seen) (entriesIs k i)
@@ -440,14 +415,9 @@ module _ (l : List ℕ) (size : ℕ) (s : Shape) (seen : ℕ) where
         row-next x y q =
             let r = inv-to (rowEnd b inner 0) _ x y q in
             rw (row-step, goes-on r, r .next, is)
-            (ends-as _ _ _ _ λ g. ap (λ (v : ℕ). (g .1, v)) (omega (arith, r .octets)))
+            (ends-as _ _ _ _ λ g. ap (λ (v : ℕ). (g .1, v)) (omega (arith, r .counted)))
 
 -- ---- at places of the prepared book
-
-no-datas-at : (p : List ℕ) (n d : ℕ) → n ≤ 0 → parseDatas p n d ≡ []
-unfolding parseDatas
-no-datas-at p zero d h = refl
-no-datas-at p (suc n) d h = absurd (omega arith)
 
 -- An entry of a block that nothing follows.
 pub plain-next : (p : List ℕ) (depth a : ℕ) (l : List ℕ) (size seen k i x u follow : ℕ) → IsBlock p a
@@ -491,4 +461,4 @@ module _ (l : List ℕ) (size : ℕ) (t : Template) where
     unfolding must _>>=_
     listing-whole h =
         rw (root-step, goes-on rooted, rooted .next, eq-eqb (3 * x) (length l) h)
-        (reached (listingEnd (t .shape) (t .groups) l) _ (omega arith) (omega (arith, rooted .octets)))
+        (reached (listingEnd (t .shape) (t .groups) l) _ (omega arith) (omega (arith, rooted .counted)))

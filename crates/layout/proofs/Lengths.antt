@@ -22,7 +22,7 @@ use Rattle.layout.specs.Writing.{judgeListing, messageOctets, numbers16,
 use Rattle.layout.specs.Writing.{spanOf, third, writtenLength}
 use Rattle.layout.proofs.Said.{array-said, data-said, number-said}
 use Rattle.layout.proofs.Fields.{field-good, size-array, size-plain}
-use Rattle.layout.proofs.Results.{and-left, and-right, done-inj, inv-bind}
+use Rattle.layout.proofs.Results.{and-left, and-right, done-inj, each-way, inv-bind, inv-both}
 use Rattle.layout.proofs.Stands.{length-numbers, length-octets}
 use Rattle.layout.specs.declared.Answer.{Answer}
 use Rattle.layout.specs.declared.Answer.the-variants.{Null, Number, Octets}
@@ -46,15 +46,12 @@ module _ (l pool : List ℕ) where
 
   pub field-long : (f : Field) (i : ℕ) (a : Answer) → lengthGood f ≡ true → judgeField l (length pool) f i ≡ done a
       → length (fieldOctets pool f a) ≡ size f
-  field-long f i a g e = go (isArray f) refl
-    where
-      go : (y : Bool) → isArray f ≡ y → length (fieldOctets pool f a) ≡ size f
-      go true y =
-          let s = array-said l (length pool) f i a y e in
-          rw (← (s .0 .is)) (array-long f (second l i) (third l i) (s .0 .within) ∙ s .1 ∙ sym (size-array f g y))
-      go false y =
-          rw (← (number-said l (length pool) f i a y e .is))
-          (number-long f (eqb (first l i) 1) (second l i) ∙ sym (size-plain f g y))
+  field-long f i a g e =
+      each-way (isArray f)
+      (λ y. let s = array-said l (length pool) f i a y e in
+      rw (← (s .0 .is)) (array-long f (second l i) (third l i) (s .0 .within) ∙ s .1 ∙ sym (size-array f g y)))
+      (λ y. rw (← (number-said l (length pool) f i a y e .is))
+      (number-long f (eqb (first l i) 1) (second l i) ∙ sym (size-plain f g y)))
 
   pub fields-long : (fs : List Field) (len from i : ℕ) (r : List Answer × ℕ) → fieldsGood len from fs ≡ true
       → from ≤ len
@@ -62,13 +59,12 @@ module _ (l pool : List ℕ) where
   unfolding judgeFields blockOctets
   fields-long [] len from i r g h e = rw (length-replicate {A = ℕ} (len - from)) (omega arith)
   fields-long (f ∷ fs) len from i r g h e =
-      let p = inv-bind _ _ _ e in
-      let q = inv-bind _ _ _ (p .next) in
+      let p = inv-both _ _ _ _ e in
       let k = field-good len from f fs g in
       let a = fieldOctets pool f (p .value) in
-      let b = blockOctets pool len (end f) fs (q .value .0) in
+      let b = blockOctets pool len (end f) fs (p .other .0) in
       subst (λ (x : List Answer × ℕ). from + length (blockOctets pool len from (f ∷ fs) (x .0)) ≡ len)
-      (done-inj (q .next))
+      (p .is)
       (rw (
         length-append (replicate (f .offset - from) 0) (a ++ b),
         length-append a b,
@@ -79,7 +75,7 @@ module _ (l pool : List ℕ) where
         arith,
         k .placed,
         field-long f i (p .value) (k .length) (p .first),
-        fields-long fs len (end f) (suc i) (q .value) (k .rest) (k .ended) (q .first),
+        fields-long fs len (end f) (suc i) (p .other) (k .rest) (k .ended) (p .second),
       )))
 
   -- ---- data
@@ -96,12 +92,11 @@ module _ (l pool : List ℕ) where
   datas-long [] i r e = subst (λ (x : List Answer × ℕ). length (dataOctets pool (x .0)) ≡ datasLength (x .0))
       (done-inj e) refl
   datas-long (d ∷ ds) i r e =
-      let p = inv-bind _ _ _ e in
-      let q = inv-bind _ _ _ (p .next) in
+      let p = inv-both _ _ _ _ e in
       let n = octetsOf 2 (spanOf (p .value) .1) in
       let a = spanOctets pool (p .value) in
-      let b = dataOctets pool (q .value .0) in
-      subst (λ (x : List Answer × ℕ). length (dataOctets pool (x .0)) ≡ datasLength (x .0)) (done-inj (q .next))
+      let b = dataOctets pool (p .other .0) in
+      subst (λ (x : List Answer × ℕ). length (dataOctets pool (x .0)) ≡ datasLength (x .0)) (p .is)
       (rw (
         length-append n (a ++ b),
         length-append a b,
@@ -109,7 +104,7 @@ module _ (l pool : List ℕ) where
         data-long i (p .value)
             (p .first),
       )
-      (omega (arith, datas-long ds (suc i) (q .value) (q .first))))
+      (omega (arith, datas-long ds (suc i) (p .other) (p .second))))
 
   -- ---- rows
 
@@ -140,12 +135,11 @@ module _ (l pool : List ℕ) where
     unfolding judgeBlock
     block-long i b rest e h =
         let p = inv-bind _ _ _ e in
-        let q = inv-bind _ _ _ (p .next) in
-        let k = inv-bind _ _ _ (q .next) in
-        subst (λ (x : Entry). Long s gs (entry (x .0) (x .1) (x .2) rest)) (done-inj (k .next))
-        (entry-long s gs (p .value .0) (q .value .0) (k .value .0) rest
+        let q = inv-both _ _ _ _ (p .next) in
+        subst (λ (x : Entry). Long s gs (entry (x .0) (x .1) (x .2) rest)) (q .is)
+        (entry-long s gs (p .value .0) (q .value .0) (q .other .0) rest
         (omega (arith, fields-long (s .fields) (s .length) 0 i (p .value) good (omega arith) (p .first)))
-        (ih (p .value .1) (q .value) (q .first)) (datas-long (s .datas) (q .value .1) (k .value) (k .first)) h)
+        (ih (p .value .1) (q .value) (q .first)) (datas-long (s .datas) (q .value .1) (q .other) (q .second)) h)
 
     entries-long : (k i : ℕ) (r : Values × ℕ)
         → judgeEntries l (length pool) k (judgeBlock l (length pool) s f) i ≡ done r
@@ -154,10 +148,9 @@ module _ (l pool : List ℕ) where
     entries-long zero i r e = subst (λ (x : Values × ℕ). Long s gs (x .0)) (done-inj e)
         (unfold rowOctets rowLength in refl)
     entries-long (suc k) i r e =
-        let p = inv-bind _ _ _ e in
-        let q = inv-bind _ _ _ (p .next) in
-        subst (λ (x : Values × ℕ). Long s gs (x .0)) (done-inj (q .next))
-        (block-long i (p .value) (q .value .0) (p .first) (entries-long k (p .value .3) (q .value) (q .first)))
+        let p = inv-both _ _ _ _ e in
+        subst (λ (x : Values × ℕ). Long s gs (x .0)) (p .is)
+        (block-long i (p .value) (p .other .0) (p .first) (entries-long k (p .value .3) (p .other) (p .second)))
 
   group-long : (i since : ℕ) (s : Shape) (inner rest : Groups) (s₀ : Shape) (a : Answer) (es gs : Values)
       → Long s inner es
@@ -175,14 +168,13 @@ module _ (l pool : List ℕ) where
   groups-long none s₀ i r g e = subst (λ (x : Values × ℕ). Long s₀ none (x .0)) (done-inj e)
       (unfold rowOctets rowLength in refl)
   groups-long (more id since s inner rest) s₀ i r g e =
-      let p = inv-bind _ _ _ (inv-bind _ _ _ (inv-bind _ _ _ e .next) .next) in
-      let q = inv-bind _ _ _ (p .next) in
+      let p = inv-both _ _ _ _ (inv-bind _ _ _ (inv-bind _ _ _ e .next) .next) in
       let h = and-right _ _ g in
-      subst (λ (x : Values × ℕ). Long s₀ (more id since s inner rest) (x .0)) (done-inj (q .next))
-      (group-long id since s inner rest s₀ _ (p .value .0) (q .value .0)
+      subst (λ (x : Values × ℕ). Long s₀ (more id since s inner rest) (x .0)) (p .is)
+      (group-long id since s inner rest s₀ _ (p .value .0) (p .other .0)
       (entries-long s inner (and-right _ _ (and-left _ _ g)) (judgeGroups l (length pool) inner)
       (λ j x z. groups-long inner s j x (and-left _ _ h) z) (second l i) (suc i) (p .value) (p .first))
-      (groups-long rest s₀ (p .value .1) (q .value) (and-right _ _ h) (q .first)))
+      (groups-long rest s₀ (p .value .1) (p .other) (and-right _ _ h) (p .second)))
 
   -- The whole message.
   pub written-long : (b : Book) (t : Template) (r : Values) → layoutGood t ≡ true
@@ -190,14 +182,13 @@ module _ (l pool : List ℕ) where
       → length (messageOctets b t pool r) ≡ writtenLength t r
   unfolding judgeListing messageOctets
   written-long b t r g e =
-      let p = inv-bind _ _ _ e in
-      let q = inv-bind _ _ _ (p .next) in
+      let p = inv-both _ _ _ _ e in
       let x = p .value in
       let long = block-long (t .shape) (t .groups) (and-right _ _ (and-left _ _ g))
       (judgeGroups l (length pool) (t .groups))
       (λ j y z. groups-long (t .groups) (t .shape) j y (and-right _ _ g) z) 0 x nil (p .first)
       (unfold rowOctets rowLength in refl) in
-      subst (λ (y : Values). length (messageOctets b t pool y) ≡ writtenLength t y) (done-inj (q .next))
+      subst (λ (y : Values). length (messageOctets b t pool y) ≡ writtenLength t y) (p .is)
       (length-append (numbers16 _) (rowOctets pool (t .shape) (t .groups) (entry (x .0) (x .1) (x .2) nil))
       ∙ omega (
         arith,

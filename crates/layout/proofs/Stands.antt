@@ -127,15 +127,12 @@ octets-taken (suc n) (b ∷ s) h (suc i) = octets-taken n s (λ j. h (suc j)) i
 -- Whatever has the octets of the number that stands there stands there.
 pub octets-stand : (m : List ℕ) → AllOctets m → (w at x : ℕ) → at + w ≤ length m
     → octetsOf w x ≡ octetsOf w (numberAt w m at) → Stands m at (octetsOf w x) (at + w)
-octets-stand m octets w at x h e = rw (e, there) (slice-stands m at w h)
-  where
-    l : length (take w (drop at m)) ≡ w
-    l = length-take-le w (drop at m) (rw length-drop (omega arith))
-
-    there : octetsOf w (numberAt w m at) ≡ take w (drop at m)
-    there =
-        ap (λ (k : ℕ). octetsOf k (numberAt w m at)) (sym l)
-        ∙ octets-number (take w (drop at m)) (octets-taken w (drop at m) (λ i. rw getD-drop (octets (at + i))))
+octets-stand m octets w at x h e =
+    let l : length (take w (drop at m)) ≡ w = length-take-le w (drop at m) (rw length-drop (omega arith)) in
+    let there : octetsOf w (numberAt w m at) ≡ take w (drop at m) =
+    ap (λ (k : ℕ). octetsOf k (numberAt w m at)) (sym l)
+    ∙ octets-number (take w (drop at m)) (octets-taken w (drop at m) (λ i. rw getD-drop (octets (at + i)))) in
+    rw (e, there) (slice-stands m at w h)
 
 -- ---- 16-bit numbers in a row, as headers and dimensions have them
 

@@ -10,7 +10,7 @@ use Rattle.layout.specs.Result.{_and_, _or_, if_then_else_}
 use Rattle.layout.specs.Octets.{octetsOf}
 use Rattle.layout.specs.Types.{TypeRow, char, inRange, int, isSigned, isWidth, rowOf, typeAt, uint, valueOf}
 use Rattle.layout.specs.Types.{widthOf}
-use Rattle.layout.proofs.Results.{and-right, either, or-right}
+use Rattle.layout.proofs.Results.{and-right, each-way, either, or-right}
 
 -- A width's numbers are even in number, and 2 ^ 64 is a multiple of that.
 pub record Width (w : ℕ) : Type 0 where
@@ -76,12 +76,10 @@ module _ (w : ℕ) (a : Width w) (x : ℕ) where
 
   int-back : inRange (int w) x ≡ true → x < 2 ^ 64 → valueOf (int w) (x % 256 ^ w) ≡ x
   unfolding inRange if_then_else_
-  int-back r h = go (leb x (256 ^ w / 2 - 1)) refl r
-    where
-      go : (b : Bool) → leb x (256 ^ w / 2 - 1) ≡ b → (b or leb (2 ^ 64 - 256 ^ w / 2 + 1) x) ≡ true
-          → valueOf (int w) (x % 256 ^ w) ≡ x
-      go true e q = int-low (omega (arith, leb-true x (256 ^ w / 2 - 1) e, a .even, a .many))
-      go false e q = int-high (omega (arith, leb-true (2 ^ 64 - 256 ^ w / 2 + 1) x (or-right _ _ q refl))) h
+  int-back r h =
+      each-way (leb x (256 ^ w / 2 - 1))
+      (λ e. int-low (omega (arith, leb-true x (256 ^ w / 2 - 1) e, a .even, a .many)))
+      (λ e. int-high (omega (arith, leb-true (2 ^ 64 - 256 ^ w / 2 + 1) x (or-right _ _ r e))) h)
 
   uint-back : inRange (uint w) x ≡ true → valueOf (uint w) (x % 256 ^ w) ≡ x
   unfolding inRange if_then_else_

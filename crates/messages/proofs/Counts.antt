@@ -14,19 +14,18 @@ use Rattle.prepared.specs.Positions.{Opened, groupsAt, nextFrom}
 use Rattle.prepared.proofs.Open.{no-groups-at}
 use Rattle.messages.specs.Openings.{leftOver}
 use Rattle.messages.specs.declared.Surplus.the-variants.{Is, Wrong}
+use Rattle.layout.proofs.Results.{none-left, one-less, some-left}
 
 -- ---- data
 
 pub datas-step : (p : List ℕ) (n d : ℕ) → 0 < n
     → dataSinces (parseDatas p n d) ≡ word p (d + 1) ∷ dataSinces (parseDatas p (n - 1) (d + 2))
 unfolding parseDatas
-datas-step p zero d h = absurd (omega arith)
-datas-step p (suc n) d h = let q : suc n - 1 ≡ n = omega arith in rw q refl
+datas-step p n d h = rw (some-left h, one-less) refl
 
 pub datas-end : (p : List ℕ) (v seen n d : ℕ) → n ≤ 0 → seen + present v (dataSinces (parseDatas p n d)) ≡ seen
 unfolding present parseDatas
-datas-end p v seen zero d h = omega arith
-datas-end p v seen (suc n) d h = absurd (omega arith)
+datas-end p v seen n d h = rw (none-left h) (omega arith)
 
 pub length-datas : (p : List ℕ) (n d : ℕ) → length (dataSinces (parseDatas p n d)) ≡ n
 unfolding parseDatas

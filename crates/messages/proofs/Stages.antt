@@ -13,7 +13,7 @@ use Rattle.layout.specs.BookRules.{word}
 use Rattle.layout.specs.Contracts.{refusal}
 use Rattle.layout.specs.Message.{checkHeader, headerNumbers, headerSize, headerWhole, templateId}
 use Rattle.layout.specs.declared.Refusal.{Refusal}
-use Rattle.layout.proofs.Results.{and-left, and-right}
+use Rattle.layout.proofs.Results.{and-left, and-right, inv-if}
 use Rattle.prepared.specs.Positions.{BlockAt}
 use Rattle.prepared.specs.Books.{HoldsBook, locationAmong, locationOf}
 use Rattle.prepared.specs.declared.Located.{Located}
@@ -63,12 +63,9 @@ rows-less : (p : List ℕ) (id a n w : ℕ) → ((i : ℕ) → i < n → word p 
 unfolding locationAmong
 rows-less p id a zero w rows e = absurd (let z : _≡_ {A = ℕ} 0 1 = cc in omega arith)
 rows-less p id a (suc n) w rows e =
-    go (eqb (word p w) id) refl (rows-less p id a n (w + 2) λ i h. rw (shifted w i) at (rows (suc i) (omega arith))) e
-  where
-    go : (t : Bool) → eqb (word p w) id ≡ t → (locationAmong p id n (w + 2) ≡ Located.At a → id < null16)
-        → (if t then Located.At (word p (w + 1)) else locationAmong p id n (w + 2)) ≡ Located.At a → id < null16
-    go true h rest e = omega (arith, eqb-true (word p w) id h, rw (unshifted w) at (rows 0 (omega arith)))
-    go false h rest e = unfold if_then_else_ in rest e
+    inv-if (eqb (word p w) id) e
+    (λ h q. omega (arith, eqb-true (word p w) id h, rw (unshifted w) at (rows 0 (omega arith))))
+    (λ h q. rows-less p id a n (w + 2) (λ i h. rw (shifted w i) at (rows (suc i) (omega arith))) q)
 
 module _ (p : List ℕ) (book : HoldsBook p) (m : List ℕ) (lent : Lent m headerSize) (h : Header) (is : IsHeader m h)
     (a : ℕ) (at : locationOf p (h .template) ≡ Located.At a) where

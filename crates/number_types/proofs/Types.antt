@@ -9,7 +9,7 @@ use Rattle.layout.specs.Result.{_and_, _or_, if_then_else_}
 use Rattle.layout.specs.Types.{TypeRow, char, classify, inRange, int, isSigned, isWidth, rowOf, typeAt, valueOf}
 use Rattle.layout.specs.Types.{widthOf}
 use Rattle.layout.specs.declared.Answer.the-variants.{Number}
-use Rattle.layout.proofs.Results.{or-right}
+use Rattle.layout.proofs.Results.{each-way, or-right}
 use Rattle.layout.proofs.TypeLaws.{Width, each-type, inside-not-null}
 
 -- ---- widths
@@ -28,11 +28,7 @@ each-width P one two four eight w h =
     is 1 one (λ a. is 2 two (λ b. is 4 four (λ c. rw (width-eight w h a b c) eight)))
   where
     is : (k : ℕ) → P k → ((w ≡ k → ⊥) → P w) → P w
-    is k p other = go (eqb w k) refl
-      where
-        go : (b : Bool) → eqb w k ≡ b → P w
-        go true e = rw (eqb-true w k e) p
-        go false e = other (eqb-false w k e)
+    is k p other = each-way (eqb w k) (λ e. rw (eqb-true w k e) p) (λ e. other (eqb-false w k e))
 
 -- ---- the code of a type
 
@@ -42,11 +38,7 @@ integer-at t h k = rw (le-leb 1 t h, le-leb t 8 (omega arith)) refl
 
 pub char-at : (t : ℕ) → (1 ≤ t → 9 ≤ t) → typeAt t ≡ char
 unfolding typeAt if_then_else_ _and_
-char-at t h = go (leb 1 t) refl
-  where
-    go : (b : Bool) → leb 1 t ≡ b → (if b and leb t 8 then rowOf (widthOf t) (isSigned t) else char) ≡ char
-    go true e = rw (lt-leb t 8 (h (leb-true 1 t e))) refl
-    go false e = refl
+char-at t h = each-way (leb 1 t) (λ e. rw (e, lt-leb t 8 (h (leb-true 1 t e))) refl) (λ e. rw e refl)
 
 -- ---- values
 
@@ -83,21 +75,20 @@ module _ (t x n g : ℕ) (s : typeAt t .signed ≡ true) (e : n ≡ typeAt t .nu
 module _ (l g x d s : ℕ) (e : (d + l) % 2 ^ 64 ≡ x) (f : (s + l) % 2 ^ 64 ≡ g) (a : d < 2 ^ 64) (b : s < 2 ^ 64) where
   between : l ≤ g → g < 2 ^ 64 → (leb l x and leb x g) ≡ leb d s
   unfolding _and_
-  between h k = go (leb l x) refl (leb x g) refl
-    where
-      go : (p : Bool) → leb l x ≡ p → (q : Bool) → leb x g ≡ q → (p and q) ≡ leb d s
-      go true p true q = sym (le-leb d s (omega (arith, leb-true l x p, leb-true x g q, e, f)))
-      go true p false q = sym (lt-leb d s (omega (arith, leb-true l x p, leb-false x g q, e, f)))
-      go false p q r = sym (lt-leb d s (omega (arith, leb-false l x p, e, f)))
+  between h k =
+      each-way (leb l x)
+      (λ p. each-way (leb x g)
+      (λ q. rw (p, q) (sym (le-leb d s (omega (arith, leb-true l x p, leb-true x g q, e, f)))))
+      (λ q. rw (p, q) (sym (lt-leb d s (omega (arith, leb-true l x p, leb-false x g q, e, f))))))
+      (λ p. rw p (sym (lt-leb d s (omega (arith, leb-false l x p, e, f)))))
 
   around : g < l → l < 2 ^ 64 → (leb x g or leb l x) ≡ leb d s
   unfolding _or_
-  around h k = go (leb x g) refl (leb l x) refl
-    where
-      go : (p : Bool) → leb x g ≡ p → (q : Bool) → leb l x ≡ q → (p or q) ≡ leb d s
-      go true p q r = sym (le-leb d s (omega (arith, leb-true x g p, e, f)))
-      go false p true q = sym (le-leb d s (omega (arith, leb-false x g p, leb-true l x q, e, f)))
-      go false p false q = sym (lt-leb d s (omega (arith, leb-false x g p, leb-false l x q, e, f)))
+  around h k =
+      each-way (leb x g) (λ p. rw p (sym (le-leb d s (omega (arith, leb-true x g p, e, f)))))
+      (λ p. each-way (leb l x)
+      (λ q. rw (p, q) (sym (le-leb d s (omega (arith, leb-false x g p, leb-true l x q, e, f)))))
+      (λ q. rw (p, q) (sym (lt-leb d s (omega (arith, leb-false x g p, leb-false l x q, e, f))))))
 
 -- So a value is in range where it is no farther than the greatest.
 pub in-span : (t x d s : ℕ) → (d + typeAt t .least) % 2 ^ 64 ≡ x → (s + typeAt t .least) % 2 ^ 64 ≡ typeAt t .greatest

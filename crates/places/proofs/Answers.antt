@@ -1,6 +1,6 @@
 -- The two halves of an answer: the spot that the walk along the path finds, and the element that is read there.
 use mathlib.Core.Path.{_∙_, _≡_, ap, refl, sym}
-use mathlib.Core.Bool.{Bool, false, true}
+use mathlib.Core.Bool.{Bool, false, false≢true, true}
 use mathlib.Core.List.{List, [], _∷_}
 use Prim.Native.Nat.{ℕ, suc, _+_, _-_, _≤_, _<_}
 use native.Mathlib.Omega.{arith}
@@ -14,7 +14,7 @@ use Rattle.layout.specs.Reading.{groupHas, hasElement, hasPlace, stepsOf}
 use Rattle.layout.specs.Values.{Step, Values, answerAt, elementOf, entry}
 use Rattle.layout.specs.declared.Answer.{Answer}
 use Rattle.layout.specs.declared.Element.{Element}
-use Rattle.layout.proofs.Results.{done-inj, inv-bind}
+use Rattle.layout.proofs.Results.{done-inj, each-way, inv-bind, inv-both}
 use Rattle.prepared.specs.Positions.{BlockAt, manyGroups, innerAt, shapeAt}
 use Rattle.places.specs.Spots.{Spot, blockIn, nowhere, spotIn, stepSpot}
 use Rattle.places.specs.Seeks.{stepAt, stepsFrom}
@@ -34,13 +34,11 @@ pub record BlockThere (p : List ℕ) (depth a : ℕ) (ps : List Step) (x : Eleme
 
 has-group : (p : List ℕ) (depth a g : ℕ) (has : Shape → Groups → Bool) → groupHas (innerAt p depth a) g has ≡ true
     → g < manyGroups p a
-has-group p depth a g has h = go (leb (manyGroups p a) g) refl
-  where
-    go : (t : Bool) → leb (manyGroups p a) g ≡ t → g < manyGroups p a
-    go true e =
-        let lacks = has-none g (innerAt p depth a) has (row-drops-all p depth _ _ _ (leb-true (manyGroups p a) g e)) in
-        absurd (let f : false ≡ true = sym lacks ∙ h in let z : _≡_ {A = ℕ} 0 1 = cc in omega arith)
-    go false e = leb-false (manyGroups p a) g e
+has-group p depth a g has h =
+    each-way (leb (manyGroups p a) g)
+    (λ e. let lacks = has-none g _ has (row-drops-all p depth _ _ _ (leb-true (manyGroups p a) g e)) in
+    absurd (false≢true (sym lacks ∙ h)))
+    (leb-false (manyGroups p a) g)
 
 pub block-there : (p : List ℕ) (depth a : ℕ) → BlockAt p depth a → (ps : List Step) (x : Element)
     → hasPlace ps x (shapeAt p a) (innerAt p depth a) ≡ true → BlockThere p depth a ps x
@@ -117,13 +115,12 @@ module _ (m : List ℕ) (v : ℕ) where
       let q = inv-bind _ _ _ h in
       record { end = at; reads = none-left at (r .0) (ap (λ (e : List Answer × ℕ). e .0) (done-inj (q .next))) }
   datas-less (d ∷ ds) n at r h =
-      let a = inv-bind _ _ _ h in
-      let q = inv-bind _ _ _ (a .next) in
-      let on = datas-less ds n (a .value .1) (q .value) (q .first) in
+      let a = inv-both _ _ _ _ h in
+      let on = datas-less ds n (a .value .1) (a .other) (a .second) in
       record {
         end = on .end;
         reads = more-data _ _ (a .first) _ _ (on .reads) _
-            (ap (λ (e : List Answer × ℕ). (e .0, on .end)) (done-inj (q .next)));
+            (ap (λ (e : List Answer × ℕ). (e .0, on .end)) (a .is));
       }
 
   -- Where the entry ends without them.

@@ -19,7 +19,7 @@ use Rattle.layout.specs.declared.Element.{Element}
 use Rattle.layout.specs.declared.Element.the-variants as Element
 use Rattle.layout.specs.declared.Refusal.{Refusal}
 use Rattle.layout.specs.declared.Answer.the-variants.{Absent, Group, Octets}
-use Rattle.layout.proofs.Results.{and-right, done-inj, inv-bind, inv-must}
+use Rattle.layout.proofs.Results.{and-right, done-inj, inv-bind, inv-both, inv-must}
 use Rattle.prepared.specs.Positions.{BlockAt, manyDatas, manyFields, fieldsFrom, manyGroups, groupsFrom, innerAt}
 use Rattle.prepared.specs.Positions.{shapeAt}
 use Rattle.wire.specs.Walks.{skipEnd, walked}
@@ -97,9 +97,8 @@ module _ (m : List ℕ) (v : ℕ) where
       → readGroups m v (more i since s inner rest) n at ≡ done r → GroupHere since at (groupOf 0 (r .0))
   unfolding readGroups groupOf
   first-group i since s inner rest n at r h =
-      let a = inv-bind _ _ _ h in
-      let q = inv-bind _ _ _ (a .next) in
-      let is : groupOf 0 (r .0) ≡ a .value .0 = sym (ap (λ (d : Values × ℕ). groupOf 0 (d .0)) (done-inj (q .next))) in
+      let a = inv-both _ _ _ _ h in
+      let is : groupOf 0 (r .0) ≡ a .value .0 = sym (ap (λ (d : Values × ℕ). groupOf 0 (d .0)) (a .is)) in
       record {
         absent = λ l. is ∙ gone since _ at _ l (a .first);
         fits = λ l. group-read m v s inner at _ (here since _ at _ l (a .first)) .is .fits;
@@ -157,27 +156,25 @@ module _ (m : List ℕ) (v : ℕ) (p : List ℕ) where
   unfolding readDatas parseDatas getD
   data-from zero k a at r less h = absurd (omega arith)
   data-from (suc n) zero a at r less h =
-      let d = inv-bind _ _ _ h in
-      let q = inv-bind _ _ _ (d .next) in
+      let d = inv-both _ _ _ _ h in
       let z : a + 2 * 0 + 1 ≡ a + 1 = omega arith in
       record {
         first = ([], at);
         one = d .value;
         passed = none-data a at;
         reads = rw z (d .first);
-        is = sym (ap (λ (e : List Answer × ℕ). getD (e .0) 0 Absent) (done-inj (q .next)));
+        is = sym (ap (λ (e : List Answer × ℕ). getD (e .0) 0 Absent) (d .is));
       }
   data-from (suc n) (suc k) a at r less h =
-      let d = inv-bind _ _ _ h in
-      let q = inv-bind _ _ _ (d .next) in
-      let on = data-from n k (a + 2) (d .value .1) (q .value) (omega (arith, less)) (q .first) in
+      let d = inv-both _ _ _ _ h in
+      let on = data-from n k (a + 2) (d .value .1) (d .other) (omega (arith, less)) (d .second) in
       let z : a + 2 * suc k + 1 ≡ a + 2 + 2 * k + 1 = omega arith in
       record {
         first = (d .value .0 ∷ on .first .0, on .first .1);
         one = on .one;
         passed = more-data _ _ (d .first) _ _ (on .passed) _ refl;
         reads = rw z (on .reads);
-        is = sym (ap (λ (e : List Answer × ℕ). getD (e .0) (suc k) Absent) (done-inj (q .next))) ∙ on .is;
+        is = sym (ap (λ (e : List Answer × ℕ). getD (e .0) (suc k) Absent) (d .is)) ∙ on .is;
       }
 
   -- A data with this since at `at` that was read is `is`.

@@ -17,7 +17,7 @@ use Rattle.layout.specs.Values.{groupsIn, nil}
 use Rattle.layout.specs.declared.Answer.{Answer}
 use Rattle.layout.specs.declared.Answer.the-variants.{Absent, Group}
 use Rattle.layout.specs.declared.Element.{Element}
-use Rattle.layout.proofs.Results.{done-inj, inv-bind, inv-must}
+use Rattle.layout.proofs.Results.{done-inj, each-way, inv-bind, inv-both, inv-if, inv-must}
 use Rattle.wire.specs.Dimensions.{dimensioned}
 use Rattle.wire.proofs.Dimensions.{Good, good}
 use Rattle.places.specs.Spots.{Block, Spot, blockIn, dropGroups, entriesSpot, firstBlock, firstSpot, nowhere}
@@ -36,11 +36,8 @@ module _ (m : List ℕ) (v : ℕ) where
 
   here-on : (since at : ℕ) (r : Answer × ℕ) → (if leb since v then readData m at else done (Absent, at)) ≡ done r
       → at ≤ r .1
-  here-on since at r = go (leb since v)
-    where
-      go : (t : Bool) → (if t then readData m at else done (Absent, at)) ≡ done r → at ≤ r .1
-      go true h = unfold if_then_else_ in data-on at r h
-      go false h = unfold if_then_else_ in omega (arith, ap (λ (d : Answer × ℕ). d .1) (done-inj h))
+  here-on since at r h =
+      inv-if (leb since v) h (λ t e. data-on at r e) (λ t e. omega (arith, ap (λ (d : Answer × ℕ). d .1) (done-inj e)))
 
   datas-on : (ds : List Data) (at : ℕ) (r : List Answer × ℕ) → readDatas m v ds 0 at ≡ done r → at ≤ r .1
   unfolding readDatas skipDatas
@@ -50,10 +47,9 @@ module _ (m : List ℕ) (v : ℕ) where
       let y : q .value ≡ r .1 = ap (λ (d : List Answer × ℕ). d .1) (done-inj (q .next)) in
       omega arith
   datas-on (d ∷ ds) at r h =
-      let a = inv-bind _ _ _ h in
-      let q = inv-bind _ _ _ (a .next) in
-      let y : q .value .1 ≡ r .1 = ap (λ (d : List Answer × ℕ). d .1) (done-inj (q .next)) in
-      omega (arith, here-on (d .since) at (a .value) (a .first), datas-on ds (a .value .1) (q .value) (q .first))
+      let a = inv-both _ _ _ _ h in
+      let y : a .other .1 ≡ r .1 = ap (λ (d : List Answer × ℕ). d .1) (a .is) in
+      omega (arith, here-on (d .since) at (a .value) (a .first), datas-on ds (a .value .1) (a .other) (a .second))
 
   -- What a block that was read is good for.
   pub record BlockRead (s : Shape) (f : ℕ → Result (Values × ℕ)) (n l at : ℕ) (e : Entry) : Type 0 where
@@ -69,14 +65,13 @@ module _ (m : List ℕ) (v : ℕ) where
   unfolding readBlock
   block-read s f n l at e h =
       let t = inv-bind _ _ _ h in
-      let g = inv-bind _ _ _ (t .next) in
-      let d = inv-bind _ _ _ (g .next) in
-      let is = done-inj (d .next) in
+      let g = inv-both _ _ _ _ (t .next) in
+      let is = g .is in
       record {
         fits = leb-true (at + l) (length m) (inv-must _ _ _ _ (t .first));
         row = g .value;
         groups = g .first;
-        datas = d .first ∙ ap (λ (e : Entry). done (e .2, e .3)) is;
+        datas = g .second ∙ ap (λ (e : Entry). done (e .2, e .3)) is;
         fields = ap (λ (e : Entry). e .0) is;
         same = ap (λ (e : Entry). e .1) is;
       }
@@ -92,10 +87,9 @@ module _ (m : List ℕ) (v : ℕ) where
   unfolding readEntries
   entries-on f on zero at r h = omega (arith, ap (λ (d : Values × ℕ). d .1) (done-inj h))
   entries-on f on (suc n) at r h =
-      let e = inv-bind _ _ _ h in
-      let q = inv-bind _ _ _ (e .next) in
-      let y : q .value .1 ≡ r .1 = ap (λ (d : Values × ℕ). d .1) (done-inj (q .next)) in
-      omega (arith, on _ _ (e .first), entries-on f on n _ _ (q .first))
+      let e = inv-both _ _ _ _ h in
+      let y : e .other .1 ≡ r .1 = ap (λ (d : Values × ℕ). d .1) (e .is) in
+      omega (arith, on _ _ (e .first), entries-on f on n _ _ (e .second))
 
   -- A group that was read.
   pub record GroupRead (s : Shape) (inner : Groups) (at : ℕ) (a : Answer × Values × ℕ) : Type 0 where
@@ -110,13 +104,12 @@ module _ (m : List ℕ) (v : ℕ) where
       → readGroup m v s (readGroups m v inner 0) at ≡ done a → GroupRead s inner at a
   unfolding readGroup dimensioned
   group-read s inner at a h =
-      let d = inv-bind _ _ _ h in
-      let q = inv-bind _ _ _ (d .next) in
-      let whole = done-inj (q .next) in
+      let d = inv-both _ _ _ _ h in
+      let whole = d .is in
       record {
         length = d .value .0;
         count = d .value .1;
-        entries = q .first ∙ ap (λ (e : Answer × Values × ℕ). done (e .1, e .2)) whole;
+        entries = d .second ∙ ap (λ (e : Answer × Values × ℕ). done (e .1, e .2)) whole;
         itself = ap (λ (e : Answer × Values × ℕ). e .0) whole;
         is = good m (need v s) at (d .value .0) (d .value .1) (sym (ap dimensioned (d .first)));
       }
@@ -129,18 +122,13 @@ module _ (m : List ℕ) (v : ℕ) where
       let y : q .value ≡ r .1 = ap (λ (d : Values × ℕ). d .1) (done-inj (q .next)) in
       omega arith
   groups-on (more i since s inner rest) at r h =
-      let a = inv-bind _ _ _ h in
-      let q = inv-bind _ _ _ (a .next) in
-      let y : q .value .1 ≡ r .1 = ap (λ (d : Values × ℕ). d .1) (done-inj (q .next)) in
-      omega (arith, go (leb since v) (a .value) (a .first) (groups-on inner), groups-on rest _ _ (q .first))
-    where
-      go : (t : Bool) (a : Answer × Values × ℕ)
-          → (if t then readGroup m v s (readGroups m v inner 0) at else done (Absent, nil, at)) ≡ done a
-          → ((x : ℕ) (r : Values × ℕ) → readGroups m v inner 0 x ≡ done r → x ≤ r .1) → at ≤ a .2
-      go true a h on = unfold if_then_else_ in
-          let g = group-read s inner at a h in
-          omega (arith, entries-on _ (block-on s _ on (g .length)) _ _ _ (g .entries))
-      go false a h on = unfold if_then_else_ in omega (arith, ap (λ (d : Answer × Values × ℕ). d .2) (done-inj h))
+      let a = inv-both _ _ _ _ h in
+      let y : a .other .1 ≡ r .1 = ap (λ (d : Values × ℕ). d .1) (a .is) in
+      let on : at ≤ a .value .2 = inv-if (leb since v) (a .first)
+      (λ t e. let g = group-read s inner at _ e in
+      omega (arith, entries-on _ (block-on s _ (groups-on inner) (g .length)) _ _ _ (g .entries)))
+      (λ t e. omega (arith, ap (λ (d : Answer × Values × ℕ). d .2) (done-inj e))) in
+      omega (arith, groups-on rest _ _ (a .second))
 
 -- ---- nothing
 
@@ -184,28 +172,19 @@ module _ (m : List ℕ) (v : ℕ) where
         (openedSpot m v e (spotIn m v p inner) s inner at (readDimension m (need v s) at))
         (λ x. answerAt p x (entriesFrom e (a .1)))
     unfolding openedSpot
-    group-leads s inner at e a g = rw (g .is .is) (go (leb (g .count) e) refl)
-      where
-        f : ℕ → Result Entry
-        f = readBlock m v s (readGroups m v inner 0) 0 (g .length)
-
-        go : (t : Bool) → leb (g .count) e ≡ t
-            → Leads m v (blockIn p (s, inner))
-            (entriesSpot f (spotIn m v p inner (g .length)) (g .count - e) nowhere (g .count) (at + dimensionSize))
-            (λ x. answerAt p x (entriesFrom e (a .1)))
-        go true t =
-            let few = leb-true (g .count) e t in
-            missing (spots-past _ _ _ _ _ _ λ i l k. omega (arith, few, k))
-            (λ x. ap (answerAt p x) (entries-few _ _ _ _ _ (g .entries) few) ∙ nothing p x)
-        go false t =
-            let less = leb-false (g .count) e t in
-            let turn = spots-turn _ (spotIn m v p inner (g .length)) (g .count - e)
-            (block-on m v s _ (groups-on m v inner) (g .length)) nowhere _ _ _ (g .entries) (omega (arith, less))
-            (omega arith) in
-            let k : g .count - (g .count - e) ≡ e = omega (arith, less) in
-            retold refl (turn .spot) (λ x. ap (answerAt p x) (rw k at (turn .from)))
-            (inside (s, inner) (g .length) (turn .start) (turn .value) (turn .rest) (omega (arith, turn .after))
-            (g .is .enough) (turn .reads))
+    group-leads s inner at e a g =
+        rw (g .is .is) (each-way (leb (g .count) e)
+        (λ t. let few = leb-true (g .count) e t in
+        missing (spots-past _ _ _ _ _ _ λ i l k. omega (arith, few, k))
+        (λ x. ap (answerAt p x) (entries-few _ _ _ _ _ (g .entries) few) ∙ nothing p x))
+        (λ t. let less = leb-false (g .count) e t in
+        let turn = spots-turn _ (spotIn m v p inner (g .length)) (g .count - e)
+        (block-on m v s _ (groups-on m v inner) (g .length)) nowhere _ _ _ (g .entries) (omega (arith, less))
+        (omega arith) in
+        let k : g .count - (g .count - e) ≡ e = omega (arith, less) in
+        retold refl (turn .spot) (λ x. ap (answerAt p x) (rw k at (turn .from)))
+        (inside (s, inner) (g .length) (turn .start) (turn .value) (turn .rest) (omega (arith, turn .after))
+        (g .is .enough) (turn .reads))))
 
     -- Entry e of the first group of a row that was read.
     first-leads : (b : Block) (e : ℕ) (gs : Groups) (n at : ℕ) (r : Values × ℕ) → readGroups m v gs n at ≡ done r
@@ -216,20 +195,16 @@ module _ (m : List ℕ) (v : ℕ) where
         let is = ap (λ (d : Values × ℕ). entriesFrom e (entriesOf 0 (d .0))) (done-inj (inv-bind _ _ _ h .next)) in
         missing refl (λ x. ap (answerAt p x) (sym is ∙ no-entries e) ∙ nothing p x)
     first-leads b e (more i since s inner rest) n at r h =
-        let a = inv-bind _ _ _ h in
-        let q = inv-bind _ _ _ (a .next) in
-        let is = ap (λ (d : Values × ℕ). entriesFrom e (entriesOf 0 (d .0))) (done-inj (q .next)) in
-        retold refl refl (λ x. ap (answerAt p x) (sym is)) (go (leb since v) (a .value) (a .first))
-      where
-        go : (t : Bool) (a : Answer × Values × ℕ)
-            → (if t then readGroup m v s (readGroups m v inner 0) at else done (Absent, nil, at)) ≡ done a
-            → Leads m v (blockIn p (s, inner))
-            (if t then openedSpot m v e (spotIn m v p inner) s inner at (readDimension m (need v s) at) else nowhere)
-            (λ x. answerAt p x (entriesFrom e (a .1)))
-        go true a h = unfold if_then_else_ in group-leads s inner at e a (group-read m v s inner at a h)
-        go false a h = unfold if_then_else_ in
-            let is = ap (λ (d : Answer × Values × ℕ). entriesFrom e (d .1)) (done-inj h) in
-            missing refl (λ x. ap (answerAt p x) (sym is ∙ no-entries e) ∙ nothing p x)
+        let a = inv-both _ _ _ _ h in
+        let is = ap (λ (d : Values × ℕ). entriesFrom e (entriesOf 0 (d .0))) (a .is) in
+        let spot = openedSpot m v e (spotIn m v p inner) s inner at (readDimension m (need v s) at) in
+        inv-if (leb since v) (a .first)
+        (λ t h. let same : (if leb since v then spot else nowhere) ≡ spot = unfold if_then_else_ in rw t refl in
+        retold refl same (λ x. ap (answerAt p x) (sym is))
+        (group-leads s inner at e _ (group-read m v s inner at _ h)))
+        (λ t h. let none-here = ap (λ (d : Answer × Values × ℕ). entriesFrom e (d .1)) (done-inj h) in
+        missing (unfold if_then_else_ in rw t refl)
+        (λ x. ap (answerAt p x) (sym is ∙ sym none-here ∙ no-entries e) ∙ nothing p x))
 
     -- A step from a row that was read, with n surplus groups.
     step-leads : (b : Block) (s : Step) (n at : ℕ) (r : Values × ℕ) → readGroups m v (b .1) n at ≡ done r

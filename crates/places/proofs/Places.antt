@@ -12,6 +12,7 @@ use Rattle.prepared.specs.Positions.{shapeAt}
 use Rattle.prepared.proofs.Open.{no-groups-at, open-row}
 use Rattle.places.specs.Spots.{dropGroups, takeGroups}
 use Rattle.places.specs.Seeks.{Path, rowAfter, stepAt, stepsFrom}
+use Rattle.layout.proofs.Results.{none-left, one-less, some-left}
 
 -- The first g of n groups in a row are a row, and so are the others.
 pub record RowHalves (p : List ℕ) (depth n g a : ℕ) : Type 0 where
@@ -71,13 +72,11 @@ row-drops-all p (suc depth) (suc n) (suc g) a h = row-drops-all p (suc depth) n 
 
 pub row-after-none : (p : List ℕ) (n a : ℕ) → n ≤ 0 → rowAfter p n a ≡ a
 unfolding rowAfter
-row-after-none p zero a h = refl
-row-after-none p (suc n) a h = absurd (omega arith)
+row-after-none p n a h = rw (none-left h) refl
 
 pub row-after-next : (p : List ℕ) (n a : ℕ) → 0 < n → rowAfter p n a ≡ rowAfter p (n - 1) (nextFrom p a)
 unfolding rowAfter
-row-after-next p zero a h = absurd (omega arith)
-row-after-next p (suc n) a h = let q : suc n - 1 ≡ n = omega arith in rw q refl
+row-after-next p n a h = rw (some-left h, one-less) refl
 
 -- ---- steps
 

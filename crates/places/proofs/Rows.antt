@@ -12,7 +12,7 @@ use Rattle.layout.specs.Message.{Entry, readEntries, readGroup, readGroups, ski
 use Rattle.layout.specs.Values.{Values, entriesFrom, entriesOf, entry, group, groupOf, nil}
 use Rattle.layout.specs.declared.Answer.{Answer}
 use Rattle.layout.specs.declared.Answer.the-variants.{Absent}
-use Rattle.layout.proofs.Results.{done-inj, inv-bind}
+use Rattle.layout.proofs.Results.{done-inj, each-way, inv-bind, inv-both}
 use Rattle.places.specs.Spots.{Spot, dropGroups, entriesSpot, endOfEntry, takeGroups}
 
 -- ---- groups
@@ -67,11 +67,10 @@ module _ (m : List ℕ) (v : ℕ) where
         group = rw (← e) refl;
       }
   row-from (suc g) (more i since s inner rest) n at r h =
-      let a = inv-bind _ _ _ h in
-      let q = inv-bind _ _ _ (a .next) in
-      let gv = ap (λ (d : Values × ℕ). d .0) (done-inj (q .next)) in
-      let end = ap (λ (d : Values × ℕ). d .1) (done-inj (q .next)) in
-      let on = row-from g rest n (a .value .2) (q .value) (q .first) in
+      let a = inv-both _ _ _ _ h in
+      let gv = ap (λ (d : Values × ℕ). d .0) (a .is) in
+      let end = ap (λ (d : Values × ℕ). d .1) (a .is) in
+      let on = row-from g rest n (a .value .2) (a .other) (a .second) in
       record {
         first = grouped (a .value) (on .first);
         value = on .value;
@@ -115,9 +114,8 @@ module _ (f : ℕ → Result Entry) where
   entries-few zero (suc e) at r h less = rw (← (done-inj h)) refl
   entries-few (suc k) zero at r h less = absurd (omega arith)
   entries-few (suc k) (suc e) at r h less =
-      let p = inv-bind _ _ _ h in
-      let q = inv-bind _ _ _ (p .next) in
-      rw (← (done-inj (q .next))) (entries-few k e _ (q .value) (q .first) (omega (arith, less)))
+      let p = inv-both _ _ _ _ h in
+      rw (← (p .is)) (entries-few k e _ (p .other) (p .second) (omega (arith, less)))
 
   module _ (inside : ℕ → Spot) (turn : ℕ) where
     -- No entry's turn comes.
@@ -142,42 +140,38 @@ module _ (f : ℕ → Result Entry) where
         → f at ≡ done e → turn ≤ suc n → (turn ≤ n → Turn z n (e .3) r) → (es : Values)
         → es ≡ entry (e .0) (e .1) (e .2) r → Turn z (suc n) at es
     unfolding entriesSpot entriesFrom endOfEntry if_then_else_
-    turn-next on z n at e r reads few next es whole = go (eqb (suc n) turn) refl
-      where
-        go : (t : Bool) → eqb (suc n) turn ≡ t → Turn z (suc n) at es
-        go true is =
-            let same = eqb-true (suc n) turn is in
-            let last : suc n - turn ≡ 0 = omega (arith, same) in
-            record {
-              start = at;
-              value = e;
-              rest = r;
-              reads = reads;
-              spot = rw is (spots-past (inside at) n _ λ i l k. omega (arith, l, k, same));
-              from = rw (whole, last) refl;
-              after = omega arith;
-            }
-        go false is =
-            let less : turn ≤ n = omega (arith, few, eqb-false (suc n) turn is) in
-            let there = next less in
-            let later : suc n - turn ≡ suc (n - turn) = omega arith in
-            record {
-              start = there .start;
-              value = there .value;
-              rest = there .rest;
-              reads = there .reads;
-              spot = rw (is, reads) (there .spot);
-              from = rw (whole, later) (there .from);
-              after = omega (arith, there .after, on _ _ reads);
-            }
+    turn-next on z n at e r reads few next es whole =
+        each-way (eqb (suc n) turn)
+        (λ is. let same = eqb-true (suc n) turn is in
+        let last : suc n - turn ≡ 0 = omega (arith, same) in
+        record {
+          start = at;
+          value = e;
+          rest = r;
+          reads = reads;
+          spot = rw is (spots-past (inside at) n _ λ i l k. omega (arith, l, k, same));
+          from = rw (whole, last) refl;
+          after = omega arith;
+        })
+        (λ is. let less : turn ≤ n = omega (arith, few, eqb-false (suc n) turn is) in
+        let there = next less in
+        let later : suc n - turn ≡ suc (n - turn) = omega arith in
+        record {
+          start = there .start;
+          value = there .value;
+          rest = there .rest;
+          reads = there .reads;
+          spot = rw (is, reads) (there .spot);
+          from = rw (whole, later) (there .from);
+          after = omega (arith, there .after, on _ _ reads);
+        })
 
     pub spots-turn : ((x : ℕ) (e : Entry) → f x ≡ done e → x ≤ e .3) → (z : Spot) (n at : ℕ) (r : Values × ℕ)
         → readEntries n f at ≡ done r → 0 < turn → turn ≤ n → Turn z n at (r .0)
     unfolding readEntries
     spots-turn on z zero at r h some few = absurd (omega arith)
     spots-turn on z (suc n) at r h some few =
-        let p = inv-bind (f at) _ _ h in
-        let q = inv-bind _ _ _ (p .next) in
-        turn-next on z n at (p .value) (q .value .0) (p .first) few
-        (λ less. spots-turn on z n (p .value .3) (q .value) (q .first) some less) (r .0)
-        (sym (ap (λ (d : Values × ℕ). d .0) (done-inj (q .next))))
+        let p = inv-both (f at) _ _ _ h in
+        turn-next on z n at (p .value) (p .other .0) (p .first) few
+        (λ less. spots-turn on z n (p .value .3) (p .other) (p .second) some less) (r .0)
+        (sym (ap (λ (d : Values × ℕ). d .0) (p .is)))

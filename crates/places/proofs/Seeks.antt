@@ -17,7 +17,7 @@ use Rattle.layout.specs.Values.{Values, measure}
 use Rattle.layout.specs.declared.Refusal.{Refusal}
 use Rattle.prepared.specs.Positions.{BlockAt, IsBlock, manyDatas, datasFrom, manyFields, manyGroups, groupsFrom}
 use Rattle.prepared.specs.Positions.{innerAt, shapeAt}
-use Rattle.prepared.proofs.Open.{no-groups-at}
+use Rattle.prepared.proofs.Open.{no-datas-at, no-groups-at}
 use Rattle.wire.specs.Dimensions.{dimensioned}
 use Rattle.wire.specs.Walks.{walked}
 use Rattle.wire.specs.declared.Dimension as Dimension
@@ -27,7 +27,6 @@ use Rattle.wire.proofs.Dimensions.{good}
 use Rattle.wire.proofs.Answers.{inv-refused, inv-to}
 use Rattle.walk.specs.Walks.{Bounded, datasEnd, entryEnd, rowAt, valuesEnd}
 use Rattle.walk.proofs.Blocks.{block-whole}
-use Rattle.walk.proofs.Datas.{no-datas-at}
 use Rattle.walk.proofs.Entries.{entry-datas, entry-next, entry-row, entry-short, plain-walked}
 use Rattle.walk.proofs.Rows.{row-absent, row-dimension, row-entries, row-next}
 use Rattle.places.specs.Spots.{Spot, dropGroups, endOfEntry, endOfRow, entriesSpot, firstSpot, nowhere}
@@ -38,6 +37,7 @@ use Rattle.places.specs.declared.Row.{Row}
 use Rattle.places.specs.declared.Row.the-variants.{To, Refused}
 use Rattle.places.proofs.Rows.{ended, row-cut, spots-past}
 use Rattle.places.proofs.Places.{RowHalves, group-halves, row-drops-all, steps-done, steps-next}
+use Rattle.layout.proofs.Results.{each-way, none-left, one-less, some-left}
 
 -- ---- from the checking walk
 
@@ -191,7 +191,7 @@ module _ (m : List ℕ) (v : ℕ) (s : Shape) (gs : Groups) (l : ℕ) (inside : 
 
     pub entries-done : n ≤ 0 → left ≡ To at (z .0) (z .1)
     unfolding readEntries entriesSpot rowed
-    entries-done h = let none : n ≡ 0 = omega arith in rw none refl
+    entries-done h = rw (none-left h) refl
 
     module _ (h : 0 < n) where
       pub entry-short-on : length m < at + l → left ≡ Refused (refusal 16 at)
@@ -215,8 +215,7 @@ module _ (m : List ℕ) (v : ℕ) (s : Shape) (gs : Groups) (l : ℕ) (inside : 
           spots-step : (n : ℕ) → 0 < n → entriesSpot entryIs inside turn z n at
               ≡ entriesSpot entryIs inside turn (if eqb n turn then inside at else z) (n - 1) (endOfEntry (entryIs at))
           unfolding entriesSpot
-          spots-step zero h = absurd (omega arith)
-          spots-step (suc n) h = let q : suc n - 1 ≡ n = omega arith in rw q refl
+          spots-step n h = rw (some-left h, one-less) refl
 
           pub entry-next-on : y ≡ (if eqb n turn then inside at else z) → (w j : ℕ)
               → Walked.the-variants.To w j ≡ walked (datasEnd 0) (readDatas m v (s .datas) 0 x)
@@ -243,26 +242,19 @@ module _ (m : List ℕ) (v : ℕ) (s : Shape) (gs : Groups) (l : ℕ) (no-groups
   -- The entry whose turn it is.
   plain-turn : (inside : ℕ → Spot) (turn : ℕ) (z : Spot) (n at : ℕ) → 0 < turn → turn ≤ n → at + l * n ≤ length m
       → entriesSpot plainIs inside turn z n at ≡ inside (at + l * (n - turn))
-  unfolding entriesSpot
+  unfolding entriesSpot if_then_else_
   plain-turn inside turn z zero at some few fit = absurd (omega arith)
   plain-turn inside turn z (suc n) at some few fit =
       let fits : at + l + l * n ≤ length m = omega arith in
-      rw (plain-end at (omega arith))
-      (go (eqb (suc n) turn) refl (λ less. plain-turn inside turn z n (at + l) some less fits))
-    where
-      go : (t : Bool) → eqb (suc n) turn ≡ t
-          → (turn ≤ n → entriesSpot plainIs inside turn z n (at + l) ≡ inside (at + l + l * (n - turn)))
-          → entriesSpot plainIs inside turn (if t then inside at else z) n (at + l) ≡ inside (at + l * (suc n - turn))
-      go true is next = unfold if_then_else_ in
-          let same = eqb-true (suc n) turn is in
-          let none-left : suc n - turn ≡ 0 = omega (arith, same) in
-          let last : at + l * (suc n - turn) ≡ at = rw none-left (omega arith) in
-          rw last (spots-past _ inside turn (inside at) n _ λ i h k. omega (arith, h, k, same))
-      go false is next = unfold if_then_else_ in
-          let less : turn ≤ n = omega (arith, few, eqb-false (suc n) turn is) in
-          let later : suc n - turn ≡ suc (n - turn) = omega arith in
-          let on : at + l * suc (n - turn) ≡ at + l + l * (n - turn) = omega arith in
-          rw (later, on) (next less)
+      rw (plain-end at (omega arith)) (each-way (eqb (suc n) turn)
+      (λ is. let same = eqb-true (suc n) turn is in
+      let none-left : suc n - turn ≡ 0 = omega (arith, same) in
+      let last : at + l * (suc n - turn) ≡ at = rw none-left (omega arith) in
+      rw (is, last) (spots-past _ inside turn (inside at) n _ λ i h k. omega (arith, h, k, same)))
+      (λ is. let less : turn ≤ n = omega (arith, few, eqb-false (suc n) turn is) in
+      let later : suc n - turn ≡ suc (n - turn) = omega arith in
+      let on : at + l * suc (n - turn) ≡ at + l + l * (n - turn) = omega arith in
+      rw (is, later, on) (plain-turn inside turn z n (at + l) some less fits)))
 
   drops-none : (g : ℕ) → dropGroups g none ≡ none
   unfolding dropGroups
@@ -273,32 +265,24 @@ module _ (m : List ℕ) (v : ℕ) (s : Shape) (gs : Groups) (l : ℕ) (no-groups
   plain-inside : (path : List ℕ) (i : ℕ) → Path path i → (x : ℕ)
       → spotIn m v (stepsFrom path i) gs l x ≡ (if eqb (length path) i then (x, l) else nowhere)
   unfolding spotIn firstSpot if_then_else_
-  plain-inside path i q x = go (eqb (length path) i) refl
-    where
-      go : (t : Bool) → eqb (length path) i ≡ t
-          → spotIn m v (stepsFrom path i) gs l x ≡ (if t then (x, l) else nowhere)
-      go true e = rw (steps-done path i (omega (arith, eqb-true (length path) i e))) refl
-      go false e =
-          let some : i + 2 ≤ length path = omega (arith, q .even, q .inside, eqb-false (length path) i e) in
-          rw (steps-next path i some, no-groups, drops-none (word path i)) refl
+  plain-inside path i q x =
+      each-way (eqb (length path) i)
+      (λ e. rw (e, steps-done path i (omega (arith, eqb-true (length path) i e))) refl)
+      (λ e. let some : i + 2 ≤ length path = omega (arith, q .even, q .inside, eqb-false (length path) i e) in
+      rw (e, steps-next path i some, no-groups, drops-none (word path i)) refl)
 
   pub plain-spot : (path : List ℕ) (i : ℕ) → Path path i → (k e at : ℕ) → at + l * k ≤ length m
       → entriesSpot plainIs (spotIn m v (stepsFrom path i) gs l) (k - e) nowhere k at
       ≡ plainSpot l k at e (eqb (length path) i)
-  plain-spot path i q k e at fit = go (ltb e k) refl
-    where
-      go : (t : Bool) → ltb e k ≡ t
-          → entriesSpot plainIs (spotIn m v (stepsFrom path i) gs l) (k - e) nowhere k at
-          ≡ (if t then (if eqb (length path) i then (at + l * e, l) else nowhere) else nowhere)
-      go true t = unfold if_then_else_ in
-          let less = ltb-true e k t in
-          let back : k - (k - e) ≡ e = omega (arith, less) in
-          (rw back at (plain-turn (spotIn m v (stepsFrom path i) gs l) (k - e) nowhere k at (omega (arith, less))
-          (omega arith) fit))
-          ∙ plain-inside path i q (at + l * e)
-      go false t = unfold if_then_else_ in
-          spots-past _ (spotIn m v (stepsFrom path i) gs l) (k - e) nowhere k at
-          λ j h c. omega (arith, c, ltb-false e k t)
+  unfolding if_then_else_
+  plain-spot path i q k e at fit =
+      let inside = spotIn m v (stepsFrom path i) gs l in
+      each-way (ltb e k)
+      (λ t. let less = ltb-true e k t in
+      let back : k - (k - e) ≡ e = omega (arith, less) in
+      rw t ((rw back at (plain-turn inside (k - e) nowhere k at (omega (arith, less)) (omega arith) fit))
+      ∙ plain-inside path i q (at + l * e)))
+      (λ t. rw t (spots-past _ inside (k - e) nowhere k at λ j h c. omega (arith, c, ltb-false e k t)))
 
 -- ---- the row of an entry
 

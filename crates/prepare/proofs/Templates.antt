@@ -15,6 +15,7 @@ use Rattle.prepare.specs.Templates.{AreTemplates, IsTemplate, bodyAt, bo
 use Rattle.prepare.specs.Templates.{templatesAt}
 use Rattle.prepare.proofs.Filling.{set-again, set-past, sets-past}
 use Rattle.prepare.proofs.Rows.{group-size}
+use Rattle.layout.proofs.Results.{none-left, one-less, some-left}
 
 -- The octets of the book from `2 * k` to `2 * k + 2 * n` are the body of the template whose row is at word w.
 pub part-is : (s : List ℕ) (w k n : ℕ) → k ≡ word (wordsOf s) (w + 1) → n ≡ word (wordsOf s) (w + 2)
@@ -25,13 +26,11 @@ part-is s w k n p q = rw (p, q) refl
 
 templates-step : (s : List ℕ) (n w : ℕ) → 0 < n → templatesAt s n w ≡ templateAt s w ∷ templatesAt s (n - 1) (w + 3)
 unfolding templatesAt
-templates-step s zero w h = absurd (omega arith)
-templates-step s (suc n) w h = let j : suc n - 1 ≡ n = omega arith in rw j refl
+templates-step s n w h = rw (some-left h, one-less) refl
 
 templates-none : (s : List ℕ) (n w : ℕ) → n ≤ 0 → templatesAt s n w ≡ []
 unfolding templatesAt
-templates-none s zero w h = refl
-templates-none s (suc n) w h = absurd (omega arith)
+templates-none s n w h = rw (none-left h) refl
 
 pub length-templates : (s : List ℕ) (n w : ℕ) → length (templatesAt s n w) ≡ n
 unfolding templatesAt

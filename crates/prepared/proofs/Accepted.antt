@@ -13,7 +13,7 @@ use Rattle.layout.specs.Book.{Book, Groups, Shape, Template, groupSinces, more,
 use Rattle.layout.specs.BookRules.{ContentsRow, bookOf, contentsGood, eachMust, fieldsSince, groupsGood, groupsSince}
 use Rattle.layout.specs.BookRules.{layoutGood, parseBodies, parseBody, parseContents, parseDatas, parseFields}
 use Rattle.layout.specs.BookRules.{parseGroups, parseShape, rising, shapeGood, shapeSince, sinceGood, word}
-use Rattle.layout.proofs.Results.{and-left, and-right, done-inj, inv-bind, inv-must, inv-refusal}
+use Rattle.layout.proofs.Results.{and-left, and-right, done-inj, inv-bind, inv-both, inv-must, inv-refusal}
 use Rattle.book.proofs.Words.{length-words}
 use Rattle.prepared.specs.Numbers.{blockSize, count, groupsSize, sizesOf}
 use Rattle.prepared.specs.Fits.{FitTemplates, Fits, FitsBook, FitsShape}
@@ -109,11 +109,10 @@ groups-fit b version low high h (suc depth) zero w r e = λ l g.
 groups-fit b version low high h zero (suc n) w r e = λ l g. absurd (let z : _≡_ {A = ℕ} 0 1 = cc in omega arith)
 groups-fit b version low high h (suc depth) (suc n) w r e =
     let p = inv-bind _ _ _ e in
-    let q = inv-bind _ _ _ (p .next) in
-    let k = inv-bind _ _ _ (q .next) in
+    let q = inv-both _ _ _ _ (p .next) in
     let few = shape-few b 1 (w + 2) (p .value) (p .first) in
     subst (λ (x : Groups × ℕ). groupsGood (x .0) ≡ true → groupsSince version low high (x .0) ≡ true
-    → AreFit version (suc depth) (suc n) w x) (done-inj (k .next))
+    → AreFit version (suc depth) (suc n) w x) (q .is)
     (λ l g.
     let since = word b (w + 1) in
     let l₁ = and-right _ _ l in
@@ -123,7 +122,7 @@ groups-fit b version low high h (suc depth) (suc n) w r e =
     let u : since ≤ version = omega (arith, leb-true since high (and-left _ _ g₁)) in
     let inner = groups-fit b version since since u depth (p .value .1) (p .value .2) (q .value) (q .first)
     (and-left _ _ l₁) (and-left _ _ g₃) in
-    let rest = groups-fit b version since high h (suc depth) n (q .value .1) (k .value) (k .first)
+    let rest = groups-fit b version since high h (suc depth) n (q .value .1) (q .other) (q .second)
     (and-right _ _ l₁) (and-right _ _ g₃) in
     record {
       fits = (
@@ -148,13 +147,12 @@ body-fits : (b : List ℕ) (version id : ℕ) (r : Shape × Groups) → parseBod
 unfolding parseBody Fits groupsSize
 body-fits b version id r e =
     let p = inv-bind _ _ _ e in
-    let q = inv-bind _ _ _ (p .next) in
-    let k = inv-bind _ _ _ (q .next) in
+    let q = inv-both _ _ _ _ (p .next) in
     let few = shape-few b 0 0 (p .value) (p .first) in
-    let all = eqb-true (q .value .1) (length b) (inv-must _ _ _ _ (k .first)) in
+    let all = eqb-true (q .value .1) (length b) (inv-must _ _ _ _ (q .second)) in
     subst (λ (x : Shape × Groups). layoutGood (record { id = id; shape = x .0; groups = x .1 }) ≡ true
     → sinceGood version (record { id = id; shape = x .0; groups = x .1 }) ≡ true → BodyFits b version id x)
-    (done-inj (k .next))
+    (q .is)
     (λ l g.
     let v = le-refl version in
     let inner = groups-fit b version 0 version v 4 (p .value .1) (p .value .2) (q .value) (q .first)
@@ -197,16 +195,15 @@ bodies-fit b version total low at n [] ts c e = λ l g.
     subst (TemplatesFit version low at total []) (done-inj e)
     (record { fits = tt; counted = refl; size = omega (arith, eqb-true at total c) })
 bodies-fit b version total low at n (r ∷ rs) ts c e =
-    let p = inv-bind _ _ _ e in
-    let q = inv-bind _ _ _ (p .next) in
+    let p = inv-both _ _ _ _ e in
     let c₁ = and-right _ _ c in
     let c₂ = and-right _ _ c₁ in
     subst (λ (xs : List Template). Each (λ t. layoutGood t ≡ true) xs → Each (λ t. sinceGood version t ≡ true) xs
-    → TemplatesFit version low at total (r ∷ rs) xs) (done-inj (q .next))
+    → TemplatesFit version low at total (r ∷ rs) xs) (p .is)
     (λ l g.
     let body = body-fits _ version (r .id) (p .value) (inv-refusal _ _ _ _ (p .first)) (l .0) (g .0) in
-    let rest = bodies-fit b version total (suc (r .id)) (at + r .words) (suc n) rs (q .value) (and-right _ _ c₂)
-    (q .first) (l .1) (g .1) in
+    let rest = bodies-fit b version total (suc (r .id)) (at + r .words) (suc n) rs (p .other) (and-right _ _ c₂)
+    (p .second) (l .1) (g .1) in
     record {
       fits = (leb-true _ _ (and-left _ _ c), ltb-true _ _ (and-left _ _ c₁), body .fits, rest .fits);
       counted = ap suc (rest .counted);
@@ -225,8 +222,7 @@ accepted-fits octets b e =
     let p₂ = inv-bind _ _ _ (p₁ .next) in
     let p₃ = inv-bind _ _ _ (p₂ .next) in
     let p₄ = inv-bind _ _ _ (p₃ .next) in
-    let p₅ = inv-bind _ _ _ (p₄ .next) in
-    let p₆ = inv-bind _ _ _ (p₅ .next) in
+    let p₅ = inv-both _ _ _ _ (p₄ .next) in
     let ws = wordsOf octets in
     let n = word ws 2 in
     let version = word ws 1 in
@@ -236,9 +232,9 @@ accepted-fits octets b e =
     let h₁ = and-right _ _ h in
     let h₃ = and-right _ _ (and-right _ _ h₁) in
     let fit = bodies-fit ws version (length ws) 0 (4 + 3 * n) 0 _ ts (inv-must _ _ _ _ (p₃ .first)) (p₄ .first)
-    (each-good _ 5 0 ts (p₅ .value) (p₅ .first)) (each-good _ 6 0 ts (p₆ .value) (p₆ .first)) in
+    (each-good _ 5 0 ts (p₅ .value) (p₅ .first)) (each-good _ 6 0 ts (p₅ .other) (p₅ .second)) in
     let counted : length ts ≡ n = fit .counted ∙ contents-length ws n 4 in
-    subst FitsBook (done-inj (p₆ .next))
+    subst FitsBook (p₅ .is)
     (record {
       schema = ltb-true _ _ (and-left _ _ h);
       version = ltb-true _ _ (and-left _ _ h₁);

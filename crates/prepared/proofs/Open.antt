@@ -1,14 +1,15 @@
 -- What a pass over prepared numbers cites instead of a check.
 use mathlib.Core.Path.{_≡_, refl}
-use mathlib.Core.List.{List}
+use mathlib.Core.List.{List, []}
 use Prim.Native.Nat.{ℕ, zero, suc, _+_, _-_, _≤_, _<_}
 use native.Mathlib.Omega.{arith}
 use lib.ListN.{length}
 use borrow.Author.Tests.{le-leb}
 use Rattle.layout.specs.Result.{if_then_else_}
 use Rattle.layout.specs.Book.{groupSinces, none, present}
-use Rattle.layout.specs.BookRules.{word}
+use Rattle.layout.specs.BookRules.{parseDatas, word}
 use Rattle.prepared.specs.Positions.{IsRow, Opened, groupsAt, nextFrom, versionAt}
+use Rattle.layout.proofs.Results.{none-left}
 
 -- No groups are no tree.
 pub no-groups-at : (p : List ℕ) (depth n a : ℕ) → n ≤ 0 → groupsAt p depth n a ≡ none
@@ -16,6 +17,10 @@ unfolding groupsAt
 no-groups-at p zero zero a h = refl
 no-groups-at p (suc depth) zero a h = refl
 no-groups-at p depth (suc n) a h = absurd (omega arith)
+
+pub no-datas-at : (p : List ℕ) (n a : ℕ) → n ≤ 0 → parseDatas p n a ≡ []
+unfolding parseDatas
+no-datas-at p n a h = rw (none-left h) refl
 
 -- The first of the groups that are left.
 pub open-row : (p : List ℕ) (depth n a : ℕ) → 0 < n → IsRow p depth n a → Opened p depth n a

@@ -10,6 +10,7 @@ use Rattle.layout.specs.Result.{if_then_else_}
 use Rattle.layout.specs.BookRules.{word}
 use Rattle.prepared.specs.Books.{HoldsBook, blockOf, idOf, locationAmong, locationOf}
 use Rattle.prepared.specs.declared.Located.the-variants.{At, Unknown}
+use Rattle.layout.proofs.Results.{each-way}
 
 pub shifted : (w i : ℕ) → w + 2 * suc i ≡ w + 2 + 2 * i
 shifted w i = omega arith
@@ -43,14 +44,11 @@ module _ (p : List ℕ) (id : ℕ) where
 
 module _ (p : List ℕ) (book : HoldsBook p) where
   rises-back : (i j : ℕ) → i < word p 2 → j < word p 2 → idOf p i < idOf p j → i < j
-  rises-back i j h k less = go (ltb i j) refl (ltb j i) refl
-    where
-      go : (s : Bool) → ltb i j ≡ s → (t : Bool) → ltb j i ≡ t → i < j
-      go true e t q = ltb-true i j e
-      go false e true q = absurd (omega (arith, book .rising j i (ltb-true j i q) h))
-      go false e false q =
-          let same : i ≡ j = omega (arith, ltb-false i j e, ltb-false j i q) in
-          absurd (omega (arith, ap (idOf p) same))
+  rises-back i j h k less =
+      each-way (ltb i j) (ltb-true i j)
+      (λ e. each-way (ltb j i) (λ q. absurd (omega (arith, book .rising j i (ltb-true j i q) h)))
+      (λ q. let same : i ≡ j = omega (arith, ltb-false i j e, ltb-false j i q) in
+      absurd (omega (arith, ap (idOf p) same))))
 
   module _ (id : ℕ) where
     pub found-at : (i : ℕ) → i < word p 2 → idOf p i ≡ id → locationOf p id ≡ At (blockOf p i)

@@ -14,7 +14,7 @@ use Rattle.layout.specs.Message.{readBlock, readData, readDatas, readDimension,
 use Rattle.layout.specs.Message.{readGroups, skipDatas, skipGroups}
 use Rattle.layout.specs.declared.Answer.{Answer}
 use Rattle.layout.specs.declared.Answer.the-variants.{Absent, Group, Octets}
-use Rattle.layout.proofs.Results.{bind-done, done-inj}
+use Rattle.layout.proofs.Results.{bind-done, done-inj, none-left, one-less, some-left}
 use Rattle.wire.specs.Walks.{skipEnd, walked}
 use Rattle.wire.specs.declared.Walked.{Walked}
 use Rattle.wire.specs.declared.Walked.the-variants.{To}
@@ -34,13 +34,11 @@ module _ (m : List ℕ) (v l at : ℕ) (p : List ℕ) where
       ≡ andThen (got at (recordOf (readField m v at (fieldAt p f))))
       (λ x. fieldsPrint m v (parseFields p (n - 1) (f + 6)) l at)
   unfolding fieldsPrint parseFields recordsOf prepend andThen
-  fields-next zero f h = absurd (omega arith)
-  fields-next (suc n) f h = let q : suc n - 1 ≡ n = omega arith in rw q refl
+  fields-next n f h = rw (some-left h, one-less) refl
 
   pub fields-end : (n f : ℕ) → n ≤ 0 → fieldsPrint m v (parseFields p n f) l at ≡ got (at + l) []
   unfolding fieldsPrint parseFields recordsOf
-  fields-end zero f h = refl
-  fields-end (suc n) f h = absurd (omega arith)
+  fields-end n f h = rw (none-left h) refl
 
 -- ---- data
 
@@ -167,8 +165,7 @@ module _ (m : List ℕ) (v : ℕ) (gs : Groups) (s : Shape) (inner rest : Groups
 module _ (m : List ℕ) (v : ℕ) (s : Shape) (gs : Groups) (surplus l : ℕ) where
   pub entries-end : (n at : ℕ) → n ≤ 0 → entriesPrint m v s gs surplus l n at ≡ got at []
   unfolding entriesPrint readEntries printed listing
-  entries-end zero at h = refl
-  entries-end (suc n) at h = absurd (omega arith)
+  entries-end n at h = rw (none-left h) refl
 
   -- The first of n entries, and the others.
   module _ (n at : ℕ) where

@@ -24,13 +24,14 @@ use Rattle.prepared.proofs.Books.{holds-book}
 use Rattle.prepared.proofs.Found.{found, not-found}
 use Rattle.judges.specs.Judges.{judged, listingEnd}
 use Rattle.judges.specs.declared.Judged.the-variants.{Refused, To}
-use Rattle.judges.proofs.Judging.{Reached, inv-refused, inv-to}
+use Rattle.judges.proofs.Judging.{inv-refused, inv-to}
 use Rattle.prints.specs.Prints.{numbersOf}
 use Rattle.writer.specs.Zeros.{Ready}
 use Rattle.writer.specs.Parts.{messagePart}
 use Rattle.writer.proofs.Message.{message-octets, message-ready}
 use Rattle.writer.proofs.Zeros.{zeros-put}
 use Rattle.stream.specs.Written.{writtenBy}
+use Rattle.layout.proofs.Results.{Reached}
 
 -- A refusal, whatever it is.
 as-refused : (w : ℕ → Result (List ℕ)) (before : List ℕ) (n p : ℕ) → w (length before) ≡ refused n p
@@ -92,7 +93,7 @@ module _ {p : List ℕ} {a : ℕ} {l pool before : List ℕ} {x k : ℕ} (good :
   read = inv-to _ _ x k (good .is)
 
   pub write-small : k ≤ 65536
-  write-small = omega (arith, read .octets)
+  write-small = omega (arith, read .counted)
 
   abbrev message : List ℕ
   message = messageOctets (bookAt p) (templateAt p a) pool (read .value)
@@ -113,19 +114,19 @@ module _ {p : List ℕ} {a : ℕ} {l pool before : List ℕ} {x k : ℕ} (good :
   unfolding must _>>=_
   write-long more =
       as-refused written before 55 0
-      (written-is _ false refl (lt-leb (length message) 65535 (omega (arith, long, read .octets, more)))
+      (written-is _ false refl (lt-leb (length message) 65535 (omega (arith, long, read .counted, more)))
       ∙ rw (second-of _) refl)
 
   pub write-full : length before < 12 + k → WritesAs written before (Counted.Refused (refusal 55 0)) before
   unfolding must _>>=_ _and_
   write-full more =
       as-refused written before 55 0
-      (written-is false _ (lt-leb (length message) (length before) (omega (arith, long, read .octets, more))) refl)
+      (written-is false _ (lt-leb (length message) (length before) (omega (arith, long, read .counted, more))) refl)
 
   module _ (short : 12 + k ≤ 65535) (fits : 12 + k ≤ length before) (d : List ℕ)
       (zeroed : d ≡ sets before 0 (replicate (12 + k) 0)) where
     size : length message ≡ 12 + k
-    size = omega (arith, long, read .octets, short)
+    size = omega (arith, long, read .counted, short)
 
     pub write-fits : 12 + k ≤ length d
     write-fits = rw (zeroed, length-sets before 0 (replicate (12 + k) 0)) fits

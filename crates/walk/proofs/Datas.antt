@@ -17,11 +17,8 @@ use Rattle.wire.proofs.Answers.{refused-on}
 use Rattle.walk.specs.Walks.{dataAt, datasEnd}
 use Rattle.walk.proofs.Ways.{reached, then-to, told}
 use Rattle.walk.proofs.Surplus.{andSkip, skip-first}
-
-pub no-datas-at : (p : List ℕ) (n a : ℕ) → n ≤ 0 → parseDatas p n a ≡ []
-unfolding parseDatas
-no-datas-at p zero a h = refl
-no-datas-at p (suc n) a h = absurd (omega arith)
+use Rattle.prepared.proofs.Open.{no-datas-at}
+use Rattle.layout.proofs.Results.{one-less, some-left}
 
 -- The n data at a of the prepared numbers p, and s surplus ones.
 module _ (m : List ℕ) (v : ℕ) (p : List ℕ) (s : ℕ) where
@@ -32,8 +29,7 @@ module _ (m : List ℕ) (v : ℕ) (p : List ℕ) (s : ℕ) where
       ≡ ((if leb (word p (a + 1)) v then readData m at else done (Absent, at)) >>= λ d. datasAt (n - 1) (a + 2) (d .1)
       >>= λ r. done (d .0 ∷ r .0, r .1))
   unfolding readDatas parseDatas
-  datas-step zero a at h = absurd (omega arith)
-  datas-step (suc n) a at h = let q : suc n - 1 ≡ n = omega arith in rw q refl
+  datas-step n a at h = rw (some-left h, one-less) refl
 
   module _ (seen n a at : ℕ) (h : 0 < n) where
     pub datas-refused : (z : Refusal) → Refused z ≡ walked dataEnd (dataAt p a m v at)

@@ -16,28 +16,26 @@ use Rattle.layout.specs.Message.{Entry, readBlock, readDatas, readEntries, read
 use Rattle.layout.specs.declared.Refusal.{Refusal}
 use Rattle.prepared.specs.Positions.{IsBlock, manyDatas, datasFrom, manyFields, fieldsFrom, manyGroups, groupsFrom}
 use Rattle.prepared.specs.Positions.{innerAt, shapeAt}
-use Rattle.prepared.proofs.Open.{no-groups-at}
+use Rattle.prepared.proofs.Open.{no-datas-at, no-groups-at}
 use Rattle.wire.specs.Walks.{walked}
 use Rattle.wire.specs.declared.Walked.the-variants.{To, Refused}
 use Rattle.wire.proofs.Answers.{refused-on}
 use Rattle.walk.specs.Walks.{Bounded, datasEnd, entriesAt, entryEnd, valuesEnd}
 use Rattle.walk.proofs.Ways.{Answers, reached, then-to, told}
-use Rattle.walk.proofs.Datas.{no-datas-at}
 use Rattle.walk.proofs.Blocks.{block-datas, block-groups, block-short, block-whole, length-fields}
+use Rattle.layout.proofs.Results.{none-left, one-less, some-left}
 
 -- ---- entries that f reads
 
 pub entries-step : (f : ℕ → Result Entry) (n at : ℕ) → 0 < n → readEntries n f at
     ≡ (f at >>= λ e. readEntries (n - 1) f (e .3) >>= λ r. done (entry (e .0) (e .1) (e .2) (r .0), r .1))
 unfolding readEntries
-entries-step f zero at h = absurd (omega arith)
-entries-step f (suc n) at h = let q : suc n - 1 ≡ n = omega arith in rw q refl
+entries-step f n at h = rw (some-left h, one-less) refl
 
 pub entries-end : (f : ℕ → Result Entry) (seen n at : ℕ) → n ≤ 0
     → walked (valuesEnd seen) (readEntries n f at) ≡ To at seen
 unfolding readEntries measure
-entries-end f seen zero at h = reached (valuesEnd seen) (nil, at) refl (omega arith)
-entries-end f seen (suc n) at h = absurd (omega arith)
+entries-end f seen n at h = rw (none-left h) (reached (valuesEnd seen) (nil, at) refl (omega arith))
 
 module _ (f : ℕ → Result Entry) (seen n at : ℕ) (h : 0 < n) where
   pub entries-refused : (z : Refusal) → Refused z ≡ walked entryEnd (f at)

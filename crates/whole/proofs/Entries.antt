@@ -11,7 +11,7 @@ use Rattle.layout.specs.Message.{blockLength, checkHeader, groupCount, headerSi
 use Rattle.layout.specs.Message.{templateOf, versionOf}
 use Rattle.layout.specs.Values.{Values}
 use Rattle.layout.specs.declared.Answer.{Answer}
-use Rattle.layout.proofs.Results.{and-left, and-right, done-inj, inv-bind, inv-must}
+use Rattle.layout.proofs.Results.{and-left, and-right, done-inj, inv-bind, inv-both, inv-must}
 use Rattle.prepared.specs.Positions.{BlockAt, shapeAt}
 use Rattle.prepared.specs.Books.{HoldsBook, bookAt, templateAt}
 use Rattle.prepared.specs.declared.Located.{Located}
@@ -79,12 +79,11 @@ lends : (p m : List ℕ) → HoldsBook p → (o : ℕ × ℕ × ℕ) → openAt 
 unfolding openAt knownAt orRefuse
 lends p m book o e =
     let header = inv-bind _ _ _ e in
-    let place = inv-bind _ _ _ (header .next) in
-    let over = inv-bind _ _ _ (place .next) in
+    let place = inv-both _ _ _ _ (header .next) in
     let f = found p book _ _ (inv-known _ _ (place .first)) in
     let h = header-lends _ m (header .first) in
-    let s = surplus-enough _ _ m _ (over .first) in
-    subst (λ (o : ℕ × ℕ × ℕ). Lends p m (o .0) (versionOf m) (blockLength m) (o .1)) (done-inj (over .next))
+    let s = surplus-enough _ _ m _ (place .second) in
+    subst (λ (o : ℕ × ℕ × ℕ). Lends p m (o .0) (versionOf m) (blockLength m) (o .1)) (place .is)
     (record {
       version = refl;
       long = refl;

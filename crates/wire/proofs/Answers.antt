@@ -8,6 +8,7 @@ use Rattle.layout.specs.declared.Refusal.{Refusal}
 use Rattle.wire.specs.Walks.{Inside, walked}
 use Rattle.wire.specs.declared.Walked.{Walked}
 use Rattle.wire.specs.declared.Walked.the-variants.{To, Refused}
+use Rattle.layout.proofs.Results.{Reached}
 
 -- A refusal is an answer that lies inside.
 pub refuses : {r y : Walked} (z : Refusal) (len at : ℕ) → r ≡ Refused z → y ≡ Refused z → (r ≡ y) × Inside len at r
@@ -27,15 +28,10 @@ refused-on (done a) f k g z e = cc
 refused-on (refused n p) f k g z e = sym e
 
 -- What was walked was done.
-pub record Reached {A : Type 0} (f : A → ℕ × ℕ) (r : Result A) (x k : ℕ) : Type 0 where
-  pub value : A
-  pub is : r ≡ done value
-  pub next : f value .0 ≡ x
-  pub records : f value .1 ≡ k
 
 pub inv-to : {A : Type 0} (f : A → ℕ × ℕ) (r : Result A) (x k : ℕ) → To x k ≡ walked f r → Reached f r x k
 unfolding walked
-inv-to f (done a) x k e = record { value = a; is = refl; next = cc; records = cc }
+inv-to f (done a) x k e = record { value = a; is = refl; next = cc; counted = cc }
 inv-to f (refused n p) x k e = absurd (let z : _≡_ {A = ℕ} 0 1 = cc in omega arith)
 
 -- What was refused on the way is refused.

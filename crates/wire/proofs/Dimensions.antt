@@ -7,7 +7,7 @@ use borrow.Author.Tests.{leb-true, ltb-true}
 use Rattle.layout.specs.Result.{Result, _and_, done, refused}
 use Rattle.layout.specs.Octets.{null16, number16}
 use Rattle.layout.specs.Message.{readDimension}
-use Rattle.layout.proofs.Results.{and-left, and-right, done-inj, inv-bind, inv-must}
+use Rattle.layout.proofs.Results.{and-left, and-right, done-inj, inv-bind, inv-both, inv-must}
 use Rattle.layout.specs.declared.Refusal.{Refusal}
 use Rattle.wire.specs.Dimensions.{dimensioned}
 use Rattle.wire.specs.declared.Dimension.{Dimension}
@@ -31,9 +31,8 @@ module _ (m : List ℕ) (least at : ℕ) where
   unfolding readDimension
   read-good l k e =
       let a = inv-bind _ _ _ e in
-      let b = inv-bind _ _ _ (a .next) in
-      let c = inv-bind _ _ _ (b .next) in
-      let p = done-inj (c .next) in
+      let b = inv-both _ _ _ _ (a .next) in
+      let p = b .is in
       let l-is : number16 m at ≡ l = ap (λ (d : ℕ × ℕ). d .0) p in
       let k-is : number16 m (at + 2) ≡ k = ap (λ (d : ℕ × ℕ). d .1) p in
       let both = inv-must _ _ _ _ (b .first) in
@@ -44,7 +43,7 @@ module _ (m : List ℕ) (least at : ℕ) where
         fits = leb-true (at + 4) (length m) (inv-must _ _ _ _ (a .first));
         short = rw l-is at (ltb-true (number16 m at) null16 (and-left _ _ both));
         few = rw k-is at (ltb-true (number16 m (at + 2)) null16 (and-right _ _ both));
-        enough = rw l-is at (leb-true least (number16 m at) (inv-must _ _ _ _ (c .first)));
+        enough = rw l-is at (leb-true least (number16 m at) (inv-must _ _ _ _ (b .second)));
       }
 
   unfoldable Says : Dimension → Type 0

@@ -12,7 +12,7 @@ use Rattle.layout.specs.Octets.{null16, number16}
 use Rattle.layout.specs.Message.{checkHeader, headerNumbers, headerSize, headerWhole, readData, readDimension, schemaId}
 use Rattle.layout.specs.Message.{skipDatas, skipGroups}
 use Rattle.layout.specs.declared.Refusal.{Refusal}
-use Rattle.layout.proofs.Results.{bind-assoc}
+use Rattle.layout.proofs.Results.{bind-assoc, none-left}
 use Rattle.wire.specs.Walks.{Inside, dataEnd, skipEnd, walked}
 use Rattle.wire.specs.declared.Walked.{Walked}
 use Rattle.wire.specs.declared.Walked.the-variants.{To, Refused}
@@ -51,8 +51,7 @@ pub record Skipping (m : List ℕ) (all : ℕ → ℕ → Result ℕ) (n at left
 
 module _ {A : Type 0} {one : ℕ → Result A} {f : A → ℕ × ℕ} {all : ℕ → ℕ → Result ℕ} (s : Skips one f all) where
   left-none : (n at : ℕ) → n ≤ 0 → all n at ≡ done at
-  left-none zero at h = s .ends at
-  left-none (suc n) at h = absurd (omega arith)
+  left-none n at h = rw (none-left h) (s .ends at)
 
   left-some : (n at : ℕ) → 0 < n → all n at ≡ (one at >>= λ a. all (n - 1) (f a .0))
   left-some zero at h = absurd (omega arith)
@@ -83,8 +82,7 @@ module _ {A : Type 0} {one : ℕ → Result A} {f : A → ℕ × ℕ} {all : ℕ
 
 pub header-end : (m : List ℕ) (n at : ℕ) → n ≤ 0 → headerWhole m n at ≡ done tt
 unfolding headerWhole
-header-end m zero at h = refl
-header-end m (suc n) at h = absurd (omega arith)
+header-end m n at h = rw (none-left h) refl
 
 -- x is the number that stands there.
 pub header-step : (m : List ℕ) (n at x : ℕ) → x ≡ number16 m at → 0 < n → (t : Bool) → ltb x null16 ≡ t

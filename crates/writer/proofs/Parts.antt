@@ -18,7 +18,7 @@ use Rattle.layout.specs.BookRules.{fieldAt, fieldsGood, lengthGood, parseFields
 use Rattle.layout.specs.Writing.{fieldOctets, first, isGroup, isNumber, isThere, judgeData, judgeField}
 use Rattle.layout.specs.Writing.{numbers16, second, spanOf, third}
 use Rattle.layout.specs.declared.Answer.the-variants.{Null, Number}
-use Rattle.layout.proofs.Results.{and-left, and-right, or-right}
+use Rattle.layout.proofs.Results.{and-left, and-right, each-way, none-left, one-less, or-right, some-left}
 use Rattle.layout.proofs.Fields.{field-good}
 use Rattle.layout.proofs.Said.{NumberSaid, array-said, data-said, number-said}
 use Rattle.layout.proofs.Lengths.{field-long, span-long}
@@ -51,11 +51,9 @@ module _ (l pool : List ℕ) (f : Field) (i k : ℕ) (r : Room (valuePart l pool
 
   -- Its record is there.
   pub value-there : i < length l / 3
-  value-there = go (isArray f) refl
-    where
-      go : (y : Bool) → isArray f ≡ y → i < length l / 3
-      go true y = there-is l i _ (array-said l (length pool) f i _ y (value-done .is) .0 .kind)
-      go false y = there-is l i _ (number-said l (length pool) f i _ y (value-done .is) .kind)
+  value-there =
+      each-way (isArray f) (λ y. there-is l i _ (array-said l (length pool) f i _ y (value-done .is) .0 .kind))
+      (λ y. there-is l i _ (number-said l (length pool) f i _ y (value-done .is) .kind))
 
   -- The octets that it has, n in number.
   pub record ValueOpen (e : List ℕ) (n : ℕ) : Type 0 where
@@ -94,16 +92,11 @@ module _ (l pool : List ℕ) (f : Field) (i k : ℕ) (r : Room (valuePart l pool
   pub number-open : f .length ≤ 1 → (n x : ℕ) → n ≡ typeAt (f .type) .width → x ≡ typeAt (f .type) .null
       → ValueOpen (octetsOf n (numberOr l i x)) n
   unfolding if_then_else_ fieldOctets
-  number-open h n x is e = value-open (length-octets n _) (rw (← (said .is), is, e) (go (eqb (first l i) 0) refl))
-    where
-      said : NumberSaid l (length pool) f i (value-done .value)
-      said = number-said l (length pool) f i _ (le-ltb 1 (f .length) h) (value-done .is)
-
-      go : (b : Bool) → eqb (first l i) 0 ≡ b
-          → fieldOctets pool f (if eqb (first l i) 1 then Null else Number (second l i))
-          ≡ octetsOf (typeAt (f .type) .width) (if b then second l i else typeAt (f .type) .null)
-      go true z = rw (eqb-true (first l i) 0 z) refl
-      go false z = rw (not-zero l i (said .kind) (eqb-false (first l i) 0 z)) refl
+  number-open h n x is e =
+      let said = number-said l (length pool) f i _ (le-ltb 1 (f .length) h) (value-done .is) in
+      value-open (length-octets n _) (rw (← (said .is), is, e) (each-way (eqb (first l i) 0)
+      (λ z. rw (z, eqb-true (first l i) 0 z) refl)
+      (λ z. rw (z, not-zero l i (said .kind) (eqb-false (first l i) 0 z)) refl)))
 
 -- ---- fields in a row
 
@@ -166,14 +159,12 @@ module _ (l pool : List ℕ) where
       ≡ prepend (replicate (word p (f + 3) - at) 0) (andThen (valuePart l pool (fieldAt p f) i)
       (fieldsPart l pool len (end (fieldAt p f)) (parseFields p (n - 1) (f + 6))))
   unfolding parseFields fieldsPart
-  fields-step p len at zero f i h = absurd (omega arith)
-  fields-step p len at (suc n) f i h = let q : suc n - 1 ≡ n = omega arith in rw q refl
+  fields-step p len at n f i h = rw (some-left h, one-less) refl
 
   pub fields-end : (p : List ℕ) (len at n f i : ℕ) → n ≤ 0
       → fieldsPart l pool len at (parseFields p n f) i ≡ prepend (replicate (len - at) 0) (got i [])
   unfolding parseFields fieldsPart prepend
-  fields-end p len at zero f i h = rw append-nil refl
-  fields-end p len at (suc n) f i h = absurd (omega arith)
+  fields-end p len at n f i h = rw (none-left h, append-nil) refl
 
   -- ---- data
 
@@ -228,13 +219,11 @@ module _ (l pool : List ℕ) where
 
   pub datas-step : (n i : ℕ) → 0 < n → datasPart l pool n i ≡ andThen (dataPart l pool i) (datasPart l pool (n - 1))
   unfolding datasPart
-  datas-step zero i h = absurd (omega arith)
-  datas-step (suc n) i h = let q : suc n - 1 ≡ n = omega arith in rw q refl
+  datas-step n i h = rw (some-left h, one-less) refl
 
   pub datas-end : (n i : ℕ) → n ≤ 0 → datasPart l pool n i ≡ got i []
   unfolding datasPart
-  datas-end zero i h = refl
-  datas-end (suc n) i h = absurd (omega arith)
+  datas-end n i h = rw (none-left h) refl
 
   -- ---- entries
 
@@ -244,13 +233,11 @@ module _ (l pool : List ℕ) where
         (λ j. andThen (row j)
         (λ d. andThen (datasPart l pool (length (s .datas)) d) (entriesPart l pool s row (k - 1))))
     unfolding entriesPart
-    entries-step zero i h = absurd (omega arith)
-    entries-step (suc k) i h = let q : suc k - 1 ≡ k = omega arith in rw q refl
+    entries-step k i h = rw (some-left h, one-less) refl
 
     pub entries-end : (k i : ℕ) → k ≤ 0 → entriesPart l pool s row k i ≡ got i []
     unfolding entriesPart
-    entries-end zero i h = refl
-    entries-end (suc k) i h = absurd (omega arith)
+    entries-end k i h = rw (none-left h) refl
 
   -- ---- groups in a row
 

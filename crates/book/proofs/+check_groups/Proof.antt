@@ -39,25 +39,20 @@ module _ (t : ℕ) where
   abbrev given : In 1 kinds.ps
   given = and 1 kinds.ps (is 1 kinds.ps μ t) reads.Pre
 
-  abbrev below : In 1 kinds.ps
-  below = and 1 kinds.ps (falls 1 kinds.ps _<_ μ t) reads.Pre
+  abbrev claims : lts.Claims
+  claims = (
+    word-reads.Asked,
+    word-reads.Learnt,
+    check-block-reads.Asked,
+    check-block-reads.Learnt,
+    and 1 kinds.ps (falls 1 kinds.ps _<_ μ t) reads.Pre,
+    reads.Post,
+    more-rules-reads.Asked,
+    more-rules-reads.Learnt,
+  )
 
   abbrev Need : (lts.Claims → In 1 lts.ps → Out 1 lts.ps lts.r → lts.InvT-loop → lts.MeasureT-loop → Type 0) → Type 0
-  Need n =
-      n (
-        word-reads.Asked,
-        word-reads.Learnt,
-        check-block-reads.Asked,
-        check-block-reads.Learnt,
-        below,
-        reads.Post,
-        more-rules-reads.Asked,
-        more-rules-reads.Learnt,
-      )
-      given reads.Post Inv-loop μ-loop
-
-  loop-holds : Need lts.Need-loop-holds
-  loop-holds c = (c .before .pre .1, sym (after-none _))
+  Need n = n claims given reads.Post Inv-loop μ-loop
 
   returns : Need lts.Need-returns
   returns c = row-breaks _ _ _ (c .before .before .loop .inv .1) (row-deep _ _ _ _ _ _ _ (omega arith) (c .if1 .taken))
@@ -124,26 +119,15 @@ module _ (t : ℕ) where
             ∙ rw (c .more-rules .ensures, read .word .ensures .value) refl,
       )
 
-  returns-5 : Need lts.Need-returns-5
-  returns-5 c = row-stops _ _ _ _ (c .before .loop .inv .1) (row-end _ _ _ _ _ _ _ (omega arith))
-
 pub +check-groups-spec : {M : Type 1} → statement M
 +check-groups-spec =
     close μ
     (λ t.
-    lts.spec (
-      word-reads.Asked,
-      word-reads.Learnt,
-      check-block-reads.Asked,
-      check-block-reads.Learnt,
-      below t,
-      reads.Post,
-      more-rules-reads.Asked,
-      more-rules-reads.Learnt,
-    )
-    (given t) reads.Post Inv-loop μ-loop (loop-holds t) (returns t) (λ c. search needs) (returns-2 t)
+    lts.spec (claims t) (given t) reads.Post Inv-loop μ-loop (λ c. (c .before .pre .1, sym (after-none _))) (returns t)
+    (λ c. search needs) (returns-2 t)
     (λ c. search needs) (λ c κs. search needs)
-    (λ c. search needs) (λ c κs. omega arith) (λ c. search needs) (λ c. search needs) (returns-3 t) (λ c. search needs)
+    (λ c. search needs) (λ c κs. omega arith) (λ c. search needs) (λ c. search needs) (returns-3 t)
+    (λ c. search needs)
     (check-groups-requires t) (λ c. search needs) (λ c. search needs) (returns-4 t) (λ c κs. search needs)
     (λ c. search needs) (λ c. search needs)
-    (loop-again t) (returns-5 t))
+    (loop-again t) (λ c. row-stops _ _ _ _ (c .before .loop .inv .1) (row-end _ _ _ _ _ _ _ (omega arith))))

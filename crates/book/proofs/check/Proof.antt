@@ -7,13 +7,6 @@ use Rattle.book.proofs.Books.{book-size, book-head, book-contents, book
 use Rattle.book.proofs.check.Statement.{statement}
 use Rattle.book.proofs.check.Tie as tie
 
-head-good-requires : tie.Need-head-good-requires
-head-good-requires c κs = leb-true _ _ (and-left _ _
-    (and-right _ _ (sym (c .before .size-good .ensures) ∙ c .if1 .taken)))
-
-contents-good-requires : tie.Need-contents-good-requires
-contents-good-requires c κs = record { good = sym (c .before .head-good .ensures) ∙ c .if2 .taken }
-
 check-bodies-requires : tie.Need-check-bodies-requires
 check-bodies-requires c κs = (
   record { good = sym (c .before .before .before .head-good .ensures) ∙ c .before .before .if2 .taken },
@@ -52,6 +45,7 @@ returns-4 c = c .refuse3 .ensures ∙ sym (book-size _
 pub check-spec : {M : Type 1} → statement M
 check-spec =
     tie.close
-    (tie.spec (λ c κs. search needs) head-good-requires contents-good-requires check-bodies-requires returns
-    (λ c κs. search needs) returns-2
-    (λ c κs. search needs) returns-3 (λ c κs. search needs) returns-4)
+    (tie.spec (λ c κs. search needs)
+    (λ c κs. leb-true _ _ (and-left _ _ (and-right _ _ (sym (c .before .size-good .ensures) ∙ c .if1 .taken))))
+    (λ c κs. record { good = sym (c .before .head-good .ensures) ∙ c .if2 .taken }) check-bodies-requires returns
+    (λ c κs. search needs) returns-2 (λ c κs. search needs) returns-3 (λ c κs. search needs) returns-4)

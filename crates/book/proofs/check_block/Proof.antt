@@ -11,9 +11,6 @@ use Rattle.book.proofs.Blocks.{block-short, block-counts, block-long, b
 use Rattle.book.proofs.check_block.Statement.{statement}
 use Rattle.book.proofs.check_block.Tie as tie
 
-returns : tie.Need-returns
-returns c = sym (block-short _ _ _ _ _ _ (omega (arith, length-words (c .before .before .args .body .now))))
-
 -- The block's four words are there, and what its counts are is the test.
 there : (c : tie.After-counts-good) → let a = c .before .before .before .before .before .before .args in
     a .w + 4 ≤ length (wordsOf (a .body .now))
@@ -58,15 +55,13 @@ returns-3 c =
     (sym (block-whole _ _ _ _ _ _ (there k) (counts k _ (room .before .if2 .taken))
     (omega (arith, size, length-words (k .before .before .before .before .before .before .args .body .now)))))
 
-returns-4 : tie.Need-returns-4
-returns-4 c = sym (block-counts _ _ _ _ _ _ (there (c .before)) (counts (c .before) _ (c .if2 .left)))
-
 pub check-block-spec : {M : Type 1} → statement M
 check-block-spec =
     tie.close
-    (tie.spec (λ c. search needs) returns (λ c. search needs) (λ c κs. search needs) (λ c. search needs)
-    (λ c κs. search needs)
-    (λ c. search needs) (λ c κs. search needs) (λ c κs. search needs) (λ c. search needs) (λ c. search needs)
-    (λ c. search needs)
-    (λ c. search needs) (λ c. search needs) returns-2 (λ c κs. search needs) (λ c. search needs) (λ c κs. search needs)
-    (λ c κs. search needs) (λ c κs. search needs) (λ c κs. search needs) returns-3 returns-4)
+    (tie.spec (λ c. search needs)
+    (λ c. sym (block-short _ _ _ _ _ _ (omega (arith, length-words (c .before .before .args .body .now)))))
+    (λ c. search needs) (λ c κs. search needs) (λ c. search needs) (λ c κs. search needs) (λ c. search needs)
+    (λ c κs. search needs) (λ c κs. search needs) (λ c. search needs) (λ c. search needs) (λ c. search needs)
+    (λ c. search needs) (λ c. search needs) returns-2 (λ c κs. search needs) (λ c. search needs)
+    (λ c κs. search needs) (λ c κs. search needs) (λ c κs. search needs) (λ c κs. search needs) returns-3
+    (λ c. sym (block-counts _ _ _ _ _ _ (there (c .before)) (counts (c .before) _ (c .if2 .left)))))

@@ -89,20 +89,15 @@ loop-again c =
           ∙ rw (c .first-of2 .ensures, c .before .first-of .ensures) refl,
     )
 
-returns-2 : tie.Need-returns-2 Inv-loop μ-loop
-returns-2 c = c .verdict .ensures ∙ sym (c .before .before .loop .inv .3 ∙ bodies-end _ _ _ _ _ _ _ (omega arith))
-
 pub check-bodies-spec : {M : Type 1} → statement M
 check-bodies-spec =
     tie.close
     (tie.spec Inv-loop μ-loop (λ c κs. omega (arith, head (c .before) .fits))
-    (λ c κs. omega (arith, head (c .before .before) .fits)) loop-holds
-    (λ c. omega arith) (λ c κs. omega arith) (λ c. omega (arith, c .word3 .ensures .small)) (λ c. omega arith)
-    (λ c κs. omega arith)
+    (λ c κs. omega (arith, head (c .before .before) .fits)) loop-holds (λ c. omega arith) (λ c κs. omega arith)
+    (λ c. omega (arith, c .word3 .ensures .small)) (λ c. omega arith) (λ c κs. omega arith)
     (λ c. omega (arith, c .word4 .ensures .small))
-    (λ c. omega (arith, c .word4 .ensures .small, c .before .word3 .ensures .small))
-    (λ c. omega arith) (λ c. search (needs, lies c)) (λ c. search (needs, lies c)) (λ c κs. search needs)
-    (λ c. search needs) (λ c. search needs)
-    (λ c κs. search needs) returns (λ c κs. search needs) (λ c κs. search needs) (λ c. omega arith) (λ c. omega arith)
-    (λ c. omega arith)
-    (λ c. omega arith) loop-again (λ c κs. search needs) returns-2)
+    (λ c. omega (arith, c .word4 .ensures .small, c .before .word3 .ensures .small)) (λ c. omega arith)
+    (λ c. search (needs, lies c)) (λ c. search (needs, lies c)) (λ c κs. search needs) (λ c. search needs)
+    (λ c. search needs) (λ c κs. search needs) returns (λ c κs. search needs) (λ c κs. search needs)
+    (λ c. omega arith) (λ c. omega arith) (λ c. omega arith) (λ c. omega arith) loop-again (λ c κs. search needs)
+    (λ c. c .verdict .ensures ∙ sym (c .before .before .loop .inv .3 ∙ bodies-end _ _ _ _ _ _ _ (omega arith))))

@@ -8,9 +8,6 @@ use Rattle.book.proofs.Bodies.{body-block, body-groups, body-left, body
 use Rattle.book.proofs.check_body.Statement.{statement}
 use Rattle.book.proofs.check_body.Tie as tie
 
-returns : tie.Need-returns
-returns c = sym (body-block _ _ (sym (c .enum-told .given .1) ∙ c .before .before .check-block .ensures))
-
 check-groups-requires : tie.Need-check-groups-requires
 check-groups-requires c κs =
     let block = c .before in
@@ -48,6 +45,7 @@ returns-4 c =
 pub check-body-spec : {M : Type 1} → statement M
 check-body-spec =
     tie.close
-    (tie.spec (λ c κs. search needs) (λ c. search needs) (λ c. search needs) returns check-groups-requires
-    (λ c. search needs) (λ c. search needs)
-    returns-2 (λ c κs. search needs) returns-3 returns-4)
+    (tie.spec (λ c κs. search needs) (λ c. search needs) (λ c. search needs)
+    (λ c. sym (body-block _ _ (sym (c .enum-told .given .1) ∙ c .before .before .check-block .ensures)))
+    check-groups-requires (λ c. search needs) (λ c. search needs) returns-2 (λ c κs. search needs) returns-3
+    returns-4)

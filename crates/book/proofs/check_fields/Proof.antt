@@ -21,9 +21,6 @@ Inv-loop body from n l version low high w₀ left₀ e₀ least₀ most₀ rules
 abbrev μ-loop : tie.MeasureT-loop
 μ-loop body from n l version low high w₀ left₀ e₀ least₀ most₀ rules₀ w left e least most rules = left
 
-loop-holds : tie.Need-loop-holds Inv-loop μ-loop
-loop-holds c = (c .before .pre, sym (rules-start _))
-
 loop-again : tie.Need-loop-again Inv-loop μ-loop
 loop-again c =
     let i = c .before .before in (
@@ -32,12 +29,9 @@ loop-again c =
           ∙ rw (c .all-rules .ensures, c .before .check-field .ensures) refl,
     )
 
-returns : tie.Need-returns Inv-loop μ-loop
-returns c = sym (c .before .loop .inv .1 ∙ fields-end _ _ _ _ _ _ _ _ _ (omega arith))
-
 pub check-fields-spec : {M : Type 1} → statement M
 check-fields-spec =
     tie.close
-    (tie.spec Inv-loop μ-loop loop-holds (λ c κs. omega arith) (λ c κs. search needs) (λ c. omega arith)
-    (λ c. omega arith)
-    (λ c. omega arith) loop-again returns)
+    (tie.spec Inv-loop μ-loop (λ c. (c .before .pre, sym (rules-start _))) (λ c κs. omega arith)
+    (λ c κs. search needs) (λ c. omega arith) (λ c. omega arith) (λ c. omega arith) loop-again
+    (λ c. sym (c .before .loop .inv .1 ∙ fields-end _ _ _ _ _ _ _ _ _ (omega arith))))

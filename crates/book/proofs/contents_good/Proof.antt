@@ -24,11 +24,6 @@ abbrev μ-loop : tie.MeasureT-loop
 head : (c : tie.Start Inv-loop μ-loop) → Head (c .args .book .now)
 head c = head-says _ (c .pre)
 
-loop-holds : tie.Need-loop-holds Inv-loop μ-loop
-loop-holds c =
-    let h = head (c .before .before) in
-    rw (c .word .ensures .value) (h .fits, omega (arith, h .few), refl)
-
 loop-again : tie.Need-loop-again Inv-loop μ-loop
 loop-again c =
     let good = c .before .before in
@@ -54,15 +49,12 @@ returns c =
     (sym (good .row-good .ensures) ∙ c .if1 .left) in
     sym (i .before .loop .inv .2 ∙ contents-bad _ _ _ _ _ _ (i .loop-test .taken) e)
 
-returns-2 : tie.Need-returns-2 Inv-loop μ-loop
-returns-2 c = sym (c .before .loop .inv .2 ∙ contents-end _ _ _ _ _ _ (omega arith) ∙ rw (length-words _) refl)
-
 pub contents-good-spec : {M : Type 1} → statement M
 contents-good-spec =
     tie.close
-    (tie.spec Inv-loop μ-loop (λ c κs. omega (arith, head (c .before) .fits)) (λ c. omega arith)
-    (λ c. omega arith) loop-holds
+    (tie.spec Inv-loop μ-loop (λ c κs. omega (arith, head (c .before) .fits)) (λ c. omega arith) (λ c. omega arith)
+    (λ c. let h = head (c .before .before) in rw (c .word .ensures .value) (h .fits, omega (arith, h .few), refl))
     (λ c κs. omega arith) (λ c. omega arith) (λ c κs. omega arith) (λ c κs. search needs) (λ c. omega arith)
-    (λ c. omega arith)
-    (λ c κs. omega arith) (λ c. omega arith) (λ c. omega arith) (λ c. omega arith)
-    (λ c. omega arith) loop-again returns returns-2)
+    (λ c. omega arith) (λ c κs. omega arith) (λ c. omega arith) (λ c. omega arith) (λ c. omega arith)
+    (λ c. omega arith) loop-again returns
+    (λ c. sym (c .before .loop .inv .2 ∙ contents-end _ _ _ _ _ _ (omega arith) ∙ rw (length-words _) refl)))

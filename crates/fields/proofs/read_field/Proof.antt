@@ -24,9 +24,6 @@ add-start c =
     let since = c .before .before in
     search (needs, since .before .before .before .before .pre .fits .inside (present since))
 
-returns : tie.Need-returns
-returns c = sym (field-absent _ _ _ _ (rw (c .before .number .ensures) at (c .if1 .taken)))
-
 returns-2 : tie.Need-returns-2
 returns-2 c =
     let len = c .before .before in
@@ -54,6 +51,7 @@ returns-3 c =
 pub read-field-spec : {M : Type 1} → statement M
 read-field-spec =
     tie.close
-    (tie.spec (λ c. search needs) (λ c κs. search needs) returns (λ c. search needs) (λ c κs. search needs)
-    (λ c. search needs) (λ c κs. search needs) add-start returns-2 (λ c. search needs) (λ c κs. search needs)
-    (λ c. search needs) (λ c κs. search needs) read-requires returns-3)
+    (tie.spec (λ c. search needs) (λ c κs. search needs)
+    (λ c. sym (field-absent _ _ _ _ (rw (c .before .number .ensures) at (c .if1 .taken)))) (λ c. search needs)
+    (λ c κs. search needs) (λ c. search needs) (λ c κs. search needs) add-start returns-2 (λ c. search needs)
+    (λ c κs. search needs) (λ c. search needs) (λ c κs. search needs) read-requires returns-3)

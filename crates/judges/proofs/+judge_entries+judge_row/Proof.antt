@@ -63,14 +63,8 @@ module _ (t : ℕ) where
   abbrev entries-at : In 4 entries-kinds.ps
   entries-at = and 4 entries-kinds.ps (is 4 entries-kinds.ps entries-μ t) entries-reads.Pre
 
-  abbrev entries-below : In 4 entries-kinds.ps
-  entries-below = and 4 entries-kinds.ps (falls 4 entries-kinds.ps _<_ entries-μ t) entries-reads.Pre
-
   abbrev row-at : In 4 row-kinds.ps
   row-at = and 4 row-kinds.ps (is 4 row-kinds.ps row-μ t) row-reads.Pre
-
-  abbrev row-below : In 4 row-kinds.ps
-  row-below = and 4 row-kinds.ps (falls 4 row-kinds.ps _<_ row-μ t) row-reads.Pre
 
   abbrev entries-claims : entries-lts.Claims
   entries-claims = (
@@ -80,7 +74,7 @@ module _ (t : ℕ) where
     number-reads.Learnt,
     plus-reads.Asked,
     plus-reads.Learnt,
-    row-below,
+    and 4 row-kinds.ps (falls 4 row-kinds.ps _<_ row-μ t) row-reads.Pre,
     row-reads.Post,
     judge-datas-reads.Asked,
     judge-datas-reads.Learnt,
@@ -170,11 +164,6 @@ module _ (t : ℕ) where
         inv .2 ∙ entry-next _ _ _ _ _ _ _ (i .loop-test .taken) _ _ fields _ _ row _ _ datas,
       )
 
-  entries-returns-4 : entries-Need entries-lts.Need-returns-4
-  entries-returns-4 c =
-      let inv = c .before .loop .inv in
-      sym (inv .2 ∙ entries-end _ _ _ _ _ _ _ (inv .1) (c .loop-test .left))
-
   abbrev row-claims : row-lts.Claims
   row-claims = (
     number-reads.Asked,
@@ -187,7 +176,7 @@ module _ (t : ℕ) where
     refuse-reads.Learnt,
     entries-in-reads.Asked,
     entries-in-reads.Learnt,
-    entries-below,
+    and 4 entries-kinds.ps (falls 4 entries-kinds.ps _<_ entries-μ t) entries-reads.Pre,
     entries-reads.Post,
     plus-reads.Asked,
     plus-reads.Learnt,
@@ -289,7 +278,7 @@ pub +judge-entries+judge-row-spec : {M : Type 1} → statement M
     (λ c κs. omega arith)
     (λ c. omega arith)
     (entries-loop-again-2 t)
-    (entries-returns-4 t))
+    (λ c. let inv = c .before .loop .inv in sym (inv .2 ∙ entries-end _ _ _ _ _ _ _ (inv .1) (c .loop-test .left))))
     (λ t.
     row-lts.spec (row-claims t) (row-at t) row-reads.Post row-Inv row-μ-loop
     (λ c. omega arith)

@@ -7,14 +7,6 @@ use Rattle.judges.proofs.Judging.{is-there, missing}
 use Rattle.judges.proofs.is_number.Statement.{statement}
 use Rattle.judges.proofs.is_number.Tie as tie
 
-returns : tie.Need-returns
-unfolding _and_
-returns c = rw (missing _ _ (c .if1 .taken)) refl
-
-returns-2 : tie.Need-returns-2
-unfolding _and_
-returns-2 c = rw (is-there _ _ (c .before .before .if1 .left), ne-eqb _ _ (c .if2 .taken)) refl
-
 returns-3 : tie.Need-returns-3
 unfolding _and_ _or_
 returns-3 c =
@@ -48,7 +40,9 @@ returns-5 c =
 pub is-number-spec : {M : Type 1} → statement M
 is-number-spec =
     tie.close
-    (tie.spec returns (λ c. search needs) (λ c. search needs) (λ c. search needs) (λ c. search needs) returns-2
+    (tie.spec (λ c. unfold _and_ in rw (missing _ _ (c .if1 .taken)) refl) (λ c. search needs) (λ c. search needs)
+    (λ c. search needs) (λ c. search needs)
+    (λ c. unfold _and_ in rw (is-there _ _ (c .before .before .if1 .left), ne-eqb _ _ (c .if2 .taken)) refl)
     (λ c. search needs) (λ c. search needs) (λ c. search needs) returns-3 (λ c. search needs) (λ c. search needs)
-    (λ c. search needs) (λ c. search needs) (λ c. search needs) (λ c. search needs)
-    (λ c. search needs) returns-4 returns-5)
+    (λ c. search needs) (λ c. search needs) (λ c. search needs) (λ c. search needs) (λ c. search needs) returns-4
+    returns-5)

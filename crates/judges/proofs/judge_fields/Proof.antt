@@ -53,14 +53,10 @@ loop-again c =
       inv .4 ∙ fields-next _ _ _ _ _ _ (i .loop-test .taken) _ _ e,
     )
 
-returns-2 : tie.Need-returns-2 Inv-loop μ-loop
-returns-2 c = sym (c .before .loop .inv .4 ∙ fields-end _ _ _ _ _ _ (c .loop-test .left))
-
 pub judge-fields-spec : {M : Type 1} → statement M
 judge-fields-spec =
     tie.close
-    (tie.spec Inv-loop μ-loop
-    (λ c. omega arith) (λ c κs. omega arith) (λ c. omega arith) (λ c. omega arith) (λ c κs. omega arith)
-    loop-holds judge-field-requires
-    (λ c. search needs) (λ c. search needs) returns (λ c. omega arith) (λ c. omega arith) (λ c. omega arith)
-    (λ c. omega arith) loop-again returns-2)
+    (tie.spec Inv-loop μ-loop (λ c. omega arith) (λ c κs. omega arith) (λ c. omega arith) (λ c. omega arith)
+    (λ c κs. omega arith) loop-holds judge-field-requires (λ c. search needs) (λ c. search needs) returns
+    (λ c. omega arith) (λ c. omega arith) (λ c. omega arith) (λ c. omega arith) loop-again
+    (λ c. sym (c .before .loop .inv .4 ∙ fields-end _ _ _ _ _ _ (c .loop-test .left))))

@@ -6,9 +6,6 @@ use Rattle.judges.proofs.Judging.{octets-missing, octets-other, octets-
 use Rattle.judges.proofs.judge_octets.Statement.{statement}
 use Rattle.judges.proofs.judge_octets.Tie as tie
 
-returns : tie.Need-returns
-returns c = c .refuse .ensures ∙ sym (octets-missing _ _ _ (c .before .if1 .taken))
-
 returns-2 : tie.Need-returns-2
 returns-2 c =
     c .refuse2 .ensures ∙ sym (octets-other _ _ _ (c .before .before .before .if1 .left) (c .before .if2 .taken))
@@ -37,7 +34,8 @@ returns-5 c =
 pub judge-octets-spec : {M : Type 1} → statement M
 judge-octets-spec =
     tie.close
-    (tie.spec (λ c κs. search needs) returns (λ c. search needs) (λ c. search needs) (λ c. search needs)
-    (λ c κs. search needs) returns-2 (λ c. search needs) (λ c. search needs) (λ c. search needs) (λ c. search needs)
-    (λ c. search needs) (λ c. search needs) (λ c. search needs) (λ c. search needs)
-    (λ c κs. search needs) returns-3 (λ c κs. search needs) returns-4 (λ c. search needs) returns-5)
+    (tie.spec (λ c κs. search needs) (λ c. c .refuse .ensures ∙ sym (octets-missing _ _ _ (c .before .if1 .taken)))
+    (λ c. search needs) (λ c. search needs) (λ c. search needs) (λ c κs. search needs) returns-2 (λ c. search needs)
+    (λ c. search needs) (λ c. search needs) (λ c. search needs) (λ c. search needs) (λ c. search needs)
+    (λ c. search needs) (λ c. search needs) (λ c κs. search needs) returns-3 (λ c κs. search needs) returns-4
+    (λ c. search needs) returns-5)

@@ -8,10 +8,6 @@ use Rattle.judges.proofs.Judging.{within}
 use Rattle.judges.proofs.number_fits.Statement.{statement}
 use Rattle.judges.proofs.number_fits.Tie as tie
 
-returns : tie.Need-returns
-unfolding if_then_else_
-returns c = rw (c .number .ensures, eq-eqb _ _ (c .before .if1 .taken)) refl
-
 returns-2 : tie.Need-returns-2
 unfolding if_then_else_
 returns-2 c =
@@ -23,8 +19,10 @@ returns-2 c =
     (from .before .value .ensures ∙ derived .least) (c .value2 .ensures ∙ derived .spread)))
 
 pub number-fits-spec : {M : Type 1} → statement M
+unfolding if_then_else_
 number-fits-spec =
     tie.close
     (tie.spec (λ c. search needs) (λ c. search needs) (λ c. search needs) (λ c. search needs) (λ c κs. search needs)
-    returns (λ c. search needs) (λ c. search needs) (λ c. search needs) (λ c. search needs) (λ c. search needs)
-    (λ c κs. search needs) (λ c κs. search needs) (λ c. search needs) (λ c κs. search needs) returns-2)
+    (λ c. rw (c .number .ensures, eq-eqb _ _ (c .before .if1 .taken)) refl) (λ c. search needs) (λ c. search needs)
+    (λ c. search needs) (λ c. search needs) (λ c. search needs) (λ c κs. search needs) (λ c κs. search needs)
+    (λ c. search needs) (λ c κs. search needs) returns-2)

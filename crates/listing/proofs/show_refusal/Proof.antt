@@ -6,12 +6,8 @@ use lib.Seq.{length-take-le}
 use Rattle.listing.proofs.show_refusal.Statement.{statement}
 use Rattle.listing.proofs.show_refusal.Tie as tie
 
-slice-aggregate-write-all-2 : tie.Need-slice-aggregate-write-all-2
-slice-aggregate-write-all-2 c = sym (length-take-le _ _ (omega arith))
-
 pub show-refusal-spec : {M : Type 1} → statement M
 show-refusal-spec =
-    tie.close (tie.spec
-    (λ c. search needs) (λ c. search needs) (λ c κs. search needs) (λ c. search needs) (λ c κs. search needs)
-    (λ c. search needs) (λ c κs. search needs) (λ c. search needs) slice-aggregate-write-all-2 (λ c κs. search needs)
-    (λ c. search needs))
+    tie.close (tie.spec (λ c. search needs) (λ c. search needs) (λ c κs. search needs) (λ c. search needs)
+    (λ c κs. search needs) (λ c. search needs) (λ c κs. search needs) (λ c. search needs)
+    (λ c. sym (length-take-le _ _ (omega arith))) (λ c κs. search needs) (λ c. search needs))

@@ -15,9 +15,6 @@ use Rattle.number_types.proofs.number_type.Tie as tie
 doubled : (t : ℕ) → t < 9 → 1 * 2 ^ ((t - 1) / 2) % 2 ^ 64 ≡ widthOf t
 doubled t h = shl-exact {a = 1} 1 ((t - 1) / 2) 64 (lit< tt) (omega arith) ∙ one-mul (widthOf t)
 
-integer-requires : tie.Need-integer-requires
-integer-requires c κs = rw (doubled _ (c .if2 .taken)) (width-at _ (c .if2 .taken) .listed)
-
 returns : tie.Need-returns
 returns c =
     let from = c .before .before .if1 .left in
@@ -27,6 +24,6 @@ returns c =
 pub number-type-spec : {M : Type 1} → statement M
 number-type-spec =
     tie.close
-    (tie.spec (λ c. omega arith) integer-requires returns
-    (λ c. rw (char-at (c .before .args .t) (λ h. omega (arith, c .if1 .taken))) refl)
+    (tie.spec (λ c. omega arith) (λ c κs. rw (doubled _ (c .if2 .taken)) (width-at _ (c .if2 .taken) .listed))
+    returns (λ c. rw (char-at (c .before .args .t) (λ h. omega (arith, c .if1 .taken))) refl)
     (λ c. rw (char-at _ (λ h. c .if2 .left)) refl))

@@ -6,12 +6,6 @@ use Rattle.number_types.proofs.Types.{is-width}
 use Rattle.number_types.proofs.read_as.Statement.{statement}
 use Rattle.number_types.proofs.read_as.Tie as tie
 
-raw-requires : tie.Need-raw-requires
-raw-requires c κs = (rw (c .width-of .ensures) (is-width _), omega arith)
-
-value-of-requires : tie.Need-value-of-requires
-value-of-requires c κs = rw (c .before .width-of .ensures) at (c .raw .ensures .small)
-
 returns : tie.Need-returns
 returns c =
     let raw = c .before .before in
@@ -21,4 +15,5 @@ returns c =
 pub read-as-spec : {M : Type 1} → statement M
 read-as-spec =
     tie.close
-    (tie.spec (λ c κs. search needs) raw-requires value-of-requires (λ c κs. search needs) returns)
+    (tie.spec (λ c κs. search needs) (λ c κs. (rw (c .width-of .ensures) (is-width _), omega arith))
+    (λ c κs. rw (c .before .width-of .ensures) at (c .raw .ensures .small)) (λ c κs. search needs) returns)

@@ -32,11 +32,8 @@ returns-2 c =
     let k = s .before .number-type in
     sym (value-low _ _ (k .result .null) _ (is-signed s) (cc (k .ensures)) (cc (k .ensures)) (c .if2 .left))
 
-returns-3 : tie.Need-returns-3
-unfolding valueOf if_then_else_ _and_
-returns-3 c = simp (rw (c .before .number-type .ensures) at (c .if1 .left))
-
 pub value-of-spec : {M : Type 1} → statement M
 value-of-spec =
     tie.close
-    (tie.spec (λ c κs. search needs) (λ c. omega arith) (λ c. omega arith) add-result returns returns-2 returns-3)
+    (tie.spec (λ c κs. search needs) (λ c. omega arith) (λ c. omega arith) add-result returns returns-2
+    (λ c. unfold valueOf if_then_else_ _and_ in simp (rw (c .before .number-type .ensures) at (c .if1 .left))))

@@ -73,26 +73,14 @@ module _ (t : ℕ) where
   abbrev inner-at : In 6 inner-kinds.ps
   inner-at = and 6 inner-kinds.ps (is 6 inner-kinds.ps inner-μ t) inner-reads.Pre
 
-  abbrev inner-below : In 6 inner-kinds.ps
-  inner-below = and 6 inner-kinds.ps (falls 6 inner-kinds.ps _<_ inner-μ t) inner-reads.Pre
-
   abbrev entries-at : In 6 entries-kinds.ps
   entries-at = and 6 entries-kinds.ps (is 6 entries-kinds.ps entries-μ t) entries-reads.Pre
-
-  abbrev entries-below : In 6 entries-kinds.ps
-  entries-below = and 6 entries-kinds.ps (falls 6 entries-kinds.ps _<_ entries-μ t) entries-reads.Pre
 
   abbrev group-at : In 6 group-kinds.ps
   group-at = and 6 group-kinds.ps (is 6 group-kinds.ps group-μ t) group-reads.Pre
 
-  abbrev group-below : In 6 group-kinds.ps
-  group-below = and 6 group-kinds.ps (falls 6 group-kinds.ps _<_ group-μ t) group-reads.Pre
-
   abbrev row-at : In 6 row-kinds.ps
   row-at = and 6 row-kinds.ps (is 6 row-kinds.ps row-μ t) row-reads.Pre
-
-  abbrev row-below : In 6 row-kinds.ps
-  row-below = and 6 row-kinds.ps (falls 6 row-kinds.ps _<_ row-μ t) row-reads.Pre
 
   -- ---- the row of an entry
 
@@ -100,7 +88,7 @@ module _ (t : ℕ) where
   inner-claims = (
     number-reads.Asked,
     number-reads.Learnt,
-    row-below,
+    and 6 row-kinds.ps (falls 6 row-kinds.ps _<_ row-μ t) row-reads.Pre,
     row-reads.Post,
     pass-reads.Asked,
     pass-reads.Learnt,
@@ -167,7 +155,7 @@ module _ (t : ℕ) where
     found-at-reads.Learnt,
     skip-row-reads.Asked,
     skip-row-reads.Learnt,
-    group-below,
+    and 6 group-kinds.ps (falls 6 group-kinds.ps _<_ group-μ t) group-reads.Pre,
     group-reads.Post,
   )
 
@@ -293,7 +281,7 @@ module _ (t : ℕ) where
     need-reads.Learnt,
     open-group-reads.Asked,
     open-group-reads.Learnt,
-    entries-below,
+    and 6 entries-kinds.ps (falls 6 entries-kinds.ps _<_ entries-μ t) entries-reads.Pre,
     entries-reads.Post,
   )
 
@@ -402,7 +390,7 @@ module _ (t : ℕ) where
     turn-of-reads.Learnt,
     refuse-row-reads.Asked,
     refuse-row-reads.Learnt,
-    inner-below,
+    and 6 inner-kinds.ps (falls 6 inner-kinds.ps _<_ inner-μ t) inner-reads.Pre,
     inner-reads.Post,
     walk-datas-reads.Asked,
     walk-datas-reads.Learnt,
@@ -415,11 +403,6 @@ module _ (t : ℕ) where
   abbrev entries-Need : (entries-lts.Claims → In 6 entries-lts.ps → Out 6 entries-lts.ps entries-lts.r
       → entries-lts.InvT-loop → entries-lts.MeasureT-loop → Type 0) → Type 0
   entries-Need n = n entries-claims entries-at entries-reads.Post entries-Inv entries-μ-loop
-
-  entries-number-requires : entries-Need entries-lts.Need-number-requires
-  entries-number-requires c κs =
-      let pre = c .before .before .before .pre .1 in
-      omega (arith, path-next (pre .4) (pre .5) .inside)
 
   entries-mul-if2 : entries-Need entries-lts.Need-mul-if2
   entries-mul-if2 c =
@@ -540,7 +523,7 @@ pub +inner-row+seek-entries+seek-group+seek-row-spec : {M : Type 1} → statemen
     (λ t.
     entries-lts.spec (entries-claims t) (entries-at t) entries-reads.Post entries-Inv entries-μ-loop
     (λ c. omega arith)
-    (entries-number-requires t)
+    (λ c κs. let pre = c .before .before .before .pre .1 in omega (arith, path-next (pre .4) (pre .5) .inside))
     (λ c. omega arith)
     (λ c κs. omega arith)
     (entries-mul-if2 t)

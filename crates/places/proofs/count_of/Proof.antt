@@ -5,20 +5,12 @@ use Rattle.places.specs.Elements.{countOf}
 use Rattle.places.proofs.count_of.Statement.{statement}
 use Rattle.places.proofs.count_of.Tie as tie
 
-returns : tie.Need-returns
-unfolding countOf
-returns c = rw (c .before .enum-told .given .1) (c .number .ensures)
-
-returns-2 : tie.Need-returns-2
-unfolding countOf
-returns-2 c = rw (c .before .enum-told2 .given .1) (c .number2 .ensures)
-
-returns-3 : tie.Need-returns-3
-unfolding countOf
-returns-3 c = rw (c .before .enum-told3 .given .1) (c .number3 .ensures)
-
 pub count-of-spec : {M : Type 1} → statement M
+unfolding countOf
 count-of-spec =
     tie.close
     (tie.spec (λ c. search needs) (λ c. omega arith) (λ c κs. omega arith) (λ c. search needs) (λ c. omega arith)
-    (λ c κs. omega arith) (λ c. search needs) (λ c. omega arith) (λ c κs. omega arith) returns returns-2 returns-3)
+    (λ c κs. omega arith) (λ c. search needs) (λ c. omega arith) (λ c κs. omega arith)
+    (λ c. rw (c .before .enum-told .given .1) (c .number .ensures))
+    (λ c. rw (c .before .enum-told2 .given .1) (c .number2 .ensures))
+    (λ c. rw (c .before .enum-told3 .given .1) (c .number3 .ensures)))

@@ -35,10 +35,9 @@ returns-2 c =
     let pass = told .before .before in
     let n = pass .before in
     let after = datas-after _ _ _ _ _ _ _ (n .before .before .before .before .pre .3) in
-    let walks =
-    sym (told .row .given .1) ∙ rw (n .before .number .ensures, n .number2 .ensures) at (pass .pass-row .ensures .0)
-    in
-    let skips = rw (row-to _ _ _ _ _ _ _ after _ _ walks) at (skip .skip-groups .ensures .0) in
+    let row = rw (n .before .number .ensures, n .number2 .ensures) at (pass .pass-row .ensures .0) in
+    let start = row-to _ _ _ _ _ _ _ after _ _ (sym (told .row .given .1) ∙ row) in
+    let skips = rw start at (skip .skip-groups .ensures .0) in
     absurd (not-refused _ _ (after .rest) _ (sym (c .enum-told2 .given .1) ∙ skips))
 
 data-at-requires : tie.Need-data-at-requires
@@ -50,10 +49,9 @@ data-at-requires c κs =
     let n = pass .before in
     let pre = n .before .before .before .before .pre in
     let after = datas-after _ _ _ _ _ _ _ (pre .3) in
-    let walks =
-    sym (told .row .given .1) ∙ rw (n .before .number .ensures, n .number2 .ensures) at (pass .pass-row .ensures .0)
-    in
-    let skips = rw (row-to _ _ _ _ _ _ _ after _ _ walks) at (skip .skip-groups .ensures .0) in
+    let row = rw (n .before .number .ensures, n .number2 .ensures) at (pass .pass-row .ensures .0) in
+    let start = row-to _ _ _ _ _ _ _ after _ _ (sym (told .row .given .1) ∙ row) in
+    let skips = rw start at (skip .skip-groups .ensures .0) in
     let end = rest-to _ _ _ _ _ _ _ after _ _ (sym (told2 .rest .given .1) ∙ skips) in
     let inside = lies-on _ _ _ _ _ (skip .skip-groups .ensures .1) (told2 .rest .given .1) in
     rw (c .before .number3 .ensures, c .number4 .ensures) (
@@ -72,10 +70,9 @@ returns-3 c =
     let pass = told .before .before in
     let n = pass .before in
     let after = datas-after _ _ _ _ _ _ _ (n .before .before .before .before .pre .3) in
-    let walks =
-    sym (told .row .given .1) ∙ rw (n .before .number .ensures, n .number2 .ensures) at (pass .pass-row .ensures .0)
-    in
-    let skips = rw (row-to _ _ _ _ _ _ _ after _ _ walks) at (skip .skip-groups .ensures .0) in
+    let row = rw (n .before .number .ensures, n .number2 .ensures) at (pass .pass-row .ensures .0) in
+    let start = row-to _ _ _ _ _ _ _ after _ _ (sym (told .row .given .1) ∙ row) in
+    let skips = rw start at (skip .skip-groups .ensures .0) in
     let end = rest-to _ _ _ _ _ _ _ after _ _ (sym (told2 .rest .given .1) ∙ skips) in
     (rw (c .before .before .number3 .ensures, c .before .number4 .ensures, end) at (c .data-at .ensures))
     ∙ ap (dataRead _) (sym (after .same))

@@ -28,14 +28,11 @@ here c =
     rw (c .number .ensures)
     (data-here _ _ _ _ _ _ _ (pre .2) (pre .4) _ _ (sym (told .passed .given .1) ∙ walk .walk-datas .ensures .0))
 
-returns-3 : tie.Need-returns-3
-returns-3 c = rw (c .data-length .ensures .value) (sym (here (c .before .before) .octets (c .before .if1 .left)))
-
 pub data-at-spec : {M : Type 1} → statement M
 data-at-spec =
     tie.close
     (tie.spec (λ c κs. search needs) (λ c. search needs) (λ c. search needs) returns (λ c. omega arith)
-    (λ c. omega arith)
-    (λ c. omega arith) (λ c κs. omega arith) (λ c. sym (here (c .before) .absent (c .if1 .taken)))
+    (λ c. omega arith) (λ c. omega arith) (λ c κs. omega arith) (λ c. sym (here (c .before) .absent (c .if1 .taken)))
     (λ c. omega (arith, here (c .before) .fits (c .if1 .left)))
-    (λ c κs. omega (arith, here (c .before) .fits (c .if1 .left))) returns-3)
+    (λ c κs. omega (arith, here (c .before) .fits (c .if1 .left)))
+    (λ c. rw (c .data-length .ensures .value) (sym (here (c .before .before) .octets (c .before .if1 .left)))))

@@ -37,11 +37,6 @@ read-field-requires c κs =
       fits = field-readable _ _ _ _ _ _ _ _ (pre .0 .stands) (pre .0 .enough) (entry-fits (pre .0)) less;
     }
 
-add-group : tie.Need-add-group-at
-add-group c =
-    let pre = c .before .before .before .before .before .pre in
-    omega (arith, entry-fits (pre .0), pre .0 .short)
-
 group-at-requires : tie.Need-group-at-requires
 group-at-requires c κs =
     let pre = c .before .before .before .before .before .pre in (
@@ -50,11 +45,6 @@ group-at-requires c κs =
       group-less (pre .0) _ (pre .1) _ (c .before .x2 .given .1),
       entry-row (pre .0),
     )
-
-add-data : tie.Need-add-data-after
-add-data c =
-    let pre = c .before .before .before .before .before .pre in
-    omega (arith, entry-fits (pre .0), pre .0 .short)
 
 data-after-requires : tie.Need-data-after-requires
 data-after-requires c κs =
@@ -87,5 +77,8 @@ returns-3 c =
 pub element-at-spec : {M : Type 1} → statement M
 element-at-spec =
     tie.close
-    (tie.spec (λ c. search needs) add-field mul-field add-field-2 read-field-requires (λ c. search needs) add-group
-    group-at-requires (λ c. search needs) add-data data-after-requires returns returns-2 returns-3)
+    (tie.spec (λ c. search needs) add-field mul-field add-field-2 read-field-requires (λ c. search needs)
+    (λ c. let ok = c .before .before .before .before .before .pre .0 in omega (arith, entry-fits ok, ok .short))
+    group-at-requires (λ c. search needs)
+    (λ c. let ok = c .before .before .before .before .before .pre .0 in omega (arith, entry-fits ok, ok .short))
+    data-after-requires returns returns-2 returns-3)

@@ -21,9 +21,6 @@ Inv-loop p root steps x a₀ depth₀ i₀ a depth i =
 abbrev μ-loop : tie.MeasureT-loop
 μ-loop p root steps x a₀ depth₀ i₀ a depth i = length steps - i
 
-loop-holds : tie.Need-loop-holds Inv-loop μ-loop
-loop-holds c = (c .before .before .pre .0, c .before .before .pre .1, refl)
-
 returns : tie.Need-returns Inv-loop μ-loop
 returns c =
     let g = c .before .before in
@@ -81,6 +78,7 @@ returns-3 c =
 pub find-place-spec : {M : Type 1} → statement M
 find-place-spec =
     tie.close
-    (tie.spec Inv-loop μ-loop loop-holds (λ c κs. omega arith) (λ c. omega arith) (λ c κs. omega arith) returns
-    (λ c. omega arith) (λ c κs. omega arith) skip-row-requires sub-depth (λ c. omega arith) (λ c. omega arith)
-    loop-again (λ c κs. tt) (λ c κs. c .before .before .loop .inv .0 .block) returns-2 returns-3)
+    (tie.spec Inv-loop μ-loop (λ c. (c .before .before .pre .0, c .before .before .pre .1, refl))
+    (λ c κs. omega arith) (λ c. omega arith) (λ c κs. omega arith) returns (λ c. omega arith) (λ c κs. omega arith)
+    skip-row-requires sub-depth (λ c. omega arith) (λ c. omega arith) loop-again (λ c κs. tt)
+    (λ c κs. c .before .before .loop .inv .0 .block) returns-2 returns-3)

@@ -5,13 +5,8 @@ use Rattle.places.specs.Seeks.{foundAt}
 use Rattle.places.proofs.found_at.Statement.{statement}
 use Rattle.places.proofs.found_at.Tie as tie
 
-returns : tie.Need-returns
-unfolding foundAt
-returns c = rw (c .before .before .w .given .1) (c .row-to .ensures)
-
-returns-2 : tie.Need-returns-2
-unfolding foundAt
-returns-2 c = rw (c .before .w2 .given .1) refl
-
 pub found-at-spec : {M : Type 1} → statement M
-found-at-spec = tie.close (tie.spec (λ c. search needs) (λ c κs. tt) (λ c. search needs) returns returns-2)
+unfolding foundAt
+found-at-spec =
+    tie.close (tie.spec (λ c. search needs) (λ c κs. tt) (λ c. search needs)
+    (λ c. rw (c .before .before .w .given .1) (c .row-to .ensures)) (λ c. rw (c .before .w2 .given .1) refl))

@@ -22,12 +22,9 @@ loop-again c =
       i .before .before .loop .inv .1 ∙ row-after-next _ _ _ (i .before .loop-test .taken),
     )
 
-returns : tie.Need-returns Inv-loop μ-loop
-returns c = sym (c .before .loop .inv .1 ∙ row-after-none _ _ _ (c .loop-test .left))
-
 pub skip-row-spec : {M : Type 1} → statement M
 skip-row-spec =
     tie.close
     (tie.spec Inv-loop μ-loop (λ c. (search needs, refl)) (λ c κs. search needs) (λ c. omega arith)
-    (λ c κs. omega arith)
-    (λ c. omega arith) (λ c. omega arith) loop-again returns)
+    (λ c κs. omega arith) (λ c. omega arith) (λ c. omega arith) loop-again
+    (λ c. sym (c .before .loop .inv .1 ∙ row-after-none _ _ _ (c .loop-test .left))))

@@ -38,9 +38,6 @@ module _ (t : ℕ) where
   abbrev given : In 2 kinds.ps
   given = and 2 kinds.ps (is 2 kinds.ps μ t) reads.Pre
 
-  abbrev below : In 2 kinds.ps
-  below = and 2 kinds.ps (falls 2 kinds.ps _<_ μ t) reads.Pre
-
   abbrev claims : lts.Claims
   claims = (
     put-elements-reads.Asked,
@@ -53,7 +50,7 @@ module _ (t : ℕ) where
     word-reads.Learnt,
     open-row-reads.Asked,
     open-row-reads.Learnt,
-    below,
+    and 2 kinds.ps (falls 2 kinds.ps _<_ μ t) reads.Pre,
     reads.Post,
     put-head-reads.Asked,
     put-head-reads.Learnt,

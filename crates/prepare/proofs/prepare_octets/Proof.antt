@@ -6,9 +6,6 @@ use Rattle.prepare.proofs.Prepared.{not-accepted}
 use Rattle.prepare.proofs.prepare_octets.Statement.{statement}
 use Rattle.prepare.proofs.prepare_octets.Tie as tie
 
-prepare-requires : tie.Need-prepare-requires
-prepare-requires c κs = is-book _ (sym (c .before .enum-told .given .1) ∙ c .before .before .before .check .ensures)
-
 returns-2 : tie.Need-returns-2
 returns-2 c =
     let known = c .before in
@@ -17,5 +14,6 @@ returns-2 c =
 pub prepare-octets-spec : {M : Type 1} → statement M
 prepare-octets-spec =
     tie.close
-    (tie.spec (λ c κs. search needs) (λ c. search needs) (λ c. search needs) prepare-requires (λ c. search needs)
-    (λ c. search needs) returns-2)
+    (tie.spec (λ c κs. search needs) (λ c. search needs) (λ c. search needs)
+    (λ c κs. is-book _ (sym (c .before .enum-told .given .1) ∙ c .before .before .before .check .ensures))
+    (λ c. search needs) (λ c. search needs) returns-2)

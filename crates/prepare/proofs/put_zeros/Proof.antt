@@ -7,14 +7,13 @@ use lib.ListN.{length, replicate}
 use Rattle.prepare.proofs.Filling.{Filling, filling-ends, filling-one, filling-starts}
 use Rattle.prepare.proofs.put_zeros.Statement.{statement}
 use Rattle.prepare.proofs.put_zeros.Tie as tie
+use Rattle.layout.proofs.Results.{none-left, one-less, some-left}
 
 zeros-step : (n : ℕ) → 0 < n → replicate {A = ℕ} n 0 ≡ (0 ∷ []) ++ replicate (n - 1) 0
-zeros-step zero h = absurd (omega arith)
-zeros-step (suc n) h = let j : suc n - 1 ≡ n = omega arith in rw j refl
+zeros-step n h = rw (some-left h, one-less) refl
 
 no-zeros : (n : ℕ) → n ≤ 0 → replicate {A = ℕ} n 0 ≡ []
-no-zeros zero h = refl
-no-zeros (suc n) h = absurd (omega arith)
+no-zeros n h = rw (none-left h) refl
 
 abbrev Inv-loop : tie.InvT-loop
 Inv-loop room₀ start n left₀ at₀ room left at =

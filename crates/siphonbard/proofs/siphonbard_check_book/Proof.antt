@@ -5,8 +5,7 @@ use Rattle.siphonbard.specs.Replies.{sayChecked}
 use Rattle.siphonbard.proofs.siphonbard_check_book.Statement.{statement}
 use Rattle.siphonbard.proofs.siphonbard_check_book.Tie as tie
 
-returns : tie.Need-returns
-returns c = c .say-checked .ensures ∙ ap sayChecked (c .before .check .ensures)
-
 pub siphonbard-check-book-spec : {M : Type 1} → statement M
-siphonbard-check-book-spec = tie.close (tie.spec (λ c κs. search needs) (λ c κs. search needs) returns)
+siphonbard-check-book-spec =
+    tie.close (tie.spec (λ c κs. search needs) (λ c κs. search needs)
+    (λ c. c .say-checked .ensures ∙ ap sayChecked (c .before .check .ensures)))

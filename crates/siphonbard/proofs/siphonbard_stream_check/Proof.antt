@@ -5,8 +5,7 @@ use Rattle.siphonbard.specs.Replies.{sayChecked}
 use Rattle.siphonbard.proofs.siphonbard_stream_check.Statement.{statement}
 use Rattle.siphonbard.proofs.siphonbard_stream_check.Tie as tie
 
-returns : tie.Need-returns
-returns c = c .say-checked .ensures ∙ ap sayChecked (c .before .check .ensures)
-
 pub siphonbard-stream-check-spec : {M : Type 1} → statement M
-siphonbard-stream-check-spec = tie.close (tie.spec (λ c κs. search needs) (λ c κs. search needs) returns)
+siphonbard-stream-check-spec =
+    tie.close (tie.spec (λ c κs. search needs) (λ c κs. search needs)
+    (λ c. c .say-checked .ensures ∙ ap sayChecked (c .before .check .ensures)))

@@ -4,9 +4,7 @@ use Rattle.siphonbard.proofs.Said.{write-said}
 use Rattle.siphonbard.proofs.siphonbard_stream_write.Statement.{statement}
 use Rattle.siphonbard.proofs.siphonbard_stream_write.Tie as tie
 
-returns : tie.Need-returns
-returns c = write-said (c .say-counted .ensures) (c .before .before .before .write .ensures)
-
 pub siphonbard-stream-write-spec : {M : Type 1} → statement M
 siphonbard-stream-write-spec =
-    tie.close (tie.spec (λ c κs. search needs) (λ c κs. search needs) (λ c. search needs) returns)
+    tie.close (tie.spec (λ c κs. search needs) (λ c κs. search needs) (λ c. search needs)
+    (λ c. write-said (c .say-counted .ensures) (c .before .before .before .write .ensures)))

@@ -10,13 +10,12 @@ use Rattle.layout.specs.Book.{need}
 use Rattle.layout.specs.BookRules.{word}
 use Rattle.layout.proofs.Results.{and-right}
 use Rattle.prepared.specs.Positions.{BlockAt, IsRow, groupsAt, innerAt, nextFrom, shapeAt}
-use Rattle.prepared.proofs.Open.{no-groups-at}
+use Rattle.prepared.proofs.Open.{no-datas-at, no-groups-at}
 use Rattle.prepared.proofs.number.Reads as number-reads
 use Rattle.prepared.proofs.open_row.Reads as open-row-reads
 use Rattle.wire.proofs.sizes_at.Reads as sizes-at-reads
 use Rattle.fields.proofs.Fields.{fields-fit}
 use Rattle.walk.specs.Walks.{Lent}
-use Rattle.walk.proofs.Datas.{no-datas-at}
 use Rattle.prints.specs.Prints.{endOf}
 use Rattle.prints.proofs.Going.{Going, going-call, going-end, going-first, going-none, stored-none}
 use Rattle.store.specs.Stores.{entriesPrint, groupsPrint}

@@ -5,13 +5,13 @@ use lib.ListN.{length}
 use Rattle.layout.specs.BookRules.{parseDatas}
 use Rattle.prepared.specs.Positions.{shapeAt}
 use Rattle.walk.specs.Walks.{Lent}
-use Rattle.walk.proofs.Datas.{no-datas-at}
 use Rattle.prints.specs.Prints.{endOf}
 use Rattle.prints.proofs.Going.{Going, going-call, going-end, going-first, going-none, stored-none}
 use Rattle.store.specs.Stores.{datasPrint}
 use Rattle.store.proofs.Parts.{DataOpen, data-absent, data-open, no-datas}
 use Rattle.store.proofs.store_datas.Statement.{statement}
 use Rattle.store.proofs.store_datas.Tie as tie
+use Rattle.prepared.proofs.Open.{no-datas-at}
 
 abbrev Inv-loop : tie.InvT-loop
 Inv-loop p a m v room₀ left₀ d₀ here₀ room left d here =
@@ -59,9 +59,6 @@ opened c =
     data-open _ _ _ _ _ _ (i .loop-test .taken) (i .before .loop .inv .2 .room .whole)
     (rw (c .before .number3 .ensures) at (c .if1 .left))
 
-add-store-answer : tie.Need-add-store-answer Inv-loop μ-loop
-add-store-answer c = omega (arith, opened (c .before .before) .within, c .data-length .ensures .value)
-
 store-answer-requires-2 : tie.Need-store-answer-requires-2 Inv-loop μ-loop
 store-answer-requires-2 c κs =
     let test = c .before .before .before in
@@ -89,7 +86,8 @@ store-datas-spec =
     (λ c. omega arith) (λ c κs. omega arith) (λ c. omega arith) (λ c. omega arith) store-answer-requires
     (λ c. omega arith) loop-again
     (λ c. omega (arith, opened (c .before) .length-within)) (λ c κs. opened (c .before) .length-within)
-    add-store-answer store-answer-requires-2 (λ c. omega arith) loop-again-2 (λ c. omega arith)
+    (λ c. omega (arith, opened (c .before .before) .within, c .data-length .ensures .value)) store-answer-requires-2
+    (λ c. omega arith) loop-again-2 (λ c. omega arith)
     (λ c. (
       going-end (c .before .loop .inv .2)
           (stored-none (no-datas _ _ _ _ (no-datas-at _ _ _ (c .loop-test .left)))),

@@ -16,17 +16,12 @@ says : (c : tie.After-enter) → let s = c .before .before .before .before .befo
 says c = entered-as _ _ _ (holds-book (c .before .before .before .before .before .before .before .pre)) _
     (c .enter .ensures .0)
 
-returns : tie.Need-returns
-unfolding EnteredAs checked _>>=_
-returns c = let o = rw (c .enum-told .given .1) at (says (c .before .before)) in sym (rw (o .read) refl)
-
-returns-2 : tie.Need-returns-2
-unfolding EnteredAs checked _>>=_
-returns-2 c = let e = rw (c .before .refusal .given .1) at (says (c .before .before .before)) in sym (rw e refl)
-
 pub check-spec : {M : Type 1} → statement M
+unfolding EnteredAs checked _>>=_
 check-spec =
     tie.close
     (tie.spec (λ c. search needs) (λ c. search needs) (λ c. search needs)
-    (λ c κs. (holds-book (c .before .before .before .before .before .before .pre), no-steps))
-    (λ c. search needs) (λ c. search needs) returns returns-2)
+    (λ c κs. (holds-book (c .before .before .before .before .before .before .pre), no-steps)) (λ c. search needs)
+    (λ c. search needs)
+    (λ c. let o = rw (c .enum-told .given .1) at (says (c .before .before)) in sym (rw (o .read) refl))
+    (λ c. let e = rw (c .before .refusal .given .1) at (says (c .before .before .before)) in sym (rw e refl)))

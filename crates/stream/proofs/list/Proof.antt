@@ -29,9 +29,6 @@ unfolding Few
 count-records-requires c κs =
     (enters c .opens .block .block, rw (c .before .block .given .1) at (c .before .before .before .enter .ensures .1))
 
-returns : tie.Need-returns
-returns c = list-full (enters (c .before .before)) _ _ (c .before .count-records .ensures) (c .if1 .taken)
-
 store-entries-requires : tie.Need-store-entries-requires
 store-entries-requires c κs =
     let test = c .before .before .before in
@@ -61,5 +58,7 @@ list-spec =
     tie.close
     (tie.spec (λ c. search needs) (λ c. search needs) (λ c. search needs)
     (λ c κs. (holds-book (c .before .before .before .before .before .before .before .pre), no-steps))
-    (λ c. search needs) (λ c. search needs) count-records-requires returns store-entries-requires returns-2
+    (λ c. search needs) (λ c. search needs) count-records-requires
+    (λ c. list-full (enters (c .before .before)) _ _ (c .before .count-records .ensures) (c .if1 .taken))
+    store-entries-requires returns-2
     (λ c. rw length-sets at (ap length (c .before .before .store-entries .ensures .0 .room))) returns-3)

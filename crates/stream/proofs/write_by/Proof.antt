@@ -21,12 +21,6 @@ good c =
       is = sym (c .before .length .given .1) ∙ call .judge-listing .ensures;
     }
 
-returns : tie.Need-returns
-returns c = rw (c .refuse .ensures) (write-long (good (c .before .before)) (c .before .if1 .taken))
-
-returns-2 : tie.Need-returns-2
-returns-2 c = rw (c .refuse2 .ensures) (write-full (good (c .before .before .before)) (c .before .if2 .taken))
-
 abbrev told-of : tie.After-put-zeros → tie.After-known-told2
 told-of c = c .before .before .before .before
 
@@ -61,10 +55,11 @@ returns-4 c =
 pub write-by-spec : {M : Type 1} → statement M
 write-by-spec =
     tie.close
-    (tie.spec (λ c κs. search needs) (λ c. search needs) (λ c. search needs) (λ c. omega (arith, write-small (good c)))
-    (λ c κs. search needs) returns
-    (λ c κs. search needs) returns-2 (λ c κs. search needs)
-    (λ c. search needs)
-    (λ c. sym (length-take-le _ _
-    (fits (c .before .before .before .before .before .before)))) write-message-requires returns-3
-    (λ c. search needs) returns-4)
+    (tie.spec (λ c κs. search needs) (λ c. search needs) (λ c. search needs)
+    (λ c. omega (arith, write-small (good c))) (λ c κs. search needs)
+    (λ c. rw (c .refuse .ensures) (write-long (good (c .before .before)) (c .before .if1 .taken)))
+    (λ c κs. search needs)
+    (λ c. rw (c .refuse2 .ensures) (write-full (good (c .before .before .before)) (c .before .if2 .taken)))
+    (λ c κs. search needs) (λ c. search needs)
+    (λ c. sym (length-take-le _ _ (fits (c .before .before .before .before .before .before)))) write-message-requires
+    returns-3 (λ c. search needs) returns-4)

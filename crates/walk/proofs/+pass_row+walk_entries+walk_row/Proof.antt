@@ -68,14 +68,8 @@ module _ (t : ℕ) where
   abbrev entries-at : In 4 entries-kinds.ps
   entries-at = and 4 entries-kinds.ps (is 4 entries-kinds.ps entries-μ t) entries-reads.Pre
 
-  abbrev entries-below : In 4 entries-kinds.ps
-  entries-below = and 4 entries-kinds.ps (falls 4 entries-kinds.ps _<_ entries-μ t) entries-reads.Pre
-
   abbrev pass-at : In 4 pass-kinds.ps
   pass-at = and 4 pass-kinds.ps (is 4 pass-kinds.ps pass-μ t) pass-reads.Pre
-
-  abbrev pass-below : In 4 pass-kinds.ps
-  pass-below = and 4 pass-kinds.ps (falls 4 pass-kinds.ps _<_ pass-μ t) pass-reads.Pre
 
   abbrev row-at : In 4 row-kinds.ps
   row-at = and 4 row-kinds.ps (is 4 row-kinds.ps row-μ t) row-reads.Pre
@@ -98,7 +92,7 @@ module _ (t : ℕ) where
     number-reads.Learnt,
     refuse-reads.Asked,
     refuse-reads.Learnt,
-    pass-below,
+    and 4 pass-kinds.ps (falls 4 pass-kinds.ps _<_ pass-μ t) pass-reads.Pre,
     pass-reads.Post,
     walk-datas-reads.Asked,
     walk-datas-reads.Learnt,
@@ -233,7 +227,7 @@ module _ (t : ℕ) where
     need-reads.Learnt,
     open-group-reads.Asked,
     open-group-reads.Learnt,
-    entries-below,
+    and 4 entries-kinds.ps (falls 4 entries-kinds.ps _<_ entries-μ t) entries-reads.Pre,
     entries-reads.Post,
   )
 

@@ -19,10 +19,6 @@ start c = c .before .before .before .before
 fits : (c : tie.Else1) → 12 + start c .args .l ≤ length (start c .args .m .now .now)
 fits c = omega (arith, start c .pre .1 .inside, c .if1 .left)
 
-returns : tie.Need-returns
-unfolding Ends
-returns c = (sym (root-short _ _ _ _ _ _ (omega (arith, c .if1 .taken))), tt)
-
 -- Without a path.
 returns-2 : tie.Need-returns-2
 unfolding Ends counted
@@ -91,7 +87,8 @@ seek-row-requires c κs =
 pub walk-root-spec : {M : Type 1} → statement M
 walk-root-spec =
     tie.close
-    (tie.spec (λ c. omega (arith, c .before .before .before .pre .1 .inside)) returns (λ c. search needs)
+    (tie.spec (λ c. omega (arith, c .before .before .before .pre .1 .inside))
+    (λ c. unfold Ends in (sym (root-short _ _ _ _ _ _ (omega (arith, c .if1 .taken))), tt)) (λ c. search needs)
     (λ c κs. search needs) (λ c. search needs) (λ c κs. search needs)
     (λ c. omega (arith, fits (c .before .before .before), start (c .before .before .before) .pre .1 .short))
     pass-row-requires (λ c. search needs) (λ c. search needs) returns-2 returns-3

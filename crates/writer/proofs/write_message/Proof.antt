@@ -5,11 +5,6 @@ use Rattle.writer.proofs.Message.{header-fits, header-zeros, root-heade
 use Rattle.writer.proofs.write_message.Statement.{statement}
 use Rattle.writer.proofs.write_message.Tie as tie
 
-put-header-requires : tie.Need-put-header-requires
-put-header-requires c κs =
-    let pre = c .before .before .before .pre in
-    (pre .0, header-fits _ _ _ _ (pre .1))
-
 write-entries-requires : tie.Need-write-entries-requires
 write-entries-requires c κs =
     let put = c .before .before .before in
@@ -27,4 +22,5 @@ returns c =
 
 pub write-message-spec : {M : Type 1} → statement M
 write-message-spec =
-    tie.close (tie.spec put-header-requires write-entries-requires (λ c. search needs) returns)
+    tie.close (tie.spec (λ c κs. let pre = c .before .before .before .pre in (pre .0, header-fits _ _ _ _ (pre .1)))
+    write-entries-requires (λ c. search needs) returns)
