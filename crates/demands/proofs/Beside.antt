@@ -11,7 +11,7 @@ use Rattle.layout.specs.Result.{Result, _>>=_, done, if_then_else_, must}
 use Rattle.layout.specs.Book.{Data, Field, Groups, Shape, dataSinces, groupSinces, more, need, none, present}
 use Rattle.layout.specs.BookRules.{groupsGood}
 use Rattle.layout.specs.Values.{Values, entry, group, nil}
-use Rattle.layout.specs.Message.{Entry, readBlock, readData, readDatas, readDimension, readEntries, readField}
+use Rattle.layout.specs.Message.{Entry, readBlock, readDatas, readDimension, readEntries, readField}
 use Rattle.layout.specs.Message.{readGroup, readGroups, skipDatas, skipGroups}
 use Rattle.layout.specs.Extension.{AddedGroup, AddedGroups, AddsDatas, AddsFields, AddsGroups, ExtendsGroups}
 use Rattle.layout.specs.Extension.{ExtendsShape}
@@ -119,10 +119,6 @@ module _ (m : List ℕ) (v : ℕ) (strict : Bool) where
 
     -- ---- a known group, and a row of them
 
-    none-added : (ds : List Data) → ds ≡ [] → 0 ≡ 0 + present v (dataSinces ds)
-    unfolding present
-    none-added ds e = rw e refl
-
     sees-group : (s s′ : Shape) (gs : Groups) (f f′ : ℕ → Result (Values × ℕ)) (at : ℕ) → ExtendsShape limit false s s′
         → AtLeast strict (need v s) (need v s′)
         → ((x : ℕ) → Sees strict (keptRow s gs) (f x) (f′ x))
@@ -133,7 +129,7 @@ module _ (m : List ℕ) (v : ℕ) (strict : Bool) where
         (sees-dimension m v strict (need v s) (need v s′) at q) λ d.
         sees-bind strict (keptRow s gs) (keptGroup s gs) _ _ _ _
         (sees-entries s gs (d .1) (readBlock m v s f 0 (d .0)) (readBlock m v s′ f′ 0 (d .0)) (at + 4) λ y.
-        sees-block s s′ gs f f′ 0 0 (d .0) y (x .fields) (x .datas) (none-added (x .datas .added) (x .inside refl)) h)
+        sees-block s s′ gs f f′ 0 0 (d .0) y (x .fields) (x .datas) (unfold present in rw (x .inside refl) refl) h)
         λ r.
         sees-done strict (keptGroup s gs) (Group (d .1), r .0, r .1) _ refl
 

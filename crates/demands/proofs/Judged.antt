@@ -9,8 +9,8 @@ use lib.Dec.{eqb}
 use lib.ListN.{getD, length}
 use borrow.Author.Tests.{eq-eqb, le-leb, leb-true, lt-ltb}
 use Rattle.layout.specs.Result.{Each, Result, _>>=_, _and_, _or_, done, if_then_else_, must}
-use Rattle.layout.specs.Octets.{null16, number16, numberAt}
-use Rattle.layout.specs.Types.{TypeRow, classify, inRange, typeAt, valueOf}
+use Rattle.layout.specs.Octets.{null16, number16}
+use Rattle.layout.specs.Types.{classify, inRange, typeAt}
 use Rattle.layout.specs.Book.{Data, Field, Groups, Shape, Template, dataSinces, end, fieldSinces, isArray, isOptional}
 use Rattle.layout.specs.Book.{more, need, needAfter, none}
 use Rattle.layout.specs.BookRules.{fieldsGood, lengthGood}
@@ -30,7 +30,7 @@ use Rattle.layout.proofs.Results.{and-left, done-inj, each-way, inv-bind, inv-b
 use Rattle.layout.proofs.Stands.{Stands, all-stands, split-to, three-stand}
 use Rattle.layout.proofs.TypeLaws.{inside-not-null}
 use Rattle.layout.specs.declared.Answer.{Answer}
-use Rattle.layout.specs.declared.Answer.the-variants.{Group, Null, Number, Octets, OutOfRange}
+use Rattle.layout.specs.declared.Answer.the-variants.{Group, Null, Number, Octets}
 
 module _ (l m : List ℕ) (v : ℕ) where
   -- ---- records
@@ -107,10 +107,6 @@ module _ (l m : List ℕ) (v : ℕ) where
   unfolding judgeFields _>>=_
   fields-next f fs i j a r e q = rw (e, q) refl
 
-  fields-stop : (i : ℕ) → judgeFields l (length m) [] i ≡ done ([], i)
-  unfolding judgeFields
-  fields-stop i = refl
-
   -- Elements are judged to be what they were read as, up to the record at `to`.
   abbrev Judges : {A : Type 0} → (ℕ → Result (A × ℕ)) → ℕ → ℕ → A → Type 0
   Judges f i to a = (j : ℕ) × (to ≡ 3 * j) × (f i ≡ done (a, j))
@@ -120,7 +116,7 @@ module _ (l m : List ℕ) (v : ℕ) where
       → Each InRange (map (readField m v at) fs) → Stands l (3 * i) (recordsOf (map (readField m v at) fs)) to
       → Judges (judgeFields l (length m) fs) i to (map (readField m v at) fs)
   unfolding Each recordsOf needAfter if_then_else_
-  fields-judged [] i at len from e to g u h ranges s = (i, omega (arith, s .ends), fields-stop i)
+  fields-judged [] i at len from e to g u h ranges s = (i, omega (arith, s .ends), unfold judgeFields in refl)
   fields-judged (f ∷ fs) i at len from e to g u h ranges s =
       let k = field-good len from f fs g in
       let a = readField m v at f in
@@ -153,10 +149,6 @@ module _ (l m : List ℕ) (v : ℕ) where
   unfolding judgeDatas _>>=_
   datas-next d ds i j a r e q = rw (e, q) refl
 
-  datas-stop : (i : ℕ) → judgeDatas l (length m) [] i ≡ done ([], i)
-  unfolding judgeDatas
-  datas-stop i = refl
-
   datas-judged : (ds : List Data) (i at to : ℕ) (r : List Answer × ℕ) → UpTo v (dataSinces ds)
       → readDatas m v ds 0 at ≡ done r
       → Stands l (3 * i) (recordsOf (r .0)) to → Judges (judgeDatas l (length m) ds) i to (r .0)
@@ -164,7 +156,7 @@ module _ (l m : List ℕ) (v : ℕ) where
   datas-judged [] i at to r u e s =
       subst (λ (x : List Answer × ℕ). Stands l (3 * i) (recordsOf (x .0)) to
       → Judges (judgeDatas l (length m) []) i to (x .0)) (done-inj (sym (no-datas m v at) ∙ e))
-      (λ o. (i, omega (arith, o .ends), datas-stop i)) s
+      (λ o. (i, omega (arith, o .ends), unfold judgeDatas in refl)) s
   datas-judged (d ∷ ds) i at to r u e s =
       let w = datas-read m v d ds at r (u .0) e in
       let a = w .first .0 in
@@ -235,17 +227,13 @@ module _ (l m : List ℕ) (v : ℕ) where
     unfolding judgeEntries _>>=_
     entries-next k i j e fs g ds r a b = rw (a, b) refl
 
-    entries-stop : (i : ℕ) → judgeEntries l (length m) 0 (judgeBlock l (length m) s f′) i ≡ done (nil, i)
-    unfolding judgeEntries
-    entries-stop i = refl
-
     entries-judged : (k : ℕ) → Agree (readEntries k (readBlock m v s f 0 n))
         (judgeEntries l (length m) k (judgeBlock l (length m) s f′))
     unfolding readEntries ValuesInRange listing
     entries-judged zero at i to r e ranges st =
         subst (λ (x : Values × ℕ). Stands l (3 * i) (listing (x .0)) to
         → Judges (judgeEntries l (length m) 0 (judgeBlock l (length m) s f′)) i to (x .0)) (done-inj e)
-        (λ o. (i, omega (arith, o .ends), entries-stop i)) st
+        (λ o. (i, omega (arith, o .ends), unfold judgeEntries in refl)) st
     entries-judged (suc k) at i to r e ranges st =
         let p = inv-both _ _ _ _ e in
         let b = p .value in
@@ -266,16 +254,12 @@ module _ (l m : List ℕ) (v : ℕ) where
   groups-next id since s inner rest i j k e es gs r h a b =
       rw (r .there, r .is₁, r .is₂, r .is₃, lt-ltb k null16 h, a, b) refl
 
-  groups-stop : (i : ℕ) → judgeGroups l (length m) none i ≡ done (nil, i)
-  unfolding judgeGroups
-  groups-stop i = refl
-
   groups-judged : (gs : Groups) → GoodGroups v gs → Agree (readGroups m v gs 0) (judgeGroups l (length m) gs)
   unfolding GoodGroups ValuesInRange listing recordOf
   groups-judged none good at i to r e ranges st =
       subst (λ (x : Values × ℕ). Stands l (3 * i) (listing (x .0)) to
       → Judges (judgeGroups l (length m) none) i to (x .0)) (done-inj (sym (no-groups m v at) ∙ e))
-      (λ o. (i, omega (arith, o .ends), groups-stop i)) st
+      (λ o. (i, omega (arith, o .ends), unfold judgeGroups in refl)) st
   groups-judged (more id since s inner rest) good at i to r e ranges st =
       let w = group-read m v id since s inner rest at r (good .0) e in
       let k = w .sizes .1 in

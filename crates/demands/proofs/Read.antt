@@ -10,7 +10,7 @@ use Rattle.layout.specs.Book.{Data, Groups, Shape, more, need}
 use Rattle.layout.specs.Values.{Values, group}
 use Rattle.layout.specs.Message.{dimensionSize, readBlock, readData, readDatas, readDimension, readEntries, readGroup}
 use Rattle.layout.specs.Message.{readGroups}
-use Rattle.layout.proofs.Results.{and-right, done-inj, inv-bind, inv-both, inv-must}
+use Rattle.layout.proofs.Results.{and-right, inv-bind, inv-both, inv-must}
 use Rattle.layout.specs.declared.Answer.{Answer}
 use Rattle.layout.specs.declared.Answer.the-variants.{Group, Octets}
 
@@ -64,15 +64,14 @@ module _ (m : List ℕ) (v : ℕ) where
   group-read i since s inner rest at r u e =
       let p = inv-both _ _ _ _ (rw (le-leb since v u) at e) in
       let d = inv-both _ _ _ _ (p .first) in
-      let g = d .is in
       record {
         sizes = d .value;
         entries = d .other;
         others = p .other;
         dimension = d .first;
         reads = d .second;
-        after = ap (λ (x : Answer × Values × ℕ). readGroups m v rest 0 (x .2)) g ∙ p .second;
-        is = ap (λ (x : Answer × Values × ℕ). (group (x .0) (x .1) (p .other .0), p .other .1)) g ∙ p .is;
+        after = ap (λ (x : Answer × Values × ℕ). readGroups m v rest 0 (x .2)) (d .is) ∙ p .second;
+        is = ap (λ (x : Answer × Values × ℕ). (group (x .0) (x .1) (p .other .0), p .other .1)) (d .is) ∙ p .is;
       }
 
   -- What a dimension that was read says.

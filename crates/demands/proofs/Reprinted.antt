@@ -1,7 +1,7 @@
 -- The second round trip, its octets: a message with the book's own block lengths and zero padding is printed from its
 -- own tree, with itself as pool, as it stands.
 use mathlib.Core.Path.{_∙_, _≡_, ap, refl, subst, sym}
-use mathlib.Core.Bool.{Bool, false, true}
+use mathlib.Core.Bool.{true}
 use mathlib.Core.List.{List, [], _++_, _∷_, map}
 use Prim.Native.Nat.{_+_, _-_, _≤_, suc, zero, ℕ}
 use native.Mathlib.Omega.{arith}
@@ -10,7 +10,7 @@ use lib.ListN.{length, length-replicate, replicate}
 use borrow.Author.Tests.{eqb-true, le-leb, leb-true}
 use Rattle.layout.specs.Result.{Each, Result, _and_, done, if_then_else_}
 use Rattle.layout.specs.Octets.{AllOctets, number16, numberAt, octetsOf}
-use Rattle.layout.specs.Types.{TypeRow, classify, inRange, typeAt, valueOf}
+use Rattle.layout.specs.Types.{classify, inRange, typeAt, valueOf}
 use Rattle.layout.specs.Book.{Data, Field, Groups, Shape, dataSinces, end, fieldSinces, isArray, isOptional, more, need}
 use Rattle.layout.specs.Book.{none}
 use Rattle.layout.specs.BookRules.{fieldsGood, lengthGood}
@@ -28,7 +28,7 @@ use Rattle.layout.proofs.Results.{and-right, done-inj, each-way, inv-bind, inv-
 use Rattle.layout.proofs.Stands.{AreAt, Stands, join, nothing-stands, numbers-stand, octets-stand, slice-stands}
 use Rattle.layout.proofs.TypeLaws.{octets-value}
 use Rattle.layout.specs.declared.Answer.{Answer}
-use Rattle.layout.specs.declared.Answer.the-variants.{Group, Null, Number, Octets, OutOfRange}
+use Rattle.layout.specs.declared.Answer.the-variants.{Group, Octets}
 
 module _ (m : List ℕ) (v : ℕ) (octets : AllOctets m) where
   -- ---- fields

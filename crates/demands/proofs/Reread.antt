@@ -107,16 +107,12 @@ module _ (l pool m : List ℕ) (v : ℕ) (small : Numbers64 l) where
       rw (span-long pool start len (q .within)) at (s′ .whole) in
       rw (← (q .is)) (ap (λ (r : List ℕ). 2 ∷ r) w)
 
-  array-octets : (f : Field) (start len : ℕ)
-      → fieldOctets pool f (Octets start len) ≡ spanOctets pool (Octets start len)
-  unfolding fieldOctets
-  array-octets f start len = refl
-
   array-field : (f : Field) (i at to : ℕ) (a : Answer) → isArray f ≡ true → judgeField l (length pool) f i ≡ done a
       → Stands m at (fieldOctets pool f a) to → contentOf m (Octets at (f .length)) ≡ contentOf pool a
+  unfolding fieldOctets
   array-field f i at to a y e s =
       let q = array-said l (length pool) f i a y e in
-      let o : fieldOctets pool f a ≡ spanOctets pool a = rw (← (q .0 .is)) (array-octets f (second l i) (third l i)) in
+      let o : fieldOctets pool f a ≡ spanOctets pool a = rw (← (q .0 .is)) refl in
       rw (← (q .1)) (octets-same a at to i (q .0) (rw o at s))
 
   field-back : (f : Field) (i base to : ℕ) (a : Answer) → f .since ≤ v
@@ -294,10 +290,6 @@ module _ (l pool m : List ℕ) (v : ℕ) (small : Numbers64 l) where
     unfolding readEntries _>>=_
     entries-next k at x to fs g ds r e q = rw (e, q) refl
 
-    entries-stop : (at : ℕ) → readEntries 0 readOne at ≡ done (nil, at)
-    unfolding readEntries
-    entries-stop at = refl
-
     entries-forth : (k i at to : ℕ) (b : Entry) (r : Values × ℕ) → judgeBlock l (length pool) s f′ i ≡ done b
         → ((x : ℕ) → Stands m x (rowOctets pool s gs (r .0)) to → RowBack (r .0) to (readEntries k readOne x))
         → Stands m at (rowOctets pool s gs (entry (b .0) (b .1) (b .2) (r .0))) to
@@ -321,7 +313,7 @@ module _ (l pool m : List ℕ) (v : ℕ) (small : Numbers64 l) where
     entries-back zero i at to r e st =
         subst (λ (x : Values × ℕ). Stands m at (rowOctets pool s gs (x .0)) to
         → RowBack (x .0) to (readEntries 0 readOne at)) (done-inj e)
-        (nothing-back s gs (readEntries 0 readOne) at to (entries-stop at)) st
+        (nothing-back s gs (readEntries 0 readOne) at to (unfold readEntries in refl)) st
     entries-back (suc k) i at to r e st =
         let p = inv-both _ _ _ _ e in
         subst (λ (x : Values × ℕ). Stands m at (rowOctets pool s gs (x .0)) to
@@ -343,9 +335,6 @@ module _ (l pool m : List ℕ) (v : ℕ) (small : Numbers64 l) where
       → readGroups m v (more i since s inner rest) 0 at ≡ done (group (Group k) es r, to)
   unfolding readGroups readGroup _>>=_ if_then_else_
   groups-next i since s inner rest at x to n k es r h a b c = rw (le-leb since v h, a, b, c) refl
-
-  three-same : {a a′ : List ℕ} {b b′ c c′ : List (List ℕ)} → a ≡ a′ → b ≡ b′ → c ≡ c′ → a ∷ (b ++ c) ≡ a′ ∷ (b′ ++ c′)
-  three-same p q r = rw (p, q, r) refl
 
   groups-forth : (i since : ℕ) (s : Shape) (inner rest : Groups) (s₀ : Shape) (k at to : ℕ) (es r : Values) → since ≤ v
       → GoodShape v s → k < null16
@@ -371,7 +360,7 @@ module _ (l pool m : List ℕ) (v : ℕ) (small : Numbers64 l) where
         values = group (Group k) (w .values) (z .values);
         reads = groups-next i since s inner rest at (mid + length xs) to (s .length) k (w .values) (z .values) h reads
             (w .reads) (z .reads);
-        same = three-same refl (w .same) (z .same);
+        same = rw (w .same, z .same) refl;
       }
 
   pub groups-back : (gs : Groups) (s₀ : Shape) (i at to : ℕ) (r : Values × ℕ) → GoodGroups v gs

@@ -24,7 +24,7 @@ use Rattle.demands.proofs.Reprinted.{block-stands, entryPrinted, groups
 use Rattle.layout.proofs.Fields.{need-within}
 use Rattle.layout.proofs.Accepted.{accepted}
 use Rattle.layout.proofs.Present.{UpTo, Writable, present-up, writable}
-use Rattle.layout.proofs.Results.{and-left, and-right, bind-done, done-inj, inv-bind, inv-both, inv-must}
+use Rattle.layout.proofs.Results.{and-left, and-right, bind-done, inv-bind, inv-both, inv-must}
 use Rattle.layout.proofs.Stands.{AreAt, Stands, join, nothing-stands, numbers-stand, stands-all}
 
 -- ---- the root of a message of the book's own version and root block length

@@ -5,7 +5,7 @@ use mathlib.Core.List.{List, [], _++_, _∷_}
 use mathlib.Core.Option.{some}
 use Prim.Native.Nat.{_+_, _<_, _≤_, suc, zero, ℕ}
 use native.Mathlib.Omega.{arith}
-use lib.Dec.{eqb, leb}
+use lib.Dec.{leb}
 use lib.ListN.{length, length-append}
 use borrow.Author.Tests.{eqb-true, le-leb, leb-false, leb-true, lt-ltb, ltb-true}
 use Rattle.layout.specs.Result.{Result, _>>=_, done, if_then_else_, must, orRefuse, refused}

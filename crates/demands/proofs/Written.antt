@@ -26,7 +26,7 @@ use Rattle.layout.proofs.Fields.{need-within}
 use Rattle.layout.proofs.Accepted.{Accepted, accepted}
 use Rattle.layout.proofs.Present.{Writable, present-up, writable}
 use Rattle.layout.proofs.Records.{listing-three}
-use Rattle.layout.proofs.Results.{and-left, and-right, bind-done, done-inj, inv-bind, inv-both, inv-found, inv-must}
+use Rattle.layout.proofs.Results.{and-left, and-right, bind-done, inv-bind, inv-both, inv-found, inv-must}
 use Rattle.layout.proofs.Stands.{AllWhole, AreAt, Stands, all-stands, length-numbers, numbers-are, split-to}
 use Rattle.layout.specs.declared.Answer.{Answer}
 

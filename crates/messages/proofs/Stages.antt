@@ -1,13 +1,13 @@
 -- A message up to its root block, stage by stage.
 use mathlib.Core.Path.{_≡_, _∙_, refl, sym}
-use mathlib.Core.Bool.{Bool, false, true}
+use mathlib.Core.Bool.{true}
 use mathlib.Core.List.{List}
 use Prim.Native.Nat.{ℕ, zero, suc, _+_, _*_, _<_, _≤_}
 use native.Mathlib.Omega.{arith}
 use lib.Dec.{eqb}
 use lib.ListN.{length}
 use borrow.Author.Tests.{eq-eqb, eqb-true, le-leb, leb-true, lt-leb, lt-ltb, ltb-true}
-use Rattle.layout.specs.Result.{_>>=_, _and_, done, if_then_else_, must}
+use Rattle.layout.specs.Result.{_>>=_, _and_, done, must}
 use Rattle.layout.specs.Octets.{null16}
 use Rattle.layout.specs.BookRules.{word}
 use Rattle.layout.specs.Contracts.{refusal}

@@ -1,6 +1,5 @@
 -- The law of spots: at the spot of steps stands the entry that answers for them.
 use mathlib.Core.Path.{_∙_, _≡_, ap, refl, sym}
-use mathlib.Core.Bool.{Bool, false, true}
 use mathlib.Core.List.{List, [], _∷_, map}
 use Prim.Native.Nat.{ℕ, zero, suc, _+_, _-_, _≤_, _<_}
 use native.Mathlib.Omega.{arith}
@@ -20,7 +19,7 @@ use Rattle.layout.specs.declared.Element.{Element}
 use Rattle.layout.proofs.Results.{done-inj, each-way, inv-bind, inv-both, inv-if, inv-must}
 use Rattle.wire.specs.Dimensions.{dimensioned}
 use Rattle.wire.proofs.Dimensions.{Good, good}
-use Rattle.places.specs.Spots.{Block, Spot, blockIn, dropGroups, entriesSpot, firstBlock, firstSpot, nowhere}
+use Rattle.places.specs.Spots.{Block, Spot, blockIn, dropGroups, firstBlock, firstSpot, nowhere}
 use Rattle.places.specs.Spots.{endOfRow, openedSpot, spotIn, stepSpot}
 use Rattle.places.proofs.Rows.{entries-few, row-from, spots-past, spots-turn}
 
@@ -66,14 +65,13 @@ module _ (m : List ℕ) (v : ℕ) where
   block-read s f n l at e h =
       let t = inv-bind _ _ _ h in
       let g = inv-both _ _ _ _ (t .next) in
-      let is = g .is in
       record {
         fits = leb-true (at + l) (length m) (inv-must _ _ _ _ (t .first));
         row = g .value;
         groups = g .first;
-        datas = g .second ∙ ap (λ (e : Entry). done (e .2, e .3)) is;
-        fields = ap (λ (e : Entry). e .0) is;
-        same = ap (λ (e : Entry). e .1) is;
+        datas = g .second ∙ ap (λ (e : Entry). done (e .2, e .3)) (g .is);
+        fields = ap (λ (e : Entry). e .0) (g .is);
+        same = ap (λ (e : Entry). e .1) (g .is);
       }
 
   block-on : (s : Shape) (f : ℕ → Result (Values × ℕ)) → ((x : ℕ) (r : Values × ℕ) → f x ≡ done r → x ≤ r .1)
@@ -105,12 +103,11 @@ module _ (m : List ℕ) (v : ℕ) where
   unfolding readGroup dimensioned
   group-read s inner at a h =
       let d = inv-both _ _ _ _ h in
-      let whole = d .is in
       record {
         length = d .value .0;
         count = d .value .1;
-        entries = d .second ∙ ap (λ (e : Answer × Values × ℕ). done (e .1, e .2)) whole;
-        itself = ap (λ (e : Answer × Values × ℕ). e .0) whole;
+        entries = d .second ∙ ap (λ (e : Answer × Values × ℕ). done (e .1, e .2)) (d .is);
+        itself = ap (λ (e : Answer × Values × ℕ). e .0) (d .is);
         is = good m (need v s) at (d .value .0) (d .value .1) (sym (ap dimensioned (d .first)));
       }
 

@@ -1,6 +1,5 @@
 -- Rows of the contents, whose ids rise: where the row with an id lies.
 use mathlib.Core.Path.{_≡_, ap, refl}
-use mathlib.Core.Bool.{Bool, false, true}
 use mathlib.Core.List.{List}
 use Prim.Native.Nat.{_*_, _+_, _<_, _≤_, suc, zero, ℕ}
 use native.Mathlib.Omega.{arith}

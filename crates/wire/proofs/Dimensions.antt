@@ -4,10 +4,10 @@ use mathlib.Core.List.{List}
 use Prim.Native.Nat.{_+_, _<_, _≤_, ℕ}
 use lib.ListN.{length}
 use borrow.Author.Tests.{leb-true, ltb-true}
-use Rattle.layout.specs.Result.{Result, _and_, done, refused}
+use Rattle.layout.specs.Result.{Result, done, refused}
 use Rattle.layout.specs.Octets.{null16, number16}
 use Rattle.layout.specs.Message.{readDimension}
-use Rattle.layout.proofs.Results.{and-left, and-right, done-inj, inv-bind, inv-both, inv-must}
+use Rattle.layout.proofs.Results.{and-left, and-right, inv-bind, inv-both, inv-must}
 use Rattle.layout.specs.declared.Refusal.{Refusal}
 use Rattle.wire.specs.Dimensions.{dimensioned}
 use Rattle.wire.specs.declared.Dimension.{Dimension}
@@ -32,9 +32,8 @@ module _ (m : List ℕ) (least at : ℕ) where
   read-good l k e =
       let a = inv-bind _ _ _ e in
       let b = inv-both _ _ _ _ (a .next) in
-      let p = b .is in
-      let l-is : number16 m at ≡ l = ap (λ (d : ℕ × ℕ). d .0) p in
-      let k-is : number16 m (at + 2) ≡ k = ap (λ (d : ℕ × ℕ). d .1) p in
+      let l-is : number16 m at ≡ l = ap (λ (d : ℕ × ℕ). d .0) (b .is) in
+      let k-is : number16 m (at + 2) ≡ k = ap (λ (d : ℕ × ℕ). d .1) (b .is) in
       let both = inv-must _ _ _ _ (b .first) in
       record {
         is = e;

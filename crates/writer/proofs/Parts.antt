@@ -17,10 +17,9 @@ use Rattle.layout.specs.Book.{Field, Groups, Shape, end, isArray, more, size}
 use Rattle.layout.specs.BookRules.{fieldAt, fieldsGood, lengthGood, parseFields, word}
 use Rattle.layout.specs.Writing.{fieldOctets, first, isGroup, isNumber, isThere, judgeData, judgeField}
 use Rattle.layout.specs.Writing.{numbers16, second, spanOf, third}
-use Rattle.layout.specs.declared.Answer.the-variants.{Null, Number}
 use Rattle.layout.proofs.Results.{and-left, and-right, each-way, none-left, one-less, or-right, some-left}
 use Rattle.layout.proofs.Fields.{field-good}
-use Rattle.layout.proofs.Said.{NumberSaid, array-said, data-said, number-said}
+use Rattle.layout.proofs.Said.{array-said, data-said, number-said}
 use Rattle.layout.proofs.Lengths.{field-long, span-long}
 use Rattle.layout.proofs.Stands.{length-octets}
 use Rattle.octets.proofs.Joined.{sets-append}
