@@ -7,13 +7,14 @@ use lib.Dec.{leb, ltb}
 use lib.ListN.{length}
 use borrow.Author.Tests.{le-leb, lt-leb}
 use Rattle.layout.specs.Result.{Result, _>>=_, _and_, must}
+use Rattle.layout.specs.Lists.{NameList}
 use Rattle.layout.specs.Book.{Shape, dataSinces}
 use Rattle.layout.specs.BookRules.{fieldsGood, parseDatas, parseFields, parseShape, rising, word}
 use Rattle.book.specs.Answers.{allRules, blockOf, fieldsRules, rulesAre}
 use Rattle.book.proofs.RuleLaws.{and-true}
 use Rattle.book.specs.declared.Block.the-variants as Block
 
-module _ (b : List ℕ) (few w version low high : ℕ) where
+module _ (ls : List NameList) (b : List ℕ) (few w version low high : ℕ) where
   abbrev f : ℕ
   f = word b (w + 1)
 
@@ -27,7 +28,7 @@ module _ (b : List ℕ) (few w version low high : ℕ) where
   countsGood = leb few f and leb f 64 and leb g 16 and leb d 16
 
   abbrev answer : Result (Shape × ℕ × ℕ)
-  answer = parseShape b few w
+  answer = parseShape ls b few w
 
   pub block-short : length b < w + 4 → blockOf version low high answer ≡ Block.Broken
   unfolding parseShape blockOf must _>>=_
@@ -37,22 +38,22 @@ module _ (b : List ℕ) (few w version low high : ℕ) where
   unfolding parseShape blockOf must _>>=_
   block-counts h c = rw (le-leb (w + 4) (length b) h, c) refl
 
-  pub block-long : w + 4 ≤ length b → countsGood ≡ true → length b < w + 4 + 6 * f + 2 * d
+  pub block-long : w + 4 ≤ length b → countsGood ≡ true → length b < w + 4 + 7 * f + 2 * d
       → blockOf version low high answer ≡ Block.Broken
   unfolding parseShape blockOf must _>>=_
-  block-long h c l = rw (le-leb (w + 4) (length b) h, c, lt-leb (w + 4 + 6 * f + 2 * d) (length b) l) refl
+  block-long h c l = rw (le-leb (w + 4) (length b) h, c, lt-leb (w + 4 + 7 * f + 2 * d) (length b) l) refl
 
-  pub block-whole : w + 4 ≤ length b → countsGood ≡ true → w + 4 + 6 * f + 2 * d ≤ length b
+  pub block-whole : w + 4 ≤ length b → countsGood ≡ true → w + 4 + 7 * f + 2 * d ≤ length b
       → blockOf version low high answer
-      ≡ Block.Whole g (w + 4 + 6 * f + 2 * d) (allRules (rulesAre (ltb (word b w) 65535) true)
-      (allRules (fieldsRules version low high (word b w) 0 (parseFields b f (w + 4)))
-      (rulesAre true (rising high low (dataSinces (parseDatas b d (w + 4 + 6 * f)))))))
+      ≡ Block.Whole g (w + 4 + 7 * f + 2 * d) (allRules (rulesAre (ltb (word b w) 65535) true)
+      (allRules (fieldsRules version low high (word b w) 0 (parseFields ls b f (w + 4)))
+      (rulesAre true (rising high low (dataSinces (parseDatas b d (w + 4 + 7 * f)))))))
   unfolding parseShape blockOf must _>>=_ allRules
   block-whole h c l =
       rw (
         le-leb (w + 4) (length b) h,
         c,
-        le-leb (w + 4 + 6 * f + 2 * d) (length b) l,
+        le-leb (w + 4 + 7 * f + 2 * d) (length b) l,
         and-true
-            (fieldsGood (word b w) 0 (parseFields b f (w + 4))),
+            (fieldsGood (word b w) 0 (parseFields ls b f (w + 4))),
       ) (unfold _and_ in refl)

@@ -8,12 +8,13 @@ use lib.Dec.{leb}
 use lib.ListN.{length}
 use borrow.Author.Tests.{leb-true}
 use Rattle.layout.specs.Result.{Result, _>>=_, _and_, done, refused}
+use Rattle.layout.specs.Lists.{NameList}
 use Rattle.layout.specs.Book.{Groups, Shape, more}
 use Rattle.layout.specs.BookRules.{groupsGood, groupsSince, parseGroups, parseShape, shapeGood, shapeSince, word}
 use Rattle.book.specs.Answers.{allRules, blockOf, groupRules, groupsRules, rowOf, rulesAre, shapeRules}
 use Rattle.book.proofs.Blocks.{block-short}
-use Rattle.book.proofs.RuleLaws.{and-assoc, and-true, rules-assoc, rules-start}
-use Rattle.layout.proofs.Results.{bind-done, done-inj, inv-bind, inv-both, inv-must}
+use Rattle.book.proofs.RuleLaws.{and-true, rules-assoc, rules-start}
+use Rattle.layout.proofs.Results.{and-assoc, bind-done, done-inj, inv-bind, inv-must}
 use Rattle.book.specs.declared.Rules.{Rules}
 use Rattle.book.specs.declared.Row.{Row}
 use Rattle.book.specs.declared.Row.the-variants as Row
@@ -89,59 +90,63 @@ row-broken version low high (refused n p) e = (n, p, refl)
 
 -- ---- the parts of a body lie in it
 
-shape-within : (b : List ℕ) (few w : ℕ) (r : Shape × ℕ × ℕ) → parseShape b few w ≡ done r → r .2 ≤ length b
+shape-within : (ls : List NameList) (b : List ℕ) (few w : ℕ) (r : Shape × ℕ × ℕ)
+    → parseShape ls b few w ≡ done r → r .2 ≤ length b
 unfolding parseShape
-shape-within b few w r e =
+shape-within ls b few w r e =
     let p = inv-bind _ _ _ (inv-bind _ _ _ (inv-bind _ _ _ e .next) .next) in
     subst (λ (x : Shape × ℕ × ℕ). x .2 ≤ length b) (done-inj (p .next)) (leb-true _ _ (inv-must _ _ _ _ (p .first)))
 
-groups-within : (b : List ℕ) (depth n w : ℕ) (r : Groups × ℕ) → parseGroups b depth n w ≡ done r → w ≤ length b
-    → r .1 ≤ length b
+groups-within : (ls : List NameList) (b : List ℕ) (depth n w : ℕ) (r : Groups × ℕ)
+    → parseGroups ls b depth n w ≡ done r → w ≤ length b → r .1 ≤ length b
 unfolding parseGroups
-groups-within b zero zero w r e h = subst (λ (x : Groups × ℕ). x .1 ≤ length b) (done-inj e) h
-groups-within b (suc depth) zero w r e h = subst (λ (x : Groups × ℕ). x .1 ≤ length b) (done-inj e) h
-groups-within b zero (suc n) w r e h = absurd (let z : _≡_ {A = ℕ} 0 1 = cc in omega arith)
-groups-within b (suc depth) (suc n) w r e h =
+groups-within ls b zero zero w r e h = subst (λ (x : Groups × ℕ). x .1 ≤ length b) (done-inj e) h
+groups-within ls b (suc depth) zero w r e h = subst (λ (x : Groups × ℕ). x .1 ≤ length b) (done-inj e) h
+groups-within ls b zero (suc n) w r e h = absurd (let z : _≡_ {A = ℕ} 0 1 = cc in omega arith)
+groups-within ls b (suc depth) (suc n) w r e h =
     let p = inv-bind _ _ _ e in
-    let q = inv-both _ _ _ _ (p .next) in
-    let y = groups-within b depth (p .value .1) (p .value .2) (q .value) (q .first)
-    (shape-within b 1 (w + 2) (p .value) (p .first)) in
-    subst (λ (x : Groups × ℕ). x .1 ≤ length b) (q .is)
-    (groups-within b (suc depth) n (q .value .1) (q .other) (q .second) y)
+    let q = inv-bind _ _ _ (p .next) in
+    let k = inv-bind _ _ _ (q .next) in
+    let y = groups-within ls b depth (p .value .1) (p .value .2) (q .value) (q .first)
+    (shape-within ls b 1 (w + 2) (p .value) (p .first)) in
+    subst (λ (x : Groups × ℕ). x .1 ≤ length b) (done-inj (k .next))
+    (groups-within ls b (suc depth) n (q .value .1) (k .value) (k .first) y)
 
-pub block-within : (b : List ℕ) (few w version low high g x : ℕ) (q : Rules)
-    → Block.Whole g x q ≡ blockOf version low high (parseShape b few w)
+pub block-within : (ls : List NameList) (b : List ℕ) (few w version low high g x : ℕ) (q : Rules)
+    → Block.Whole g x q ≡ blockOf version low high (parseShape ls b few w)
     → x ≤ length b
-block-within b few w version low high g x q e = shape-within b few w _ (block-is version low high g x q _ e .is)
+block-within ls b few w version low high g x q e = shape-within ls b few w _ (block-is version low high g x q _ e .is)
 
-pub row-within : (b : List ℕ) (depth n w version low high y : ℕ) (q : Rules)
-    → Row.Whole y q ≡ rowOf version low high (parseGroups b depth n w)
+pub row-within : (ls : List NameList) (b : List ℕ) (depth n w version low high y : ℕ) (q : Rules)
+    → Row.Whole y q ≡ rowOf version low high (parseGroups ls b depth n w)
     → w ≤ length b → y ≤ length b
-row-within b depth n w version low high y q e h = groups-within b depth n w _ (row-is version low high y q _ e .is) h
+row-within ls b depth n w version low high y q e h =
+    groups-within ls b depth n w _ (row-is version low high y q _ e .is) h
 
 -- ---- one group more
 
-pub row-end : (b : List ℕ) (depth n w version low high : ℕ) → n ≤ 0
-    → rowOf version low high (parseGroups b depth n w) ≡ Row.Whole w (rulesAre true true)
+pub row-end : (ls : List NameList) (b : List ℕ) (depth n w version low high : ℕ) → n ≤ 0
+    → rowOf version low high (parseGroups ls b depth n w) ≡ Row.Whole w (rulesAre true true)
 unfolding parseGroups rowOf groupsGood groupsSince
-row-end b zero zero w version low high h = refl
-row-end b (suc depth) zero w version low high h = refl
-row-end b depth (suc n) w version low high h = absurd (omega arith)
+row-end ls b zero zero w version low high h = refl
+row-end ls b (suc depth) zero w version low high h = refl
+row-end ls b depth (suc n) w version low high h = absurd (omega arith)
 
-pub row-deep : (b : List ℕ) (depth n w version low high : ℕ) → 0 < n → depth ≡ 0
-    → rowOf version low high (parseGroups b depth n w) ≡ Row.Broken
+pub row-deep : (ls : List NameList) (b : List ℕ) (depth n w version low high : ℕ) → 0 < n → depth ≡ 0
+    → rowOf version low high (parseGroups ls b depth n w) ≡ Row.Broken
 unfolding parseGroups rowOf
-row-deep b zero zero w version low high h e = absurd (omega arith)
-row-deep b zero (suc n) w version low high h e = refl
-row-deep b (suc depth) n w version low high h e = absurd (omega arith)
+row-deep ls b zero zero w version low high h e = absurd (omega arith)
+row-deep ls b zero (suc n) w version low high h e = refl
+row-deep ls b (suc depth) n w version low high h e = absurd (omega arith)
 
-pub groups-step : (b : List ℕ) (depth n w : ℕ) → 0 < depth → 0 < n → parseGroups b depth n w ≡ (parseShape b 1 (w + 2)
-    >>= λ s. parseGroups b (depth - 1) (s .1) (s .2) >>= λ i. parseGroups b depth (n - 1) (i .1)
+pub groups-step : (ls : List NameList) (b : List ℕ) (depth n w : ℕ) → 0 < depth → 0 < n
+    → parseGroups ls b depth n w ≡ (parseShape ls b 1 (w + 2)
+    >>= λ s. parseGroups ls b (depth - 1) (s .1) (s .2) >>= λ i. parseGroups ls b depth (n - 1) (i .1)
     >>= λ r. done (more (word b w) (word b (w + 1)) (s .0) (i .0) (r .0), r .1))
 unfolding parseGroups
-groups-step b zero n w deep h = absurd (omega arith)
-groups-step b (suc depth) zero w deep h = absurd (omega arith)
-groups-step b (suc depth) (suc n) w deep h =
+groups-step ls b zero n w deep h = absurd (omega arith)
+groups-step ls b (suc depth) zero w deep h = absurd (omega arith)
+groups-step ls b (suc depth) (suc n) w deep h =
     let p : suc depth - 1 ≡ depth = omega arith in
     let q : suc n - 1 ≡ n = omega arith in
     rw (p, q) refl
@@ -170,54 +175,54 @@ row-joined version low high id since s i (done r) =
     ap (Row.Whole (r .1)) (group-rules version low high id since s i (r .0))
 row-joined version low high id since s i (refused n p) = refl
 
-module _ (b : List ℕ) (depth n w version low high : ℕ) (deep : 0 < depth) (some-left : 0 < n) where
+module _ (ls : List NameList) (b : List ℕ) (depth n w version low high : ℕ) (deep : 0 < depth) (some-left : 0 < n) where
   abbrev since : ℕ
   since = word b (w + 1)
 
-  pub row-block : Block.Broken ≡ blockOf version since since (parseShape b 1 (w + 2))
-      → rowOf version low high (parseGroups b depth n w) ≡ Row.Broken
+  pub row-block : Block.Broken ≡ blockOf version since since (parseShape ls b 1 (w + 2))
+      → rowOf version low high (parseGroups ls b depth n w) ≡ Row.Broken
   unfolding rowOf _>>=_
   row-block e =
       let k = block-broken version since since _ e in
-      rw (groups-step b depth n w deep some-left, k .2) refl
+      rw (groups-step ls b depth n w deep some-left, k .2) refl
 
-  pub row-short : length b < w + 2 → rowOf version low high (parseGroups b depth n w) ≡ Row.Broken
-  row-short h = row-block (sym (block-short b 1 (w + 2) version since since (omega arith)))
+  pub row-short : length b < w + 2 → rowOf version low high (parseGroups ls b depth n w) ≡ Row.Broken
+  row-short h = row-block (sym (block-short ls b 1 (w + 2) version since since (omega arith)))
 
-  module _ (g x : ℕ) (q : Rules) (block : Block.Whole g x q ≡ blockOf version since since (parseShape b 1 (w + 2)))
+  module _ (g x : ℕ) (q : Rules) (block : Block.Whole g x q ≡ blockOf version since since (parseShape ls b 1 (w + 2)))
     where
       abbrev inner : Result (Groups × ℕ)
-      inner = parseGroups b (depth - 1) g x
+      inner = parseGroups ls b (depth - 1) g x
 
-      is-block : BlockIs version since since g x q (parseShape b 1 (w + 2))
-      is-block = block-is version since since g x q (parseShape b 1 (w + 2)) block
+      is-block : BlockIs version since since g x q (parseShape ls b 1 (w + 2))
+      is-block = block-is version since since g x q (parseShape ls b 1 (w + 2)) block
 
       pub row-inner : Row.Broken ≡ rowOf version since since inner
-          → rowOf version low high (parseGroups b depth n w) ≡ Row.Broken
+          → rowOf version low high (parseGroups ls b depth n w) ≡ Row.Broken
       row-inner e =
           let k = row-broken version since since inner e in
           refused-inner (is-block .shape) (k .0) (k .1) (is-block .is) (k .2)
         where
-          refused-inner : (s : Shape) (m p : ℕ) → parseShape b 1 (w + 2) ≡ done (s, g, x) → inner ≡ refused m p
-              → rowOf version low high (parseGroups b depth n w) ≡ Row.Broken
-          refused-inner s m p e i = rw (groups-step b depth n w deep some-left, e, bind-done, i)
+          refused-inner : (s : Shape) (m p : ℕ) → parseShape ls b 1 (w + 2) ≡ done (s, g, x) → inner ≡ refused m p
+              → rowOf version low high (parseGroups ls b depth n w) ≡ Row.Broken
+          refused-inner s m p e i = rw (groups-step ls b depth n w deep some-left, e, bind-done, i)
               (unfold rowOf _>>=_ in refl)
 
       pub row-next : (y : ℕ) (p : Rules) → Row.Whole y p ≡ rowOf version since since inner
-          → rowOf version low high (parseGroups b depth n w)
-          ≡ after (groupRules low since high q p) (rowOf version since high (parseGroups b depth (n - 1) y))
+          → rowOf version low high (parseGroups ls b depth n w)
+          ≡ after (groupRules low since high q p) (rowOf version since high (parseGroups ls b depth (n - 1) y))
       row-next y p e =
           let i = row-is version since since y p inner e in
-          let rest = rowOf version since high (parseGroups b depth (n - 1) y) in
+          let rest = rowOf version since high (parseGroups ls b depth (n - 1) y) in
           whole (is-block .shape) (i .groups) y (is-block .is) (i .is)
           ∙ ap (λ (r : Rules). after (groupRules low since high r (groupsRules version since since (i .groups))) rest)
           (sym (is-block .rules))
           ∙ ap (λ (r : Rules). after (groupRules low since high q r) rest) (sym (i .rules))
         where
-          whole : (s : Shape) (i : Groups) (y : ℕ) → parseShape b 1 (w + 2) ≡ done (s, g, x) → inner ≡ done (i, y)
-              → rowOf version low high (parseGroups b depth n w)
+          whole : (s : Shape) (i : Groups) (y : ℕ) → parseShape ls b 1 (w + 2) ≡ done (s, g, x) → inner ≡ done (i, y)
+              → rowOf version low high (parseGroups ls b depth n w)
               ≡ after (groupRules low since high (shapeRules version since since s) (groupsRules version since since i))
-              (rowOf version since high (parseGroups b depth (n - 1) y))
+              (rowOf version since high (parseGroups ls b depth (n - 1) y))
           whole s i y e j =
-              rw (groups-step b depth n w deep some-left, e, bind-done, j, bind-done)
-              (row-joined version low high (word b w) since s i (parseGroups b depth (n - 1) y))
+              rw (groups-step ls b depth n w deep some-left, e, bind-done, j, bind-done)
+              (row-joined version low high (word b w) since s i (parseGroups ls b depth (n - 1) y))

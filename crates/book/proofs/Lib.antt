@@ -1,5 +1,8 @@
 pub mod Words
+pub mod Search
+pub mod Rows
 pub mod RuleLaws
+pub mod NameLists
 pub mod Blocks
 pub mod Groups
 pub mod Bodies

@@ -2,15 +2,13 @@
 use mathlib.Core.Path.{_≡_}
 use mathlib.Core.Bool.{Bool, true}
 use mathlib.Core.List.{List}
-use Prim.Native.Nat.{_*_, _+_, _<_, ℕ}
+use Prim.Native.Nat.{_<_, ℕ}
 use lib.Dec.{leb, ltb}
-use lib.ListN.{length}
 use Rattle.layout.specs.Result.{Result, _>>=_, _and_, done, if_then_else_, refused}
 use Rattle.layout.specs.Octets.{wordsOf}
 use Rattle.layout.specs.Book.{Field, Groups, Shape, Template, end, fieldSinces}
-use Rattle.layout.specs.BookRules.{contentsGood, eachMust, fieldGood, fieldsGood, fieldsSince, groupsGood, groupsSince}
-use Rattle.layout.specs.BookRules.{headGood, layoutGood, parseBodies, parseContents, shapeGood, shapeSince, sinceGood}
-use Rattle.layout.specs.BookRules.{word}
+use Rattle.layout.specs.BookRules.{eachMust, fieldGood, fieldsGood, fieldsSince, groupsGood, groupsSince, layoutGood}
+use Rattle.layout.specs.BookRules.{listGood, listsOf, parseBodies, shapeGood, shapeSince, sinceGood, templateRows, word}
 use Rattle.layout.specs.Contracts.{checked}
 use Rattle.layout.specs.declared.Checked.{Checked}
 use Rattle.book.specs.declared.Rules.{Rules}
@@ -76,14 +74,6 @@ bodyOf version (refused n p) = Body.the-variants.Broken
 
 -- ---- all bodies: "lowest number found in any template, then the first template that has it"
 
--- The head is good, and so the contents lie within the book.
-pub record BookHead (s : List ℕ) : Type 0 where
-  pub good : headGood (wordsOf s) ≡ true
-
--- Rule 3, over the words of a book.
-abbrev pub contentsKept : List ℕ → Bool
-contentsKept b = contentsGood (length b) 0 (4 + 3 * word b 2) (parseContents b (word b 2) 4)
-
 -- No template has this number.
 abbrev pub noTemplate : ℕ
 noTemplate = 64
@@ -96,10 +86,12 @@ firstOf seen keeps t = if ltb seen noTemplate then seen else if keeps then noTem
 unfoldable pub seenOr : ℕ → ℕ → Result (Unit {0}) → Result (Unit {0})
 seenOr seen n x = if ltb seen noTemplate then refused n seen else x
 
--- 5 and 6 for the templates x from number t on, `five` and `six` being the first that broke a rule before them.
-unfoldable pub ruled : ℕ → ℕ → ℕ → ℕ → Result (List Template) → Result (Unit {0})
-ruled version t five six x = do
+-- 4 of the lists, and 5 and 6 for the templates x from number t on, `five` and `six` being the first that broke a rule
+-- before them.
+unfoldable pub ruled : Result (Unit {0}) → ℕ → ℕ → ℕ → ℕ → Result (List Template) → Result (Unit {0})
+ruled lists version t five six x = do
   ts ← x
+  _ ← lists
   _ ← seenOr five 5 (eachMust layoutGood 5 t ts)
   seenOr six 6 (eachMust (sinceGood version) 6 t ts)
 
@@ -108,4 +100,6 @@ verdictOf five six = checked (seenOr five 5 (done tt) >>= λ _. seenOr six 6 (do
 
 -- 4 to 6, over the words of a book.
 abbrev pub bodiesOf : List ℕ → Result (Unit {0})
-bodiesOf b = ruled (word b 1) 0 noTemplate noTemplate (parseBodies b 0 (parseContents b (word b 2) 4))
+bodiesOf b =
+    ruled (eachMust listGood 4 (word b 2) (listsOf b)) (word b 1) 0 noTemplate noTemplate
+    (parseBodies (listsOf b) b 0 (templateRows b))

@@ -1,21 +1,25 @@
 // Checks a schema book: accepted, or the refusal 1 to 6 with its place. One walk over the words of each body finds
-// whether the body is whole (4) and, if it is, whether it keeps the rules of 5 and of 6.
+// whether the body is whole (4) and, if it is, whether it keeps the rules of 5 and of 6. Then the lists are judged (4).
 use layout::Checked;
 use layout::Refusal;
 ghost use mathlib.Core.Path.{_≡_};
 ghost use mathlib.Core.Bool.{true};
+ghost use mathlib.Core.List.{[], _∷_};
 ghost use Prim.Native.Nat.{_+_, _*_, _/_, _<_, _≤_};
 ghost use lib.Dec.{leb, ltb, eqb};
-ghost use lib.ListN.{length};
+ghost use lib.ListN.{length, take, drop};
 ghost use Rattle.layout.specs.Result.{_and_, _or_};
 ghost use Rattle.layout.specs.Octets.{wordsOf};
 ghost use Rattle.layout.specs.Types.{typeAt};
+ghost use Rattle.layout.specs.Lists.{isOneOf};
 ghost use Rattle.layout.specs.Book.{dataSinces};
-ghost use Rattle.layout.specs.BookRules.{fieldAt, parseFields, parseDatas, parseShape, parseGroups, parseBody};
-ghost use Rattle.layout.specs.BookRules.{rising, sizeGood, headGood};
+ghost use Rattle.layout.specs.BookRules.{checkContents, climbing, contentsEnd, eachMust, fieldAt, greatest, headGood};
+ghost use Rattle.layout.specs.BookRules.{listGood, listsOf, namesGood, parseBody, parseContents, parseDatas};
+ghost use Rattle.layout.specs.BookRules.{parseFields, parseGroups, parseShape, rising, sizeGood, word as wordOf};
 ghost use Rattle.layout.specs.Contracts.{checked, refusal, ChecksBook};
 ghost use Rattle.book.specs.Answers.{IsWord, allRules, groupRules, fieldOf, fieldsRules, blockOf, rowOf, bodyOf};
-ghost use Rattle.book.specs.Answers.{firstOf, verdictOf, BookHead, contentsKept, bodiesOf};
+ghost use Rattle.book.specs.Answers.{firstOf, verdictOf, bodiesOf};
+ghost use Rattle.book.specs.Rows.{BookHead, EndsLow, HasLists, IsListRow, endOf, listAt, listFits, listedOf};
 
 // Whether the rules of 5 and of 6 hold.
 pub struct Rules {
@@ -50,6 +54,23 @@ pub enum Body {
     Whole(Rules),
     Broken,
 }
+
+// Rows of the contents: the word after the last body.
+pub enum Contents {
+    Whole(usize),
+    Broken,
+}
+
+// The list with a number: its position among the lists.
+pub enum Listed {
+    At(usize),
+    Missing,
+}
+
+// How many words are the head, and a row of the contents.
+const HEAD: usize = 5;
+
+const ROW: usize = 3;
 
 // No template has this number.
 const NO_TEMPLATE: usize = 64;
@@ -95,6 +116,161 @@ pub fn word(s: &[u8], w: usize) -> usize
     octets::get2(s, 2 * w) as usize
 }
 
+// ---- lists
+
+// The list with this number, among those of the book: numbers rise, so half of the rows is passed at each step.
+pub fn find_list(book: &[u8], id: usize) -> Listed
+    requires { ⌜ HasLists (now book) ⌝ }
+    ensures { λ r. ⌜ r ≡ listedOf (wordsOf (now (book .entry))) id ⌝ }
+{
+    let rows = HEAD + ROW * word(book, 2);
+    let mut low = 0;
+    let mut high = word(book, 4);
+    while low < high {
+        let mid = (low + high) / 2;
+        let here = word(book, rows + ROW * mid);
+        if here == id {
+            return Listed::At(mid);
+        }
+        if here < id {
+            low = mid + 1;
+        } else {
+            high = mid;
+        }
+    }
+    Listed::Missing
+}
+
+// The word for the kind of the list whose row is at word w.
+fn kind_of(book: &[u8], w: usize) -> usize
+    requires { ⌜ IsListRow (now book) w ⌝ }
+    ensures { λ r. ⌜ r ≡ listAt (wordsOf (now (book .entry))) w .kind ⌝ }
+{
+    if word(book, w + 2) == 0 {
+        return 0;
+    }
+    word(book, word(book, w + 1))
+}
+
+// The greatest number of that list, or 0.
+fn greatest_of(book: &[u8], w: usize) -> usize
+    requires { ⌜ IsListRow (now book) w ⌝ }
+    ensures { λ r. ⌜ r ≡ greatest (listAt (wordsOf (now (book .entry))) w .numbers) ⌝ }
+{
+    let n = word(book, w + 2);
+    if n <= 1 {
+        return 0;
+    }
+    word(book, word(book, w + 1) + n - 1)
+}
+
+// Whether a type may have an enumeration, and a set: char, uint8 and uint16; an unsigned type.
+fn takes_values(t: usize) -> bool
+    ensures { λ r. ⌜ r ≡ isOneOf t (0 ∷ 2 ∷ 4 ∷ []) ⌝ }
+{
+    match t {
+        0 | 2 | 4 => true,
+        _ => false,
+    }
+}
+
+fn takes_bits(t: usize) -> bool
+    ensures { λ r. ⌜ r ≡ isOneOf t (2 ∷ 4 ∷ 6 ∷ 8 ∷ []) ⌝ }
+{
+    match t {
+        2 | 4 | 6 | 8 => true,
+        _ => false,
+    }
+}
+
+// Whether the list whose row is at word w fits a number of type t.
+fn list_fits(book: &[u8], w: usize, t: usize) -> bool
+    requires { ⌜ IsListRow (now book) w ⌝ }
+    ensures { λ r. ⌜ r ≡ listFits (listAt (wordsOf (now (book .entry))) w) t ⌝ }
+{
+    if kind_of(book, w) == 0 {
+        return takes_values(t);
+    }
+    both(
+        takes_bits(t),
+        greatest_of(book, w) < 8 * number_types::width_of(t),
+    )
+}
+
+// Whether the field at word w of a body may have the list that its last word leads to, if to one.
+fn names_good(book: &[u8], body: &[u8], w: usize) -> bool
+    requires { ⌜ HasLists (now book) × (w + 7 ≤ length (now body) / 2) ⌝ }
+    ensures { λ r. ⌜ r ≡ namesGood (fieldAt (listsOf (wordsOf (now (book .entry)))) (wordsOf (now (body .entry)))
+        w) ⌝ }
+{
+    let list = word(body, w + 6);
+    if list == 0 {
+        return true;
+    }
+    let Listed::At(i) = find_list(book, list - 1) else {
+        return false;
+    };
+    if 1 < word(body, w + 2) {
+        return false;
+    }
+    list_fits(book, HEAD + ROW * (word(book, 2) + i), word(body, w + 1))
+}
+
+// Whether the n numbers from word `from` on rise.
+fn numbers_rise(book: &[u8], from: usize, n: usize) -> bool
+    requires { ⌜ from + n ≤ length (now book) / 2 ⌝ }
+    ensures { λ r. ⌜ r ≡ climbing 0 (take n (drop from (wordsOf (now (book .entry))))) ⌝ }
+{
+    let mut w = from;
+    let mut left = n;
+    let mut low = 0;
+    while 0 < left {
+        let here = word(book, w);
+        if here < low {
+            return false;
+        }
+        low = here + 1;
+        w = w + 1;
+        left = left - 1;
+    }
+    true
+}
+
+// Whether the list whose row is at word w keeps its rule.
+fn list_good(book: &[u8], w: usize) -> bool
+    requires { ⌜ IsListRow (now book) w ⌝ }
+    ensures { λ r. ⌜ r ≡ listGood (listAt (wordsOf (now (book .entry))) w) ⌝ }
+{
+    let n = word(book, w + 2);
+    if between(2, n, 65) {
+        if kind_of(book, w) < 2 {
+            return numbers_rise(book, word(book, w + 1) + 1, n - 1);
+        }
+    }
+    false
+}
+
+// 4 at the first list that breaks its rule, counted on from the templates.
+fn check_lists(book: &[u8]) -> Checked
+    requires { ⌜ HasLists (now book) ⌝ }
+    ensures { λ r. ⌜ r ≡ checked (eachMust listGood 4 (wordOf (wordsOf (now (book .entry))) 2)
+        (listsOf (wordsOf (now (book .entry))))) ⌝ }
+{
+    let mut place = word(book, 2);
+    let mut left = word(book, 4);
+    let mut w = HEAD + ROW * place;
+    while 0 < left {
+        if list_good(book, w) {
+            place = place + 1;
+            w = w + ROW;
+            left = left - 1;
+        } else {
+            return refuse(4, place);
+        }
+    }
+    Checked::Accepted
+}
+
 // ---- fields and data
 
 // The end of a field of type t.
@@ -113,9 +289,18 @@ fn length_good(t: usize, n: usize) -> bool
 }
 
 // The field at word w of a block of l octets, after one that ends at e; its since lies from `low` to `high`.
-fn check_field(body: &[u8], w: usize, l: usize, e: usize, low: usize, high: usize) -> Field
-    requires { ⌜ w + 6 ≤ length (now body) / 2 ⌝ }
-    ensures { λ r. ⌜ r ≡ fieldOf l e low high (fieldAt (wordsOf (now (body .entry))) w) ⌝ }
+fn check_field(
+    book: &[u8],
+    body: &[u8],
+    w: usize,
+    l: usize,
+    e: usize,
+    low: usize,
+    high: usize,
+) -> Field
+    requires { ⌜ HasLists (now book) × (w + 7 ≤ length (now body) / 2) ⌝ }
+    ensures { λ r. ⌜ r ≡ fieldOf l e low high (fieldAt (listsOf (wordsOf (now (book .entry)))) (wordsOf (now
+        (body .entry))) w) ⌝ }
 {
     let t = word(body, w + 1);
     let n = word(body, w + 2);
@@ -123,7 +308,7 @@ fn check_field(body: &[u8], w: usize, l: usize, e: usize, low: usize, high: usiz
     let presence = word(body, w + 4);
     let since = word(body, w + 5);
     let end = field_end(t, n, offset);
-    let placed = both(e <= offset, end <= l);
+    let placed = both(e <= offset, both(end <= l, names_good(book, body, w)));
     let layout = both(t < 9, both(length_good(t, n), both(presence <= 1, placed)));
     let rules = Rules {
         layout,
@@ -134,6 +319,7 @@ fn check_field(body: &[u8], w: usize, l: usize, e: usize, low: usize, high: usiz
 
 // The n fields at word `from` of a block of l octets.
 fn check_fields(
+    book: &[u8],
     body: &[u8],
     from: usize,
     n: usize,
@@ -142,8 +328,9 @@ fn check_fields(
     low: usize,
     high: usize,
 ) -> Rules
-    requires { ⌜ from + 6 * n ≤ length (now body) / 2 ⌝ }
-    ensures { λ r. ⌜ r ≡ fieldsRules version low high l 0 (parseFields (wordsOf (now (body .entry))) n from) ⌝ }
+    requires { ⌜ HasLists (now book) × (from + 7 * n ≤ length (now body) / 2) ⌝ }
+    ensures { λ r. ⌜ r ≡ fieldsRules version low high l 0 (parseFields (listsOf (wordsOf (now (book .entry)))) (wordsOf
+        (now (body .entry))) n from) ⌝ }
 {
     let mut w = from;
     let mut left = n;
@@ -155,12 +342,12 @@ fn check_fields(
         since: true,
     };
     while 0 < left {
-        let field = check_field(body, w, l, e, least, most);
+        let field = check_field(book, body, w, l, e, least, most);
         rules = all_rules(rules, field.rules);
         e = field.end;
         least = field.since;
         most = version;
-        w = w + 6;
+        w = w + 7;
         left = left - 1;
     }
     rules
@@ -197,9 +384,18 @@ fn counts_good(few: usize, f: usize, g: usize, d: usize) -> bool
 }
 
 // The block at word w up to its groups. It has at least `few` fields.
-fn check_block(body: &[u8], few: usize, w: usize, version: usize, low: usize, high: usize) -> Block
-    requires { ⌜ w ≤ length (now body) / 2 ⌝ }
-    ensures { λ r. ⌜ r ≡ blockOf version low high (parseShape (wordsOf (now (body .entry))) few w) ⌝ }
+fn check_block(
+    book: &[u8],
+    body: &[u8],
+    few: usize,
+    w: usize,
+    version: usize,
+    low: usize,
+    high: usize,
+) -> Block
+    requires { ⌜ HasLists (now book) × (w ≤ length (now body) / 2) ⌝ }
+    ensures { λ r. ⌜ r ≡ blockOf version low high (parseShape (listsOf (wordsOf (now (book .entry)))) (wordsOf (now
+        (body .entry))) few w) ⌝ }
 {
     let size = body.len() / 2;
     if size < w + 4 {
@@ -209,13 +405,13 @@ fn check_block(body: &[u8], few: usize, w: usize, version: usize, low: usize, hi
     let g = word(body, w + 2);
     let d = word(body, w + 3);
     if counts_good(few, f, g, d) {
-        let datas = w + 4 + 6 * f;
+        let datas = w + 4 + 7 * f;
         let next = datas + 2 * d;
         if size < next {
             return Block::Broken;
         }
         let l = word(body, w);
-        let fields = check_fields(body, w + 4, f, l, version, low, high);
+        let fields = check_fields(book, body, w + 4, f, l, version, low, high);
         let whole = Rules {
             layout: l < 65535,
             since: true,
@@ -254,6 +450,7 @@ fn more_rules(
 
 // The n groups in a row at word `from`, `depth` more levels being left.
 fn check_groups(
+    book: &[u8],
     body: &[u8],
     from: usize,
     n: usize,
@@ -262,8 +459,9 @@ fn check_groups(
     low: usize,
     high: usize,
 ) -> Row
-    requires { ⌜ from ≤ length (now body) / 2 ⌝ }
-    ensures { λ r. ⌜ r ≡ rowOf version low high (parseGroups (wordsOf (now (body .entry))) depth n from) ⌝ }
+    requires { ⌜ HasLists (now book) × (from ≤ length (now body) / 2) ⌝ }
+    ensures { λ r. ⌜ r ≡ rowOf version low high (parseGroups (listsOf (wordsOf (now (book .entry)))) (wordsOf (now
+        (body .entry))) depth n from) ⌝ }
 {
     let mut w = from;
     let mut left = n;
@@ -280,7 +478,7 @@ fn check_groups(
             return Row::Broken;
         }
         let since = word(body, w + 1);
-        let block = check_block(body, 1, w + 2, version, since, since);
+        let block = check_block(book, body, 1, w + 2, version, since, since);
         let Block::Whole {
             groups,
             next: inside,
@@ -289,7 +487,7 @@ fn check_groups(
         else {
             return Row::Broken;
         };
-        let inner = check_groups(body, inside, groups, depth - 1, version, since, since);
+        let inner = check_groups(book, body, inside, groups, depth - 1, version, since, since);
         let Row::Whole { next, rules: below } = inner else {
             return Row::Broken;
         };
@@ -302,10 +500,12 @@ fn check_groups(
 }
 
 // A body is one block, and nothing after it.
-fn check_body(body: &[u8], version: usize) -> Body
-    ensures { λ r. ⌜ r ≡ bodyOf version (parseBody (wordsOf (now (body .entry)))) ⌝ }
+fn check_body(book: &[u8], body: &[u8], version: usize) -> Body
+    requires { ⌜ HasLists (now book) ⌝ }
+    ensures { λ r. ⌜ r ≡ bodyOf version (parseBody (listsOf (wordsOf (now (book .entry)))) (wordsOf (now
+        (body .entry)))) ⌝ }
 {
-    let block = check_block(body, 0, 0, version, 0, version);
+    let block = check_block(book, body, 0, 0, version, 0, version);
     let Block::Whole {
         groups,
         next: inside,
@@ -314,7 +514,7 @@ fn check_body(body: &[u8], version: usize) -> Body
     else {
         return Body::Broken;
     };
-    let row = check_groups(body, inside, groups, 4, version, 0, version);
+    let row = check_groups(book, body, inside, groups, 4, version, 0, version);
     let Row::Whole { next, rules: below } = row else {
         return Body::Broken;
     };
@@ -351,32 +551,34 @@ fn verdict(five: usize, six: usize) -> Checked
     Checked::Accepted
 }
 
-// The bodies of all templates: 4 where one is broken, else 5 at the first that breaks its rule, else 6.
+// The bodies of all templates: 4 where one is broken or a list is, else 5 at the first that breaks its rule, else 6.
 fn check_bodies(book: &[u8]) -> Checked
-    requires { ⌜ BookHead (now book) ⌝ }
-    requires { ⌜ contentsKept (wordsOf (now book)) ≡ true ⌝ }
+    requires { ⌜ HasLists (now book) ⌝ }
     ensures { λ r. ⌜ r ≡ checked (bodiesOf (wordsOf (now (book .entry)))) ⌝ }
 {
     let version = word(book, 1);
     let mut left = word(book, 2);
     let mut t = 0;
-    let mut w = 4;
+    let mut w = HEAD;
     let mut five = NO_TEMPLATE;
     let mut six = NO_TEMPLATE;
     while 0 < left {
         let start = 2 * word(book, w + 1);
         let end = start + 2 * word(book, w + 2);
-        let body = check_body(&book[start..end], version);
+        let body = check_body(book, &book[start..end], version);
         let Body::Whole(rules) = body else {
             return refuse(4, t);
         };
         five = first_of(five, rules.layout, t);
         six = first_of(six, rules.since, t);
         t = t + 1;
-        w = w + 3;
+        w = w + ROW;
         left = left - 1;
     }
-    verdict(five, six)
+    let Checked::Refused(refusal) = check_lists(book) else {
+        return verdict(five, six);
+    };
+    Checked::Refused(refusal)
 }
 
 fn size_good(book: &[u8]) -> bool
@@ -391,8 +593,12 @@ fn head_good(book: &[u8]) -> bool
     ensures { λ r. ⌜ r ≡ headGood (wordsOf (now (book .entry))) ⌝ }
 {
     let size = book.len() / 2;
+    if size < HEAD {
+        return false;
+    }
     let n = word(book, 2);
-    let room = both(1 <= n, both(n <= 64, 4 + 3 * n <= size));
+    let contents = HEAD + ROW * (n + word(book, 4));
+    let room = both(1 <= n, both(n <= 64, contents <= size));
     let whole = both(word(book, 0) < 65535, both(word(book, 1) < 65535, room));
     both(word(book, 3) == size, whole)
 }
@@ -403,26 +609,48 @@ fn row_good(low: usize, id: usize, at: usize, first: usize) -> bool
     both(low <= id, both(id < 65535, first == at))
 }
 
-fn contents_good(book: &[u8]) -> bool
-    requires { ⌜ BookHead (now book) ⌝ }
-    ensures { λ r. ⌜ r ≡ contentsKept (wordsOf (now (book .entry))) ⌝ }
+// The n rows at word `from`, the first body being at word `start`.
+fn contents_end(book: &[u8], from: usize, n: usize, start: usize) -> Contents
+    requires { ⌜ (from + 3 * n ≤ length (now book) / 2) × (start ≤ 262140) ⌝ }
+    ensures { λ r. ⌜ r ≡ endOf (contentsEnd 0 start (parseContents (wordsOf (now (book .entry))) n from)) ⌝ }
+    ensures { λ r. ⌜ EndsLow r ⌝ }
 {
-    let mut left = word(book, 2);
-    let mut w = 4;
+    let mut left = n;
+    let mut w = from;
     let mut low = 0;
-    let mut at = 4 + 3 * left;
+    let mut at = start;
     while 0 < left {
         let id = word(book, w);
         if row_good(low, id, at, word(book, w + 1)) {
             low = id + 1;
             at = at + word(book, w + 2);
-            w = w + 3;
+            w = w + ROW;
             left = left - 1;
         } else {
-            return false;
+            return Contents::Broken;
         }
     }
-    at == book.len() / 2
+    Contents::Whole(at)
+}
+
+// The templates' rows and then those of the lists, whose bodies end with the book.
+fn check_contents(book: &[u8]) -> Checked
+    requires { ⌜ BookHead (now book) ⌝ }
+    ensures { λ r. ⌜ r ≡ checked (checkContents (wordsOf (now (book .entry)))) ⌝ }
+{
+    let n = word(book, 2);
+    let k = word(book, 4);
+    let rows = HEAD + ROW * n;
+    let Contents::Whole(lists) = contents_end(book, HEAD, n, rows + ROW * k) else {
+        return refuse(3, 0);
+    };
+    let Contents::Whole(end) = contents_end(book, rows, k, lists) else {
+        return refuse(3, 0);
+    };
+    if end == book.len() / 2 {
+        return Checked::Accepted;
+    }
+    refuse(3, 0)
 }
 
 // Checks a book.
@@ -431,10 +659,10 @@ pub fn check(book: &[u8]) -> Checked
 {
     if size_good(book) {
         if head_good(book) {
-            if contents_good(book) {
+            let Checked::Refused(refusal) = check_contents(book) else {
                 return check_bodies(book);
-            }
-            return refuse(3, 0);
+            };
+            return Checked::Refused(refusal);
         }
         return refuse(2, 0);
     }

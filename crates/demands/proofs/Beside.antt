@@ -8,25 +8,27 @@ use lib.Dec.{leb}
 use lib.ListN.{length, take}
 use borrow.Author.Tests.{le-leb, leb-true, lt-leb}
 use Rattle.layout.specs.Result.{Result, _>>=_, done, if_then_else_, must}
+use Rattle.layout.specs.Lists.{beside}
 use Rattle.layout.specs.Book.{Data, Field, Groups, Shape, dataSinces, groupSinces, more, need, none, present}
 use Rattle.layout.specs.BookRules.{groupsGood}
 use Rattle.layout.specs.Values.{Values, entry, group, nil}
 use Rattle.layout.specs.Message.{Entry, readBlock, readDatas, readDimension, readEntries, readField}
 use Rattle.layout.specs.Message.{readGroup, readGroups, skipDatas, skipGroups}
-use Rattle.layout.specs.Extension.{AddedGroup, AddedGroups, AddsDatas, AddsFields, AddsGroups, ExtendsGroups}
+use Rattle.layout.specs.Extension.{AddedGroup, AddedGroups, AddsDatas, AddsGroups, ExtendsFields, ExtendsGroups}
 use Rattle.layout.specs.Extension.{ExtendsShape}
-use Rattle.demands.proofs.Kept.{kept}
-use Rattle.demands.proofs.Needs.{need-adds}
+use Rattle.demands.proofs.Kept.{kept, keptFields}
+use Rattle.demands.proofs.Needs.{need-extends}
 use Rattle.demands.proofs.Sees.{AtLeast, Sees, seen-done, sees-after, sees-bind, sees-change, sees-done}
 use Rattle.demands.proofs.Sees.{sees-leb, sees-pick, sees-same, sees-unless}
-use Rattle.layout.proofs.Results.{and-left, and-right, bind-assoc, bind-done, done-inj, inv-bind, inv-both, inv-must}
-use Rattle.layout.proofs.Results.{each-way}
+use Rattle.layout.proofs.ListLaws.{beside-twice, read-beside}
+use Rattle.layout.proofs.Results.{and-left, and-right, bind-assoc, bind-done, done-inj, each-way, inv-bind, inv-must}
+use Rattle.layout.proofs.Results.{inv-both}
 use Rattle.layout.specs.declared.Answer.{Answer}
 use Rattle.layout.specs.declared.Answer.the-variants.{Absent, Group}
 
 -- what is kept of a block, of a row and of a group
 abbrev pub keptBlock : Shape → Groups → Entry → Entry
-keptBlock s gs b = (take (length (s .fields)) (b .0), kept s gs (b .1), take (length (s .datas)) (b .2), b .3)
+keptBlock s gs b = (keptFields (s .fields) (b .0), kept s gs (b .1), take (length (s .datas)) (b .2), b .3)
 
 abbrev pub keptRow : Shape → Groups → (Values × ℕ) → Values × ℕ
 keptRow s gs r = (kept s gs (r .0), r .1)
@@ -97,14 +99,20 @@ module _ (m : List ℕ) (v : ℕ) (strict : Bool) where
 
   -- ---- a block
 
-  kept-fields : (at : ℕ) (old added : List Field)
-      → map (readField m v at) old ≡ take (length old) (map (readField m v at) (old ++ added))
-  kept-fields at [] added = refl
-  kept-fields at (f ∷ old) added = ap (λ (r : List Answer). readField m v at f ∷ r) (kept-fields at old added)
-
   module _ (limit : ℕ) where
+    kept-fields : (at : ℕ) (old new : List Field) → ExtendsFields limit old new
+        → map (readField m v at) old ≡ keptFields old (map (readField m v at) new)
+    unfolding ExtendsFields keptFields
+    kept-fields at [] new x = refl
+    kept-fields at (f ∷ fs) [] x = absurd x
+    kept-fields at (f ∷ fs) (f′ ∷ fs′) x =
+        let k = x .0 in
+        let is = read-beside (f .names) (f′ .names) (beside-twice (f .names) (f′ .names) (k .names)) m v at f
+        ∙ ap (λ (g : Field). beside (f .names) (readField m v at g)) (sym (k .words)) in
+        rw (is, kept-fields at fs fs′ (x .1)) refl
+
     pub sees-block : (s s′ : Shape) (gs : Groups) (f f′ : ℕ → Result (Values × ℕ)) (n n′ l at : ℕ)
-        (a : AddsFields limit (s .fields) (s′ .fields))
+        (a : ExtendsFields limit (s .fields) (s′ .fields))
         (d : AddsDatas limit (s .datas) (s′ .datas)) → n ≡ n′ + present v (dataSinces (d .added))
         → ((x : ℕ) → Sees strict (keptRow s gs) (f x) (f′ x))
         → Sees strict (keptBlock s gs) (readBlock m v s f n l at) (readBlock m v s′ f′ n′ l at)
@@ -115,7 +123,7 @@ module _ (m : List ℕ) (v : ℕ) (strict : Bool) where
         sees-bind strict (keptDatas (s .datas)) (keptBlock s gs) _ _ _ _
         (rw (d .first) (sees-datas (s .datas) (d .added) n n′ (r .1) e)) λ t.
         sees-done strict (keptBlock s gs) (map (readField m v at) (s′ .fields), r .0, t .0, t .1) _
-        (rw (a .first, ← (kept-fields at (s .fields) (a .added))))
+        (rw (kept-fields at (s .fields) (s′ .fields) a) refl)
 
     -- ---- a known group, and a row of them
 
@@ -263,7 +271,7 @@ module _ (m : List ℕ) (v : ℕ) (strict : Bool) where
         (rw (x .sameSince)
         (sees-pick strict (keptGroup s inner) (leb since′ v) _ _ _ _
         (sees-group s s′ inner (readGroups m v inner 0) (readGroups m v inner′ 0) at (x .shape)
-        (need-adds strict v limit (s′ .length) (s .fields) (s′ .fields) (x .shape .fields) good h) λ y.
+        (need-extends v limit strict (s′ .length) (s .fields) (s′ .fields) (x .shape .fields) good h) λ y.
         sees-groups false inner inner′ s 0 0 y (x .inner) (and-left _ _ within) h
         (omega (arith, present-inside inner inner′ (x .inner))))
         (sees-done strict (keptGroup s inner) (Absent, nil, at) _ refl))) λ r.

@@ -12,6 +12,7 @@ use lib.Dec.{leb}
 use lib.ListN.{drop, length, take}
 use borrow.Author.Tests.{le-leb, leb-true}
 use Rattle.layout.specs.Result.{_>>=_, _and_, done, must, orRefuse, refused}
+use Rattle.layout.specs.Lists.{noNames}
 use Rattle.layout.specs.Octets.{AllOctets, Numbers64}
 use Rattle.layout.specs.Book.{Book, Template, findTemplate}
 use Rattle.layout.specs.BookRules.{bookOf}
@@ -22,7 +23,8 @@ use Rattle.layout.specs.Writing.{judgeListing, messageOctets, writeOf, writtenL
 use Rattle.layout.specs.Extension.{Extends}
 use Rattle.layout.specs.Contracts.{AnswersPlace, Checks, ChecksBook, Lists, Writes, checked, counted, found, refusal}
 use Rattle.layout.specs.Contracts.{roomAfter}
-use Rattle.layout.specs.Demands.{AsWritten, contents}
+use Rattle.layout.specs.Demands.{AlikeOrUnlisted, AsWritten, contents, foundBeside, namesAt}
+use Rattle.demands.proofs.Kept.{found-says, found-seen, seen, seen-by-none}
 use Rattle.demands.proofs.Numbers.{book-refuses, check-refuses, forty-lacks-room, place-refuses, refuses-with}
 use Rattle.demands.proofs.Numbers.{write-refuses}
 use Rattle.demands.proofs.Outcomes.{Reads, Wrote, accepted-of, answer-of, counted-listing, counted-writing}
@@ -31,10 +33,10 @@ use Rattle.demands.proofs.Outcomes.{refused-listing, refused-of, refuse
 use Rattle.demands.proofs.Outcomes.{was-accepted, was-read, writes-on}
 use Rattle.demands.proofs.Theorems.{both-say-the-same, older-accepts, read-writes-back}
 use Rattle.demands.proofs.Theorems.{written-length, written-reads-back}
-use Rattle.demands.proofs.TwoBooks.{same-answer}
+use Rattle.demands.proofs.TwoBooks.{seen-answer}
 use Rattle.demands.proofs.Written.{lists-within, written-by}
 use Rattle.layout.proofs.Records.{listing-three}
-use Rattle.layout.proofs.Results.{and-left, and-right, done-inj, each-way, inv-bind}
+use Rattle.layout.proofs.Results.{and-left, and-right, done-inj, inv-bind}
 use Rattle.layout.specs.declared.Answer.{Answer}
 use Rattle.layout.specs.declared.Checked.{Checked}
 use Rattle.layout.specs.declared.Checked.the-variants as Checked
@@ -316,7 +318,8 @@ module _ (book : List ℕ) (id : ℕ) (l pool before after : List ℕ) where
         (k, e, all, rw is (b .3))
 
 -- "what is read writes back to the same octets if it carries the book's own version and block lengths, has zero padding
--- and no value out of range": that is `AsWritten`. "writing back has the message as pool and room for it"
+-- and no value out of range", and "no kind 6": that is `AsWritten`. "writing back has the message as pool and room for
+-- it"
 pub listed-writes-back : (book m : List ℕ) (b : Book) (t : Template) (v : Values)
     → AllOctets m
     → bookOf book ≡ done b
@@ -353,30 +356,65 @@ module _
   older-call-accepts a r c =
       c ∙ ap checked (older-accepts older newer old new isOlder isNewer extends m t inBoth (accepted-of _ a .1))
 
-  -- "with the same answer for every element that the older has"
-  pub both-calls-answer-alike : Checks newer m Checked.Accepted
+  places-seen : Checks newer m Checked.Accepted
       → (steps : List ℕ) (x : Element)
       → hasPlace (stepsOf steps) x (t .shape) (t .groups) ≡ true
-      → (r r′ : Found) → AnswersPlace older m steps x r → AnswersPlace newer m steps x r′ → r ≡ r′
+      → placeBy older m steps x ≡ seen (namesAt (stepsOf steps) x (t .shape) (t .groups)) (placeBy newer m steps x)
   unfolding placeBy
-  both-calls-answer-alike a steps x has r r′ c c′ =
-      let same = same-answer older newer old new isOlder isNewer extends m t inBoth (accepted-of _ a .1) in
-      c ∙ ap found (same (wholeSteps steps) (stepsOf steps) x has) ∙ sym c′
+  places-seen a steps =
+      seen-answer older newer old new isOlder isNewer extends m t inBoth (accepted-of _ a .1) (wholeSteps steps)
+      (stepsOf steps)
+
+  -- "with the same answer for every element that the older has", and "kind 6 with the same number where only its list
+  -- lacks it": the older's answer is the newer's, seen beside the names of the older's field.
+  pub older-call-answers : Checks newer m Checked.Accepted
+      → (steps : List ℕ) (x : Element)
+      → hasPlace (stepsOf steps) x (t .shape) (t .groups) ≡ true
+      → (r r′ : Found) → AnswersPlace older m steps x r → AnswersPlace newer m steps x r′
+      → r ≡ foundBeside (namesAt (stepsOf steps) x (t .shape) (t .groups)) r′
+  older-call-answers a steps x has r r′ c c′ =
+      let l = namesAt (stepsOf steps) x (t .shape) (t .groups) in
+      c ∙ ap found (places-seen a steps x has) ∙ found-seen l (placeBy newer m steps x) ∙ ap (foundBeside l) (sym c′)
 
   -- The same, where the older has an element being told by its call: 30 is "a number that the book lacks".
-  pub both-calls-answer-alike-but-for-30 : Checks newer m Checked.Accepted
+  pub older-call-answers-but-for-30 : Checks newer m Checked.Accepted
       → (steps : List ℕ) (x : Element)
       → (r r′ : Found) → AnswersPlace older m steps x r → AnswersPlace newer m steps x r′
       → ¬ (r ≡ Found.Refused (refusal 30 0))
-      → r ≡ r′
-  both-calls-answer-alike-but-for-30 a steps x r r′ c c′ has =
-      let there = hasPlace (stepsOf steps) x (t .shape) (t .groups) in
-      each-way (wholeSteps steps and leb (length (stepsOf steps)) 4 and there)
-      (λ e. both-calls-answer-alike a steps x (and-right _ _ (and-right _ _ e)) r r′ c c′)
-      (λ e. let q = accepted-is-read older m (sym (older-call-accepts a _ refl)) in
-      let is : q .1 .by ≡ old = done-inj (sym (q .1 .accepted) ∙ isOlder) in
-      let reads = rw is at (q .1 .reads) in
-      absurd (has (place-is-unknown older m old t (q .0) isOlder inBoth reads steps x r c e)))
+      → r ≡ foundBeside (namesAt (stepsOf steps) x (t .shape) (t .groups)) r′
+  older-call-answers-but-for-30 a steps x r r′ c c′ has =
+      go (wholeSteps steps and leb (length (stepsOf steps)) 4 and has-it) refl
+    where
+      has-it : Bool
+      has-it = hasPlace (stepsOf steps) x (t .shape) (t .groups)
+
+      go : (b : Bool) → (wholeSteps steps and leb (length (stepsOf steps)) 4 and has-it) ≡ b
+          → r ≡ foundBeside (namesAt (stepsOf steps) x (t .shape) (t .groups)) r′
+      go true e = older-call-answers a steps x (and-right _ _ (and-right _ _ e)) r r′ c c′
+      go false e =
+          let q = accepted-is-read older m (sym (older-call-accepts a _ refl)) in
+          let is : q .1 .by ≡ old = done-inj (sym (q .1 .accepted) ∙ isOlder) in
+          let reads = rw is at (q .1 .reads) in
+          absurd (has (place-is-unknown older m old t (q .0) isOlder inBoth reads steps x r c e))
+
+  -- That is: the two answer alike, or the newer answers with a number that the older's list lacks, and the older with
+  -- kind 6 and the same number.
+  pub both-calls-answer-alike-or-unlisted : Checks newer m Checked.Accepted
+      → (steps : List ℕ) (x : Element)
+      → hasPlace (stepsOf steps) x (t .shape) (t .groups) ≡ true
+      → (r r′ : Found) → AnswersPlace older m steps x r → AnswersPlace newer m steps x r′
+      → AlikeOrUnlisted Found.Is (namesAt (stepsOf steps) x (t .shape) (t .groups)) r r′
+  both-calls-answer-alike-or-unlisted a steps x has r r′ c c′ =
+      rw (older-call-answers a steps x has r r′ c c′) (found-says _ r′)
+
+  -- Where the older has no list, as for a group or a data, they answer alike.
+  pub both-calls-answer-alike : Checks newer m Checked.Accepted
+      → (steps : List ℕ) (x : Element)
+      → hasPlace (stepsOf steps) x (t .shape) (t .groups) ≡ true
+      → namesAt (stepsOf steps) x (t .shape) (t .groups) ≡ noNames
+      → (r r′ : Found) → AnswersPlace older m steps x r → AnswersPlace newer m steps x r′ → r ≡ r′
+  both-calls-answer-alike a steps x has free r r′ c c′ =
+      c ∙ ap found (places-seen a steps x has ∙ rw free (seen-by-none (placeBy newer m steps x))) ∙ sym c′
 
   -- "if the message's version is no later than the older book's, both accept or both refuse, with the same number and
   -- place"

@@ -9,8 +9,9 @@ use lib.Dec.{eqb}
 use lib.ListN.{getD, length}
 use borrow.Author.Tests.{eq-eqb, le-leb, leb-true, lt-ltb}
 use Rattle.layout.specs.Result.{Each, Result, _>>=_, _and_, _or_, done, if_then_else_, must}
-use Rattle.layout.specs.Octets.{null16, number16}
-use Rattle.layout.specs.Types.{classify, inRange, typeAt}
+use Rattle.layout.specs.Octets.{null16, number16, numberAt}
+use Rattle.layout.specs.Types.{TypeRow, classify, inRange, typeAt, valueOf}
+use Rattle.layout.specs.Lists.{beside, has}
 use Rattle.layout.specs.Book.{Data, Field, Groups, Shape, Template, dataSinces, end, fieldSinces, isArray, isOptional}
 use Rattle.layout.specs.Book.{more, need, needAfter, none}
 use Rattle.layout.specs.BookRules.{fieldsGood, lengthGood}
@@ -19,18 +20,19 @@ use Rattle.layout.specs.Message.{Entry, dimensionSize, readBlock, readData, rea
 use Rattle.layout.specs.Message.{readGroups}
 use Rattle.layout.specs.Writing.{first, isThere, judgeBlock, judgeData, judgeDatas, judgeEntries, judgeField}
 use Rattle.layout.specs.Writing.{judgeFields, judgeGroups, judgeListing, judgeNumber, judgeOctets, second, third}
-use Rattle.layout.specs.Demands.{InRange, ValuesInRange}
+use Rattle.layout.specs.Demands.{AllSound, Sound}
 use Rattle.demands.proofs.Needs.{need-grows}
 use Rattle.demands.proofs.Read.{data-read, datas-read, dimension-read, group-read}
 use Rattle.demands.proofs.Reread.{no-datas, no-groups}
+use Rattle.layout.proofs.ListLaws.{beside-listed, sound-listed}
 use Rattle.layout.proofs.Fields.{field-good, size-array}
 use Rattle.layout.proofs.Present.{GoodGroups, GoodShape, UpTo}
 use Rattle.layout.proofs.Records.{record-three}
-use Rattle.layout.proofs.Results.{and-left, done-inj, each-way, inv-bind, inv-both, inv-must}
+use Rattle.layout.proofs.Results.{and-left, done-inj, inv-bind, inv-must}
 use Rattle.layout.proofs.Stands.{Stands, all-stands, split-to, three-stand}
 use Rattle.layout.proofs.TypeLaws.{inside-not-null}
 use Rattle.layout.specs.declared.Answer.{Answer}
-use Rattle.layout.specs.declared.Answer.the-variants.{Group, Null, Number, Octets}
+use Rattle.layout.specs.declared.Answer.the-variants.{Group, Null, Number, Octets, OutOfRange}
 
 module _ (l m : List ℕ) (v : ℕ) where
   -- ---- records
@@ -62,12 +64,12 @@ module _ (l m : List ℕ) (v : ℕ) where
       rw (r .there, r .is₁, r .is₂, r .is₃, le-leb (p + n) (length m) h, y) refl
 
   number-judged : (f : Field) (i x to : ℕ) → inRange (typeAt (f .type)) x ≡ true
-      → eqb x (typeAt (f .type) .null) ≡ false
+      → eqb x (typeAt (f .type) .null) ≡ false → has (f .names) x ≡ true
       → Stands l (3 * i) (recordOf (Number x)) to → judgeNumber l (length m) f i ≡ done (Number x)
   unfolding judgeNumber if_then_else_ must _>>=_ recordOf _and_ _or_
-  number-judged f i x to o n s =
+  number-judged f i x to o n y s =
       let r = record-is i 0 x 0 to s in
-      rw (r .there, r .is₁, r .is₂, r .is₃, o, n) refl
+      rw (r .there, r .is₁, r .is₂, r .is₃, o, n, y) refl
 
   null-judged : (f : Field) (i to : ℕ) → isOptional f ≡ true → Stands l (3 * i) (recordOf Null) to
       → judgeNumber l (length m) f i ≡ done Null
@@ -78,28 +80,46 @@ module _ (l m : List ℕ) (v : ℕ) where
 
   -- ---- fields
 
-  class-judged : (f : Field) (i x to : ℕ) → let a = classify (typeAt (f .type)) (isOptional f) x in
-      InRange a → Stands l (3 * i) (recordOf a) to → judgeNumber l (length m) f i ≡ done a
-  unfolding classify if_then_else_ InRange
-  class-judged f i x to ranges s =
-      each-way (isOptional f and eqb x (typeAt (f .type) .null))
-      (λ e. rw e (null-judged f i to (and-left _ _ e) (rw e at s)))
-      (λ e. each-way (inRange (typeAt (f .type)) x)
-      (λ o. rw (e, o) (number-judged f i x to o (inside-not-null (f .type) x o) (rw (e, o) at s)))
-      (λ o. absurd (rw (e, o) at ranges)))
+  class-judged : (f : Field) (i x to : ℕ) → let a = beside (f .names) (classify (typeAt (f .type)) (isOptional f) x) in
+      Sound a → Stands l (3 * i) (recordOf a) to → judgeNumber l (length m) f i ≡ done a
+  unfolding classify if_then_else_ beside Sound
+  class-judged f i x to sound s = go (isOptional f and eqb x (k .null)) refl (inRange k x) refl sound s
+    where
+      k : TypeRow
+      k = typeAt (f .type)
+
+      go : (b : Bool) → (isOptional f and eqb x (k .null)) ≡ b → (c : Bool) → inRange k x ≡ c
+          → let a = beside (f .names) (if b then Null else if c then Number x else OutOfRange x) in
+          Sound a → Stands l (3 * i) (recordOf a) to → judgeNumber l (length m) f i ≡ done a
+      go true e c o sound s = null-judged f i to (and-left _ _ e) s
+      go false e true o sound s =
+          let y = sound-listed (f .names) x sound in
+          let q = beside-listed (f .names) x y in
+          rw q (number-judged f i x to o (inside-not-null (f .type) x o) y (rw q at s))
+      go false e false o sound s = absurd sound
 
   field-judged : (f : Field) (i at to : ℕ) → lengthGood f ≡ true → f .since ≤ v → at + end f ≤ length m
-      → InRange (readField m v at f)
+      → Sound (readField m v at f)
       → Stands l (3 * i) (recordOf (readField m v at f)) to → judgeField l (length m) f i ≡ done (readField m v at f)
   unfolding readField if_then_else_
-  field-judged f i at to g u h ranges s =
+  field-judged f i at to g u h sound s =
       let q = le-leb (f .since) v u in
-      each-way (isArray f)
-      (λ y. let z = rw (q, y) at s in
-      let r = record-is i 2 (at + f .offset) (f .length) to (unfold recordOf in z) in
-      rw (q, y) (octets-judged _ i (at + f .offset) (f .length) to (eq-eqb _ _ (r .is₃))
-      (omega (arith, size-array f g y)) z))
-      (λ y. rw (q, y) (class-judged f i _ to (rw (q, y) at ranges) (rw (q, y) at s)))
+      rw q (go (isArray f) refl (rw q at sound) (rw q at s))
+    where
+      k : TypeRow
+      k = typeAt (f .type)
+
+      a : Bool → Answer
+      a y = if y then Octets (at + f .offset) (f .length) else beside (f .names) (classify k (isOptional f)
+          (valueOf k (numberAt (k .width) m (at + f .offset))))
+
+      go : (y : Bool) → isArray f ≡ y → Sound (a y) → Stands l (3 * i) (recordOf (a y)) to
+          → (if y then judgeOctets l (length m) (eqb (third l i) (f .length)) i else judgeNumber l (length m) f i)
+          ≡ done (a y)
+      go true y sound s =
+          let r = record-is i 2 (at + f .offset) (f .length) to (unfold recordOf in s) in
+          octets-judged _ i (at + f .offset) (f .length) to (eq-eqb _ _ (r .is₃)) (omega (arith, size-array f g y)) s
+      go false y sound s = class-judged f i _ to sound s
 
   fields-next : (f : Field) (fs : List Field) (i j : ℕ) (a : Answer) (r : List Answer)
       → judgeField l (length m) f i ≡ done a
@@ -107,17 +127,21 @@ module _ (l m : List ℕ) (v : ℕ) where
   unfolding judgeFields _>>=_
   fields-next f fs i j a r e q = rw (e, q) refl
 
+  fields-stop : (i : ℕ) → judgeFields l (length m) [] i ≡ done ([], i)
+  unfolding judgeFields
+  fields-stop i = refl
+
   -- Elements are judged to be what they were read as, up to the record at `to`.
   abbrev Judges : {A : Type 0} → (ℕ → Result (A × ℕ)) → ℕ → ℕ → A → Type 0
   Judges f i to a = (j : ℕ) × (to ≡ 3 * j) × (f i ≡ done (a, j))
 
   fields-judged : (fs : List Field) (i at len from e to : ℕ) → fieldsGood len from fs ≡ true → UpTo v (fieldSinces fs)
       → at + needAfter v e fs ≤ length m
-      → Each InRange (map (readField m v at) fs) → Stands l (3 * i) (recordsOf (map (readField m v at) fs)) to
+      → Each Sound (map (readField m v at) fs) → Stands l (3 * i) (recordsOf (map (readField m v at) fs)) to
       → Judges (judgeFields l (length m) fs) i to (map (readField m v at) fs)
   unfolding Each recordsOf needAfter if_then_else_
-  fields-judged [] i at len from e to g u h ranges s = (i, omega (arith, s .ends), unfold judgeFields in refl)
-  fields-judged (f ∷ fs) i at len from e to g u h ranges s =
+  fields-judged [] i at len from e to g u h sound s = (i, omega (arith, s .ends), fields-stop i)
+  fields-judged (f ∷ fs) i at len from e to g u h sound s =
       let k = field-good len from f fs g in
       let a = readField m v at f in
       let rest = map (readField m v at) fs in
@@ -125,11 +149,11 @@ module _ (l m : List ℕ) (v : ℕ) where
       let o = split-to (recordOf a) (recordsOf rest) (3 * suc i) (omega (arith, record-three a)) s in
       let within : at + end f ≤ length m = omega
       (arith, need-grows v len (end f) (end f) fs (k .rest) (le-refl (end f))) in
-      let w = fields-judged fs (suc i) at len (end f) (end f) to (k .rest) (u .1) h′ (ranges .1) (o .1) in (
+      let w = fields-judged fs (suc i) at len (end f) (end f) to (k .rest) (u .1) h′ (sound .1) (o .1) in (
         w .0,
         w .1,
         fields-next f fs i (w .0) a rest
-            (field-judged f i at (3 * suc i) (k .length) (u .0) within (ranges .0) (o .0)) (w .2),
+            (field-judged f i at (3 * suc i) (k .length) (u .0) within (sound .0) (o .0)) (w .2),
       )
 
   -- ---- data
@@ -149,6 +173,10 @@ module _ (l m : List ℕ) (v : ℕ) where
   unfolding judgeDatas _>>=_
   datas-next d ds i j a r e q = rw (e, q) refl
 
+  datas-stop : (i : ℕ) → judgeDatas l (length m) [] i ≡ done ([], i)
+  unfolding judgeDatas
+  datas-stop i = refl
+
   datas-judged : (ds : List Data) (i at to : ℕ) (r : List Answer × ℕ) → UpTo v (dataSinces ds)
       → readDatas m v ds 0 at ≡ done r
       → Stands l (3 * i) (recordsOf (r .0)) to → Judges (judgeDatas l (length m) ds) i to (r .0)
@@ -156,7 +184,7 @@ module _ (l m : List ℕ) (v : ℕ) where
   datas-judged [] i at to r u e s =
       subst (λ (x : List Answer × ℕ). Stands l (3 * i) (recordsOf (x .0)) to
       → Judges (judgeDatas l (length m) []) i to (x .0)) (done-inj (sym (no-datas m v at) ∙ e))
-      (λ o. (i, omega (arith, o .ends), unfold judgeDatas in refl)) s
+      (λ o. (i, omega (arith, o .ends), datas-stop i)) s
   datas-judged (d ∷ ds) i at to r u e s =
       let w = datas-read m v d ds at r (u .0) e in
       let a = w .first .0 in
@@ -174,7 +202,7 @@ module _ (l m : List ℕ) (v : ℕ) where
   -- What f reads, f′ judges to be the same.
   abbrev Agree : (ℕ → Result (Values × ℕ)) → (ℕ → Result (Values × ℕ)) → Type 0
   Agree f f′ =
-      (at i to : ℕ) (r : Values × ℕ) → f at ≡ done r → ValuesInRange (r .0) → Stands l (3 * i) (listing (r .0)) to
+      (at i to : ℕ) (r : Values × ℕ) → f at ≡ done r → AllSound (r .0) → Stands l (3 * i) (listing (r .0)) to
       → Judges f′ i to (r .0)
 
   block-next : (s : Shape) (f : ℕ → Result (Values × ℕ)) (i j k e : ℕ) (fs : List Answer) (g : Values)
@@ -190,22 +218,23 @@ module _ (l m : List ℕ) (v : ℕ) where
     abbrev entryListed : Entry → List ℕ → List ℕ
     entryListed b rest = recordsOf (b .0) ++ (listing (b .1) ++ (recordsOf (b .2) ++ rest))
 
-    block-judged : (i at : ℕ) (b : Entry) (rest : List ℕ) (to : ℕ) → Each InRange (b .0) → ValuesInRange (b .1)
+    block-judged : (i at : ℕ) (b : Entry) (rest : List ℕ) (to : ℕ) → Each Sound (b .0) → AllSound (b .1)
         → readBlock m v s f 0 n at ≡ done b
         → Stands l (3 * i) (entryListed b rest) to
         → (j : ℕ) × (judgeBlock l (length m) s f′ i ≡ done (b .0, b .1, b .2, j)) × (Stands l (3 * j) rest to)
     unfolding readBlock
     block-judged i at b rest to in₁ in₂ e st =
         let p = inv-bind _ _ _ e in
-        let q = inv-both _ _ _ _ (p .next) in
+        let q = inv-bind _ _ _ (p .next) in
+        let k = inv-bind _ _ _ (q .next) in
         let fits : at + n ≤ length m = leb-true (at + n) (length m) (inv-must _ _ _ _ (p .first)) in
-        subst (λ (x : Entry). Each InRange (x .0) → ValuesInRange (x .1) → Stands l (3 * i) (entryListed x rest) to
+        subst (λ (x : Entry). Each Sound (x .0) → AllSound (x .1) → Stands l (3 * i) (entryListed x rest) to
         → (j : ℕ) × (judgeBlock l (length m) s f′ i ≡ done (x .0, x .1, x .2, j)) × (Stands l (3 * j) rest to))
-        (q .is)
+        (done-inj (k .next))
         (λ in₁′ in₂′ o.
         let fs = map (readField m v at) (s .fields) in
         let gs = q .value .0 in
-        let ds = q .other .0 in
+        let ds = k .value .0 in
         let o₁ = split-to (recordsOf fs) (listing gs ++ (recordsOf ds ++ rest)) _ refl o in
         let w₁ = fields-judged (s .fields) i at (s .length) 0 0 _ (good .fields) (good .fieldsIn)
         (omega (arith, enough, fits)) in₁′ (o₁ .0) in
@@ -214,7 +243,7 @@ module _ (l m : List ℕ) (v : ℕ) where
         let w₂ = ih (at + n) (w₁ .0) _ (q .value) (q .first) in₂′ (o₂ .0) in
         let o₃ = split-to (recordsOf ds) rest _ refl
         (subst (λ (y : ℕ). Stands l y (recordsOf ds ++ rest) to) (w₂ .1) (o₂ .1)) in
-        let w₃ = datas-judged (s .datas) (w₂ .0) (q .value .1) _ (q .other) (good .datasIn) (q .second) (o₃ .0) in (
+        let w₃ = datas-judged (s .datas) (w₂ .0) (q .value .1) _ (k .value) (good .datasIn) (k .first) (o₃ .0) in (
           w₃ .0,
           block-next s f′ i (w₁ .0) (w₂ .0) (w₃ .0) fs gs ds (w₁ .2) (w₂ .2) (w₃ .2),
           subst (λ (y : ℕ). Stands l y rest to) (w₃ .1) (o₃ .1),
@@ -227,23 +256,28 @@ module _ (l m : List ℕ) (v : ℕ) where
     unfolding judgeEntries _>>=_
     entries-next k i j e fs g ds r a b = rw (a, b) refl
 
+    entries-stop : (i : ℕ) → judgeEntries l (length m) 0 (judgeBlock l (length m) s f′) i ≡ done (nil, i)
+    unfolding judgeEntries
+    entries-stop i = refl
+
     entries-judged : (k : ℕ) → Agree (readEntries k (readBlock m v s f 0 n))
         (judgeEntries l (length m) k (judgeBlock l (length m) s f′))
-    unfolding readEntries ValuesInRange listing
-    entries-judged zero at i to r e ranges st =
+    unfolding readEntries AllSound listing
+    entries-judged zero at i to r e sound st =
         subst (λ (x : Values × ℕ). Stands l (3 * i) (listing (x .0)) to
         → Judges (judgeEntries l (length m) 0 (judgeBlock l (length m) s f′)) i to (x .0)) (done-inj e)
-        (λ o. (i, omega (arith, o .ends), unfold judgeEntries in refl)) st
-    entries-judged (suc k) at i to r e ranges st =
-        let p = inv-both _ _ _ _ e in
+        (λ o. (i, omega (arith, o .ends), entries-stop i)) st
+    entries-judged (suc k) at i to r e sound st =
+        let p = inv-bind _ _ _ e in
+        let q = inv-bind _ _ _ (p .next) in
         let b = p .value in
-        let rest = p .other .0 in
-        subst (λ (x : Values × ℕ). ValuesInRange (x .0) → Stands l (3 * i) (listing (x .0)) to
-        → Judges (judgeEntries l (length m) (suc k) (judgeBlock l (length m) s f′)) i to (x .0)) (p .is)
-        (λ ranges′ o.
-        let w = block-judged i at b (listing rest) to (ranges′ .0) (ranges′ .1) (p .first) o in
-        let z = entries-judged k (b .3) (w .0) to (p .other) (p .second) (ranges′ .2) (w .2) in
-        (z .0, z .1, entries-next k i (w .0) (z .0) (b .0) (b .1) (b .2) rest (w .1) (z .2))) ranges st
+        let rest = q .value .0 in
+        subst (λ (x : Values × ℕ). AllSound (x .0) → Stands l (3 * i) (listing (x .0)) to
+        → Judges (judgeEntries l (length m) (suc k) (judgeBlock l (length m) s f′)) i to (x .0)) (done-inj (q .next))
+        (λ sound′ o.
+        let w = block-judged i at b (listing rest) to (sound′ .0) (sound′ .1) (p .first) o in
+        let z = entries-judged k (b .3) (w .0) to (q .value) (q .first) (sound′ .2) (w .2) in
+        (z .0, z .1, entries-next k i (w .0) (z .0) (b .0) (b .1) (b .2) rest (w .1) (z .2))) sound st
 
   groups-next : (id since : ℕ) (s : Shape) (inner rest : Groups) (i j k e : ℕ) (es gs : Values) → RecordIs i 4 k 0
       → k < null16
@@ -254,46 +288,50 @@ module _ (l m : List ℕ) (v : ℕ) where
   groups-next id since s inner rest i j k e es gs r h a b =
       rw (r .there, r .is₁, r .is₂, r .is₃, lt-ltb k null16 h, a, b) refl
 
+  groups-stop : (i : ℕ) → judgeGroups l (length m) none i ≡ done (nil, i)
+  unfolding judgeGroups
+  groups-stop i = refl
+
   groups-judged : (gs : Groups) → GoodGroups v gs → Agree (readGroups m v gs 0) (judgeGroups l (length m) gs)
-  unfolding GoodGroups ValuesInRange listing recordOf
-  groups-judged none good at i to r e ranges st =
+  unfolding GoodGroups AllSound listing recordOf
+  groups-judged none good at i to r e sound st =
       subst (λ (x : Values × ℕ). Stands l (3 * i) (listing (x .0)) to
       → Judges (judgeGroups l (length m) none) i to (x .0)) (done-inj (sym (no-groups m v at) ∙ e))
-      (λ o. (i, omega (arith, o .ends), unfold judgeGroups in refl)) st
-  groups-judged (more id since s inner rest) good at i to r e ranges st =
+      (λ o. (i, omega (arith, o .ends), groups-stop i)) st
+  groups-judged (more id since s inner rest) good at i to r e sound st =
       let w = group-read m v id since s inner rest at r (good .0) e in
       let k = w .sizes .1 in
       let es = w .entries .0 in
       let gs = w .others .0 in
       let d = dimension-read m v (need v s) at (w .sizes) (w .dimension) in
-      subst (λ (x : Values × ℕ). ValuesInRange (x .0) → Stands l (3 * i) (listing (x .0)) to
+      subst (λ (x : Values × ℕ). AllSound (x .0) → Stands l (3 * i) (listing (x .0)) to
       → Judges (judgeGroups l (length m) (more id since s inner rest)) i to (x .0)) (w .is)
-      (λ ranges′ o.
+      (λ sound′ o.
       let o₁ = split-to (4 ∷ k ∷ 0 ∷ []) (listing es ++ listing gs) (3 * suc i) (omega arith) o in
       let o₂ = split-to (listing es) (listing gs) _ refl (o₁ .1) in
       let a = entries-judged s (readGroups m v inner 0) (judgeGroups l (length m) inner) (w .sizes .0) (good .1)
       (d .enough) (groups-judged inner (good .2)) k
-      (at + dimensionSize) (suc i) _ (w .entries) (w .reads) (ranges′ .0) (o₂ .0) in
-      let c = groups-judged rest (good .3) (w .entries .1) (a .0) to (w .others) (w .after) (ranges′ .1)
+      (at + dimensionSize) (suc i) _ (w .entries) (w .reads) (sound′ .0) (o₂ .0) in
+      let c = groups-judged rest (good .3) (w .entries .1) (a .0) to (w .others) (w .after) (sound′ .1)
       (subst (λ (y : ℕ). Stands l y (listing gs) to) (a .1) (o₂ .1)) in (
         c .0,
         c .1,
         groups-next id since s inner rest i (a .0) k (c .0) es gs (record-is i 4 k 0 (3 * suc i) (o₁ .0))
             (d .whole) (a .2) (c .2),
-      )) ranges st
+      )) sound st
 
   -- The whole listing.
   pub listing-judged : (t : Template) (n at : ℕ) (b : Entry) → GoodShape v (t .shape) → GoodGroups v (t .groups)
       → need v (t .shape) ≤ n
-      → ValuesInRange (entry (b .0) (b .1) (b .2) nil)
+      → AllSound (entry (b .0) (b .1) (b .2) nil)
       → readBlock m v (t .shape) (readGroups m v (t .groups) 0) 0 n at ≡ done b
       → listing (entry (b .0) (b .1) (b .2) nil) ≡ l
       → judgeListing l (length m) t ≡ done (entry (b .0) (b .1) (b .2) nil)
-  unfolding judgeListing must _>>=_ ValuesInRange listing
-  listing-judged t n at b good gg enough ranges e is =
+  unfolding judgeListing must _>>=_ AllSound listing
+  listing-judged t n at b good gg enough sound e is =
       let w = block-judged (t .shape) (readGroups m v (t .groups) 0)
       (judgeGroups l (length m) (t .groups)) n good enough (groups-judged (t .groups) gg)
-      0 at b [] (length l) (ranges .0) (ranges .1) e
+      0 at b [] (length l) (sound .0) (sound .1) e
       (subst (λ (x : List ℕ). Stands l 0 x (length l)) (sym is) (all-stands l)) in
       let q : 3 * w .0 ≡ length l = omega (arith, w .2 .ends) in
       rw (w .1, eq-eqb (3 * w .0) (length l) q) refl

@@ -9,8 +9,9 @@ use lib.Dec.{leb}
 use lib.ListN.{length}
 use borrow.Author.Tests.{leb-false, leb-true}
 use Rattle.layout.specs.Result.{Result, _>>=_, asRefusal, done, must, orRefuse, refused}
+use Rattle.layout.specs.Lists.{NameList}
 use Rattle.layout.specs.Book.{Book, Data, Field, Groups, Shape, Template, more, none}
-use Rattle.layout.specs.BookRules.{ContentsRow, bookOf, eachMust, parseBodies}
+use Rattle.layout.specs.BookRules.{ContentsRow, bookOf, checkContents, contentsEnd, eachMust, parseBodies}
 use Rattle.layout.specs.Values.{Step, Values, answerAt, elementIn, entry, group, measure, nil}
 use Rattle.layout.specs.Message.{Entry, checkHeader, headerNumbers, headerWhole, readBlock, readData, readDatas}
 use Rattle.layout.specs.Message.{readDimension, readEntries, readGroup, readGroups, readMessage, readRoot, skipDatas}
@@ -66,15 +67,27 @@ module _ (low high : ℕ) where
 
 -- ---- 1 to 6
 
-bodies-refuse : (b : List ℕ) (t : ℕ) (rows : List ContentsRow) → Refuses 1 6 (parseBodies b t rows)
-unfolding parseBodies
-bodies-refuse b t [] = refuses-done 1 6 _
-bodies-refuse b t (r ∷ rs) =
-    refuses-bind 1 6 _ _ (refuses-as 1 6 _ 4 t (omega arith)) λ x.
-    refuses-bind 1 6 _ _ (bodies-refuse b (suc t) rs) λ xs. refuses-done 1 6 _
+rows-refuse : (low at : ℕ) (rows : List ContentsRow) → Refuses 1 6 (contentsEnd low at rows)
+unfolding contentsEnd
+rows-refuse low at [] = refuses-done 1 6 _
+rows-refuse low at (r ∷ rs) = refuses-unless 1 6 _ 3 0 _ (omega arith) λ _. rows-refuse _ _ rs
 
-each-refuses : (f : Template → Bool) (n t : ℕ) (ts : List Template) → (1 ≤ n) × (n ≤ 6)
-    → Refuses 1 6 (eachMust f n t ts)
+contents-refuse : (b : List ℕ) → Refuses 1 6 (checkContents b)
+unfolding checkContents
+contents-refuse b =
+    refuses-bind 1 6 _ _ (rows-refuse 0 _ _) λ at.
+    refuses-bind 1 6 _ _ (rows-refuse 0 at _) λ e. refuses-must 1 6 _ 3 0 (omega arith)
+
+bodies-refuse : (ls : List NameList) (b : List ℕ) (t : ℕ) (rows : List ContentsRow)
+    → Refuses 1 6 (parseBodies ls b t rows)
+unfolding parseBodies
+bodies-refuse ls b t [] = refuses-done 1 6 _
+bodies-refuse ls b t (r ∷ rs) =
+    refuses-bind 1 6 _ _ (refuses-as 1 6 _ 4 t (omega arith)) λ x.
+    refuses-bind 1 6 _ _ (bodies-refuse ls b (suc t) rs) λ xs. refuses-done 1 6 _
+
+each-refuses : {A : Type 0} (f : A → Bool) (n t : ℕ) (xs : List A) → (1 ≤ n) × (n ≤ 6)
+    → Refuses 1 6 (eachMust f n t xs)
 unfolding eachMust
 each-refuses f n t [] h = refuses-done 1 6 _
 each-refuses f n t (x ∷ xs) h = refuses-unless 1 6 _ n t _ h λ _. each-refuses f n (suc t) xs h
@@ -84,10 +97,11 @@ unfolding bookOf
 book-refuses octets =
     refuses-unless 1 6 _ 1 0 _ (omega arith) λ _.
     refuses-unless 1 6 _ 2 0 _ (omega arith) λ _.
-    refuses-unless 1 6 _ 3 0 _ (omega arith) λ _.
-    refuses-bind 1 6 _ _ (bodies-refuse _ 0 _) λ ts.
-    refuses-bind 1 6 _ _ (each-refuses _ 5 0 ts (omega arith)) λ _.
-    refuses-bind 1 6 _ _ (each-refuses _ 6 0 ts (omega arith)) λ _. refuses-done 1 6 _
+    refuses-bind 1 6 _ _ (contents-refuse _) λ _.
+    refuses-bind 1 6 _ _ (bodies-refuse _ _ 0 _) λ ts.
+    refuses-bind 1 6 _ _ (each-refuses _ 4 _ _ (omega arith)) λ _.
+    refuses-bind 1 6 _ _ (each-refuses _ 5 0 _ (omega arith)) λ _.
+    refuses-bind 1 6 _ _ (each-refuses _ 6 0 _ (omega arith)) λ _. refuses-done 1 6 _
 
 -- ---- 10 to 20
 

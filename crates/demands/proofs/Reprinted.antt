@@ -1,7 +1,7 @@
 -- The second round trip, its octets: a message with the book's own block lengths and zero padding is printed from its
 -- own tree, with itself as pool, as it stands.
 use mathlib.Core.Path.{_∙_, _≡_, ap, refl, subst, sym}
-use mathlib.Core.Bool.{true}
+use mathlib.Core.Bool.{Bool, false, true}
 use mathlib.Core.List.{List, [], _++_, _∷_, map}
 use Prim.Native.Nat.{_+_, _-_, _≤_, suc, zero, ℕ}
 use native.Mathlib.Omega.{arith}
@@ -10,7 +10,8 @@ use lib.ListN.{length, length-replicate, replicate}
 use borrow.Author.Tests.{eqb-true, le-leb, leb-true}
 use Rattle.layout.specs.Result.{Each, Result, _and_, done, if_then_else_}
 use Rattle.layout.specs.Octets.{AllOctets, number16, numberAt, octetsOf}
-use Rattle.layout.specs.Types.{classify, inRange, typeAt, valueOf}
+use Rattle.layout.specs.Types.{TypeRow, classify, inRange, typeAt, valueOf}
+use Rattle.layout.specs.Lists.{beside}
 use Rattle.layout.specs.Book.{Data, Field, Groups, Shape, dataSinces, end, fieldSinces, isArray, isOptional, more, need}
 use Rattle.layout.specs.Book.{none}
 use Rattle.layout.specs.BookRules.{fieldsGood, lengthGood}
@@ -19,16 +20,17 @@ use Rattle.layout.specs.Message.{Entry, dimensionSize, readBlock, readData, rea
 use Rattle.layout.specs.Message.{readGroups}
 use Rattle.layout.specs.Writing.{blockOctets, dataOctets, datasLength, entriesIn, fieldOctets, rowLength, rowOctets}
 use Rattle.layout.specs.Writing.{spanOf}
-use Rattle.layout.specs.Demands.{InRange, OwnBlocks, ValuesInRange, ZeroPadding, Zeros}
+use Rattle.layout.specs.Demands.{AllSound, OwnBlocks, Sound, ZeroPadding, Zeros}
 use Rattle.demands.proofs.Read.{DimensionRead, data-read, datas-read, dimension-read, group-read}
 use Rattle.demands.proofs.Reread.{no-datas, no-groups}
+use Rattle.layout.proofs.ListLaws.{beside-sound}
 use Rattle.layout.proofs.Fields.{field-good, size-array, size-plain}
 use Rattle.layout.proofs.Present.{GoodGroups, GoodShape, UpTo}
-use Rattle.layout.proofs.Results.{and-right, done-inj, each-way, inv-bind, inv-both, inv-must}
+use Rattle.layout.proofs.Results.{and-right, done-inj, inv-bind, inv-must}
 use Rattle.layout.proofs.Stands.{AreAt, Stands, join, nothing-stands, numbers-stand, octets-stand, slice-stands}
 use Rattle.layout.proofs.TypeLaws.{octets-value}
 use Rattle.layout.specs.declared.Answer.{Answer}
-use Rattle.layout.specs.declared.Answer.the-variants.{Group, Octets}
+use Rattle.layout.specs.declared.Answer.the-variants.{Group, Null, Number, Octets, OutOfRange}
 
 module _ (m : List ℕ) (v : ℕ) (octets : AllOctets m) where
   -- ---- fields
@@ -40,17 +42,24 @@ module _ (m : List ℕ) (v : ℕ) (octets : AllOctets m) where
 
   class-stands : (f : Field) (p : ℕ) → let k = typeAt (f .type) in
       let a = classify k (isOptional f) (valueOf k (numberAt (k .width) m p)) in
-      p + k .width ≤ length m → InRange a → Stands m p (fieldOctets m f a) (p + k .width)
-  unfolding classify if_then_else_ fieldOctets InRange
-  class-stands f p h s =
-      let k = typeAt (f .type) in
-      let y = valueOf k (numberAt (k .width) m p) in
-      each-way (isOptional f and eqb y (k .null))
-      (λ e. rw e (octets-stand m octets (k .width) p (k .null) h
-      (ap (octetsOf (k .width)) (sym (eqb-true y (k .null) (and-right _ _ e))) ∙ octets-value (f .type) _)))
-      (λ e. each-way (inRange k y)
-      (λ o. rw (e, o) (octets-stand m octets (k .width) p y h (octets-value (f .type) _)))
-      (λ o. absurd (rw (e, o) at s)))
+      p + k .width ≤ length m → Sound a → Stands m p (fieldOctets m f a) (p + k .width)
+  unfolding classify if_then_else_ fieldOctets Sound
+  class-stands f p h s = go (isOptional f and eqb y (k .null)) refl (inRange k y) s
+    where
+      k : TypeRow
+      k = typeAt (f .type)
+
+      y : ℕ
+      y = valueOf k (numberAt (k .width) m p)
+
+      go : (b : Bool) → (isOptional f and eqb y (k .null)) ≡ b → (c : Bool)
+          → Sound (if b then Null else if c then Number y else OutOfRange y)
+          → Stands m p (fieldOctets m f (if b then Null else if c then Number y else OutOfRange y)) (p + k .width)
+      go true e c s =
+          let n : y ≡ k .null = eqb-true y (k .null) (and-right _ _ e) in
+          octets-stand m octets (k .width) p (k .null) h (ap (octetsOf (k .width)) (sym n) ∙ octets-value (f .type) _)
+      go false e true s = octets-stand m octets (k .width) p y h (octets-value (f .type) _)
+      go false e false s = absurd s
 
   array-stands : (f : Field) (p : ℕ) → p + f .length ≤ length m
       → Stands m p (fieldOctets m f (Octets p (f .length))) (p + f .length)
@@ -58,21 +67,35 @@ module _ (m : List ℕ) (v : ℕ) (octets : AllOctets m) where
   array-stands f p h = slice-stands m p (f .length) h
 
   field-stands : (f : Field) (at : ℕ) → lengthGood f ≡ true → f .since ≤ v → at + end f ≤ length m
-      → InRange (readField m v at f)
+      → Sound (readField m v at f)
       → Stands m (at + f .offset) (fieldOctets m f (readField m v at f)) (at + end f)
   unfolding readField if_then_else_
-  field-stands f at g u h s =
-      let here = le-leb (f .since) v u in
-      let p = at + f .offset in
-      each-way (isArray f)
-      (λ y. let q : p + f .length ≡ at + end f = omega (arith, size-array f g y) in
-      rw (here, y, ← q) (array-stands f p (omega (arith, q))))
-      (λ y. let q : p + typeAt (f .type) .width ≡ at + end f = omega (arith, size-plain f g y) in
-      rw (here, y, ← q) (class-stands f p (omega (arith, q)) (rw (here, y) at s)))
+  field-stands f at g u h s = rw (le-leb (f .since) v u) (go (isArray f) refl (rw (le-leb (f .since) v u) at s))
+    where
+      k : TypeRow
+      k = typeAt (f .type)
+
+      p : ℕ
+      p = at + f .offset
+
+      number : Answer
+      number = classify k (isOptional f) (valueOf k (numberAt (k .width) m p))
+
+      a : Bool → Answer
+      a y = if y then Octets p (f .length) else beside (f .names) number
+
+      go : (y : Bool) → isArray f ≡ y → Sound (a y) → Stands m p (fieldOctets m f (a y)) (at + end f)
+      go true y s =
+          let q : p + f .length ≡ at + end f = omega (arith, size-array f g y) in
+          rw (← q) (array-stands f p (omega (arith, q)))
+      go false y s =
+          let q : p + k .width ≡ at + end f = omega (arith, size-plain f g y) in
+          let e = beside-sound (f .names) number s in
+          rw (← q, e) (class-stands f p (omega (arith, q)) (rw e at s))
 
   fields-stand : (fs : List Field) (base len from : ℕ) → fieldsGood len from fs ≡ true → UpTo v (fieldSinces fs)
       → from ≤ len
-      → base + len ≤ length m → ZeroPadding m base len from fs → Each InRange (map (readField m v base) fs)
+      → base + len ≤ length m → ZeroPadding m base len from fs → Each Sound (map (readField m v base) fs)
       → Stands m (base + from) (blockOctets m len from fs (map (readField m v base) fs)) (base + len)
   unfolding Each ZeroPadding blockOctets
   fields-stand [] base len from g u w h p s =
@@ -126,7 +149,7 @@ module _ (m : List ℕ) (v : ℕ) (octets : AllOctets m) where
 
   abbrev Reprints : Shape → Groups → (ℕ → Result (Values × ℕ)) → Type 0
   Reprints s gs f =
-      (at : ℕ) (r : Values × ℕ) → at ≤ length m → OwnBlocks m s gs at (r .0) → ValuesInRange (r .0) → f at ≡ done r
+      (at : ℕ) (r : Values × ℕ) → at ≤ length m → OwnBlocks m s gs at (r .0) → AllSound (r .0) → f at ≡ done r
       → Printed s gs at r
 
   abbrev pub entryPrinted : Shape → Groups → Entry → List ℕ
@@ -135,41 +158,45 @@ module _ (m : List ℕ) (v : ℕ) (octets : AllOctets m) where
 
   pub block-stands : (s : Shape) (gs : Groups) (f : ℕ → Result (Values × ℕ)) (at : ℕ) (b : Entry) → GoodShape v s
       → Reprints s gs f
-      → ZeroPadding m at (s .length) 0 (s .fields) → OwnBlocks m s gs (at + s .length) (b .1) → Each InRange (b .0)
-      → ValuesInRange (b .1)
+      → ZeroPadding m at (s .length) 0 (s .fields) → OwnBlocks m s gs (at + s .length) (b .1) → Each Sound (b .0)
+      → AllSound (b .1)
       → readBlock m v s f 0 (s .length) at ≡ done b
       → Stands m at (entryPrinted s gs b) (b .3) × (b .3 ≡ at + rowLength s gs (entry (b .0) (b .1) (b .2) nil))
   unfolding readBlock rowLength
   block-stands s gs f at b good ih pad own in₁ in₂ e =
       let p = inv-bind _ _ _ e in
-      let q = inv-both _ _ _ _ (p .next) in
+      let q = inv-bind _ _ _ (p .next) in
+      let k = inv-bind _ _ _ (q .next) in
       let fits : at + s .length ≤ length m = leb-true (at + s .length) (length m) (inv-must _ _ _ _ (p .first)) in
-      let first : at + 0 ≡ at = omega arith in
-      subst (λ (x : Entry). OwnBlocks m s gs (at + s .length) (x .1) → Each InRange (x .0) → ValuesInRange (x .1)
+      subst (λ (x : Entry). OwnBlocks m s gs (at + s .length) (x .1) → Each Sound (x .0) → AllSound (x .1)
       → Stands m at (entryPrinted s gs x) (x .3)
-      × (x .3 ≡ at + (s .length + (rowLength s gs (x .1) + (datasLength (x .2) + 0))))) (q .is)
+      × (x .3 ≡ at + (s .length + (rowLength s gs (x .1) + (datasLength (x .2) + 0))))) (done-inj (k .next))
       (λ own′ in₁′ in₂′.
       let g = ih (at + s .length) (q .value) fits own′ in₂′ (q .first) in
-      let d = datas-stand (s .datas) (q .value .1) (q .other) (good .datasIn) (g .0 .fits) (q .second) in (
-        join _ _ (rw first at (fields-stand (s .fields) at (s .length) 0 (good .fields) (good .fieldsIn)
+      let d = datas-stand (s .datas) (q .value .1) (k .value) (good .datasIn) (g .0 .fits) (k .first) in (
+        join _ _ (to-zero (fields-stand (s .fields) at (s .length) 0 (good .fields) (good .fieldsIn)
             (omega arith) fits pad in₁′)) (join _ _ (g .0) (d .0)),
         omega (arith, g .1, d .1),
       )) own in₁ in₂
+    where
+      to-zero : {at to : ℕ} {xs : List ℕ} → Stands m (at + 0) xs to → Stands m at xs to
+      to-zero {at} st = let q : at + 0 ≡ at = omega arith in rw q at st
 
   entries-stand : (s : Shape) (gs : Groups) (f : ℕ → Result (Values × ℕ)) (k : ℕ) → GoodShape v s → Reprints s gs f
       → Reprints s gs (readEntries k (readBlock m v s f 0 (s .length)))
-  unfolding readEntries OwnBlocks ValuesInRange rowOctets rowLength
-  entries-stand s gs f zero good ih at r h own ranges e =
+  unfolding readEntries OwnBlocks AllSound rowOctets rowLength
+  entries-stand s gs f zero good ih at r h own sound e =
       subst (Printed s gs at) (done-inj e) (nothing-stands m at h, omega arith)
-  entries-stand s gs f (suc k) good ih at r h own ranges e =
-      let p = inv-both _ _ _ _ e in
-      subst (λ (x : Values × ℕ). OwnBlocks m s gs at (x .0) → ValuesInRange (x .0) → Printed s gs at x)
-      (p .is)
+  entries-stand s gs f (suc k) good ih at r h own sound e =
+      let p = inv-bind _ _ _ e in
+      let q = inv-bind _ _ _ (p .next) in
+      subst (λ (x : Values × ℕ). OwnBlocks m s gs at (x .0) → AllSound (x .0) → Printed s gs at x)
+      (done-inj (q .next))
       (λ o i.
       let b = block-stands s gs f at (p .value) good ih (o .0) (o .1) (i .0) (i .1) (p .first) in
-      let rest = entries-stand s gs f k good ih (p .value .3) (p .other) (b .0 .fits)
-      (subst (λ (x : ℕ). OwnBlocks m s gs x (p .other .0)) (sym (b .1)) (o .2)) (i .2) (p .second) in
-      (join _ _ (b .0) (rest .0), omega (arith, b .1, rest .1))) own ranges
+      let rest = entries-stand s gs f k good ih (p .value .3) (q .value) (b .0 .fits)
+      (subst (λ (x : ℕ). OwnBlocks m s gs x (q .value .0)) (sym (b .1)) (o .2)) (i .2) (q .first) in
+      (join _ _ (b .0) (rest .0), omega (arith, b .1, rest .1))) own sound
 
   group-stands : (i since : ℕ) (s : Shape) (inner rest : Groups) (s₀ : Shape) (at : ℕ) (d : ℕ × ℕ)
       (es others : Values × ℕ)
@@ -185,15 +212,15 @@ module _ (m : List ℕ) (v : ℕ) (octets : AllOctets m) where
   )
 
   pub groups-stand : (gs : Groups) (s₀ : Shape) → GoodGroups v gs → Reprints s₀ gs (readGroups m v gs 0)
-  unfolding GoodGroups OwnBlocks ValuesInRange
-  groups-stand none s₀ good at r h own ranges e =
+  unfolding GoodGroups OwnBlocks AllSound
+  groups-stand none s₀ good at r h own sound e =
       subst (Printed s₀ none at) (done-inj (sym (no-groups m v at) ∙ e))
       (unfold rowOctets rowLength in (nothing-stands m at h, omega arith))
-  groups-stand (more i since s inner rest) s₀ good at r h own ranges e =
+  groups-stand (more i since s inner rest) s₀ good at r h own sound e =
       let w = group-read m v i since s inner rest at r (good .0) e in
       let d = dimension-read m v (need v s) at (w .sizes) (w .dimension) in
       let gs = more i since s inner rest in
-      subst (λ (x : Values × ℕ). OwnBlocks m s₀ gs at (x .0) → ValuesInRange (x .0) → Printed s₀ gs at x) (w .is)
+      subst (λ (x : Values × ℕ). OwnBlocks m s₀ gs at (x .0) → AllSound (x .0) → Printed s₀ gs at x) (w .is)
       (λ o k.
       let len : w .sizes .0 ≡ s .length = d .length-is ∙ o .0 in
       let one : ℕ → Result Entry = readBlock m v s (readGroups m v inner 0) 0 (s .length) in
@@ -205,4 +232,4 @@ module _ (m : List ℕ) (v : ℕ) (octets : AllOctets m) where
       (d .fits) (o .1) (k .0) reads in
       let c = groups-stand rest s₀ (good .3) (w .entries .1) (w .others) (a .0 .fits)
       (subst (λ (x : ℕ). OwnBlocks m s₀ rest x (w .others .0)) (sym (a .1)) (o .2)) (k .1) (w .after) in
-      group-stands i since s inner rest s₀ at (w .sizes) (w .entries) (w .others) d (o .0) a c) own ranges
+      group-stands i since s inner rest s₀ at (w .sizes) (w .entries) (w .others) d (o .0) a c) own sound

@@ -11,6 +11,7 @@ use borrow.Author.Tests.{eq-eqb, le-leb, lt-ltb, ltb-true, not-true}
 use Rattle.layout.specs.Result.{Each, Result, _>>=_, _and_, done, if_then_else_, must}
 use Rattle.layout.specs.Octets.{Numbers64, null16, number16, numberAt, octetsOf}
 use Rattle.layout.specs.Types.{TypeRow, classify, inRange, typeAt, valueOf}
+use Rattle.layout.specs.Lists.{beside, has}
 use Rattle.layout.specs.Book.{Data, Field, Groups, Shape, dataSinces, end, fieldSinces, isArray, isOptional, more, need}
 use Rattle.layout.specs.Book.{none}
 use Rattle.layout.specs.BookRules.{fieldsGood}
@@ -21,11 +22,12 @@ use Rattle.layout.specs.Writing.{blockOctets, dataOctets, entriesIn, fieldOctet
 use Rattle.layout.specs.Writing.{judgeDatas, judgeEntries, judgeField, judgeFields, judgeGroups, numbers16, rowOctets}
 use Rattle.layout.specs.Writing.{second, spanOctets, spanOf, third}
 use Rattle.demands.proofs.Contents.{contentOf, contentsOf, treeContents}
+use Rattle.layout.proofs.ListLaws.{beside-listed}
 use Rattle.layout.proofs.Lengths.{field-long, fields-long, span-long}
 use Rattle.layout.proofs.Present.{GoodGroups, GoodShape, UpTo}
 use Rattle.layout.proofs.Said.{OctetsSaid, array-said, data-said, number-said}
 use Rattle.layout.proofs.Fields.{field-good, need-within}
-use Rattle.layout.proofs.Results.{and-left, and-right, done-inj, each-way, inv-bind, inv-both, inv-must}
+use Rattle.layout.proofs.Results.{and-left, and-right, done-inj, inv-bind, inv-both, inv-must}
 use Rattle.layout.proofs.Stands.{AreAt, Stands, length-numbers, length-octets, number-stands, numbers-are, split-to}
 use Rattle.layout.proofs.TypeLaws.{null-back, number-back}
 use Rattle.layout.specs.declared.Answer.{Answer}
@@ -64,25 +66,27 @@ module _ (l pool m : List ℕ) (v : ℕ) (small : Numbers64 l) where
   abbrev ReadAs : Field → ℕ → Answer → Type 0
   ReadAs f at a =
       let k = typeAt (f .type) in
-      classify k (isOptional f) (valueOf k (numberAt (k .width) m at)) ≡ a
+      beside (f .names) (classify k (isOptional f) (valueOf k (numberAt (k .width) m at))) ≡ a
 
   null-back-at : (f : Field) (at to : ℕ) → isOptional f ≡ true → Stands m at (fieldOctets pool f Null) to
       → ReadAs f at Null
-  unfolding fieldOctets
+  unfolding fieldOctets beside
   null-back-at f at to o s =
       let k = typeAt (f .type) in
       let e = ap (valueOf k) (number-stands (k .width) (k .null) s) ∙ null-back (f .type) in
-      rw (o, e) (class-null k)
+      rw (o, e) (ap (beside (f .names)) (class-null k))
 
   number-back-at : (f : Field) (x at to : ℕ) → x < 2 ^ 64
-      → (inRange (typeAt (f .type)) x and not (eqb x (typeAt (f .type) .null))) ≡ true
+      → (inRange (typeAt (f .type)) x and not (eqb x (typeAt (f .type) .null)) and has (f .names) x) ≡ true
       → Stands m at (fieldOctets pool f (Number x)) to → ReadAs f at (Number x)
   unfolding fieldOctets
   number-back-at f x at to b h s =
       let k = typeAt (f .type) in
       let r = and-left _ _ h in
+      let other = and-right _ _ h in
       let e = ap (valueOf k) (number-stands (k .width) x s) ∙ number-back (f .type) x b r in
-      rw e (class-number k (isOptional f) x r (not-true _ (and-right _ _ h)))
+      rw e (ap (beside (f .names)) (class-number k (isOptional f) x r (not-true _ (and-left _ _ other)))
+      ∙ beside-listed (f .names) x (and-right _ _ other))
 
   number-field : (f : Field) (i at to : ℕ) (a : Answer) → isArray f ≡ false
       → judgeField l (length pool) f i ≡ done a
@@ -90,10 +94,16 @@ module _ (l pool m : List ℕ) (v : ℕ) (small : Numbers64 l) where
   unfolding if_then_else_ contentOf
   number-field f i at to a y e s =
       let q = number-said l (length pool) f i a y e in
-      each-way (eqb (first l i) 1)
-      (λ t. let z = rw t at (q .is) in rw (← z) (null-back-at f at to (rw t at (q .fits)) (rw (← z) at s), refl))
-      (λ t. let z = rw t at (q .is) in
-      rw (← z) (number-back-at f (second l i) at to (small (3 * i + 1)) (rw t at (q .fits)) (rw (← z) at s), refl))
+      go (eqb (first l i) 1) (q .fits) (q .is)
+    where
+      k : TypeRow
+      k = typeAt (f .type)
+
+      go : (b : Bool) → (if b then isOptional f
+          else inRange k (second l i) and not (eqb (second l i) (k .null)) and has (f .names) (second l i)) ≡ true
+          → (if b then Null else Number (second l i)) ≡ a → ReadAs f at a × (contentOf m a ≡ contentOf pool a)
+      go true h q = rw (← q) (null-back-at f at to h (rw (← q) at s), refl)
+      go false h q = rw (← q) (number-back-at f (second l i) at to (small (3 * i + 1)) h (rw (← q) at s), refl)
 
   -- Octets that stand elsewhere are the same octets.
   octets-same : (a : Answer) (at to i : ℕ) → OctetsSaid l (length pool) i a → Stands m at (spanOctets pool a) to
@@ -119,10 +129,18 @@ module _ (l pool m : List ℕ) (v : ℕ) (small : Numbers64 l) where
       → judgeField l (length pool) f i ≡ done a
       → Stands m (base + f .offset) (fieldOctets pool f a) to → contentOf m (readField m v base f) ≡ contentOf pool a
   unfolding readField if_then_else_
-  field-back f i base to a h e s =
-      each-way (isArray f) (λ y. rw (le-leb (f .since) v h, y) (array-field f i (base + f .offset) to a y e s))
-      (λ y. let b = number-field f i (base + f .offset) to a y e s in
-      rw (le-leb (f .since) v h, y) (ap (contentOf m) (b .0) ∙ b .1))
+  field-back f i base to a h e s = rw (le-leb (f .since) v h) (go (isArray f) refl)
+    where
+      k : TypeRow
+      k = typeAt (f .type)
+
+      go : (y : Bool) → isArray f ≡ y
+          → contentOf m (if y then Octets (base + f .offset) (f .length) else beside (f .names) (classify k
+          (isOptional f) (valueOf k (numberAt (k .width) m (base + f .offset))))) ≡ contentOf pool a
+      go true y = array-field f i (base + f .offset) to a y e s
+      go false y =
+          let b = number-field f i (base + f .offset) to a y e s in
+          ap (contentOf m) (b .0) ∙ b .1
 
   -- ---- the fields of a block that starts at base, from its octet `from` on
 

@@ -18,7 +18,7 @@ use Rattle.layout.specs.Message.{Entry, blockLength, checkHeader, countGood, da
 use Rattle.layout.specs.Message.{readBlock, readGroups, readMessage, readRoot, readWhole, schemaId, surplusOf}
 use Rattle.layout.specs.Message.{templateId, versionOf}
 use Rattle.layout.specs.Writing.{headerOf, judgeListing, messageOctets, rowOctets, writeOf}
-use Rattle.layout.specs.Demands.{AsWritten, OwnBlocks, ValuesInRange}
+use Rattle.layout.specs.Demands.{AllSound, AsWritten, OwnBlocks}
 use Rattle.demands.proofs.Judged.{listing-judged}
 use Rattle.demands.proofs.Reprinted.{block-stands, entryPrinted, groups-stand}
 use Rattle.layout.proofs.Fields.{need-within}
@@ -75,15 +75,15 @@ root-read b t m r w ve le e =
 
 module _ (b : Book) (t : Template) (m : List ℕ) (octets : AllOctets m) (w : Writable b t) where
   root-stands : (x : Entry) → let r = entry (x .0) (x .1) (x .2) nil in x .3 ≡ length m
-      → OwnBlocks m (t .shape) (t .groups) headerSize r → ValuesInRange r
+      → OwnBlocks m (t .shape) (t .groups) headerSize r → AllSound r
       → readBlock m (b .version) (t .shape) (readGroups m (b .version) (t .groups) 0) 0 (t .shape .length) headerSize
       ≡ done x
       → Stands m headerSize (rowOctets m (t .shape) (t .groups) r) (length m)
-  unfolding OwnBlocks ValuesInRange rowOctets
-  root-stands x e own ranges q =
+  unfolding OwnBlocks AllSound rowOctets
+  root-stands x e own sound q =
       let v = b .version in
       let s = block-stands m v octets (t .shape) (t .groups) (readGroups m v (t .groups) 0) headerSize x (w .shape)
-      (groups-stand m v octets (t .groups) (t .shape) (w .groups)) (own .0) (own .1) (ranges .0) (ranges .1) q .0 in
+      (groups-stand m v octets (t .groups) (t .shape) (w .groups)) (own .0) (own .1) (sound .0) (sound .1) q .0 in
       join _ _ (subst (λ (y : ℕ). Stands m headerSize (entryPrinted m v octets (t .shape) (t .groups) x) y) e s)
       (nothing-stands m (length m) (le-refl (length m)))
 
@@ -92,18 +92,18 @@ module _ (b : Book) (t : Template) (m : List ℕ) (octets : AllOctets m) (w : Wr
       → messageOctets b t m r ≡ m
   unfolding messageOctets AreAt
   printed r h schema id a k =
-      let root = subst (λ (x : Values). OwnBlocks m (t .shape) (t .groups) headerSize x → ValuesInRange x
+      let root = subst (λ (x : Values). OwnBlocks m (t .shape) (t .groups) headerSize x → AllSound x
       → Stands m headerSize (rowOctets m (t .shape) (t .groups) x) (length m)) (k .is)
-      (λ own ranges. root-stands (k .root) (k .ends) own ranges (k .reads)) (a .blocks) (a .ranges) in
+      (λ own sound. root-stands (k .root) (k .ends) own sound (k .reads)) (a .blocks) (a .sound) in
       stands-all (join _ _ (numbers-stand m octets 0 headerSize (headerOf b t) (omega arith) h
       (a .length, (id, (schema, (a .version, (k .groups-is, (k .datas-is, tt))))))) root)
 
-  judged : (r : Values) → ValuesInRange r → RootRead b t m r → judgeListing (listing r) (length m) t ≡ done r
-  judged r ranges k =
-      subst (λ (x : Values). ValuesInRange x → judgeListing (listing x) (length m) t ≡ done x) (k .is)
+  judged : (r : Values) → AllSound r → RootRead b t m r → judgeListing (listing r) (length m) t ≡ done r
+  judged r sound k =
+      subst (λ (x : Values). AllSound x → judgeListing (listing x) (length m) t ≡ done x) (k .is)
       (λ i. listing-judged _ m (b .version) t (t .shape .length) headerSize (k .root) (w .shape) (w .groups)
       (need-within (b .version) (t .shape .length) 0 0 (t .shape .fields) (w .shape .fields) (omega arith)) i
-      (k .reads) refl) ranges
+      (k .reads) refl) sound
 
 -- ---- from the octets
 
@@ -150,7 +150,7 @@ written-back book m room b t r octets e h q a fits =
     rw (
       e,
       h,
-      judged b t m octets w r (a .ranges) root,
+      judged b t m octets w r (a .sound) root,
       is,
       le-leb (length m) room fits,
       le-leb (length m) 65535

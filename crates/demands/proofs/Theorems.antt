@@ -1,14 +1,16 @@
 -- The theorems, over the definitions of document 01 in crates/layout/specs. Octets, words and numbers are natural
 -- numbers; a book, a message and a pool are lists of octets, a listing is a list of numbers. An operation comes to
 -- `done` with its result or `refused` with number and place.
-use mathlib.Core.Path.{_≡_}
+use mathlib.Core.Path.{_∙_, _≡_}
 use mathlib.Core.Bool.{true}
 use mathlib.Core.List.{List}
 use mathlib.Core.Option.{some}
-use Prim.Native.Nat.{_*_, _≤_, ℕ}
+use Prim.Native.Nat.{_*_, _<_, _≤_, ℕ}
 use lib.ListN.{length}
-use Rattle.layout.specs.Result.{done}
+use Rattle.layout.specs.Result.{Each, _>>=_, done}
 use Rattle.layout.specs.Octets.{AllOctets, Numbers64}
+use Rattle.layout.specs.Types.{typeAt}
+use Rattle.layout.specs.Lists.{beside, noNames, set}
 use Rattle.layout.specs.Book.{Book, Template, findTemplate}
 use Rattle.layout.specs.BookRules.{bookOf}
 use Rattle.layout.specs.Values.{Step, Values, listing}
@@ -16,13 +18,26 @@ use Rattle.layout.specs.Message.{readMessage, templateId, versionOf}
 use Rattle.layout.specs.Reading.{checkOf, hasPlace, listOf, placeOf}
 use Rattle.layout.specs.Writing.{judgeListing, messageOctets, writeOf, writtenLength}
 use Rattle.layout.specs.Extension.{Extends}
-use Rattle.layout.specs.Demands.{AsWritten, contents}
+use Rattle.layout.specs.Demands.{AlikeOrUnlisted, AsWritten, contents, namesAt}
 use Rattle.layout.proofs.Lengths.{written-long}
+use Rattle.demands.proofs.Kept.{seen-by-none, seen-says}
 use Rattle.demands.proofs.Returned.{written-back}
-use Rattle.demands.proofs.TwoBooks.{accepts-too, same-answer, same-verdict}
+use Rattle.demands.proofs.TwoBooks.{accepts-too, same-verdict, seen-answer}
 use Rattle.demands.proofs.Written.{reads-again, written-by}
-use Rattle.layout.proofs.Accepted.{accepted}
+use Rattle.layout.proofs.Accepted.{EachField, accepted}
+use Rattle.layout.proofs.Bits.{bits-within}
 use Rattle.layout.specs.declared.Element.{Element}
+
+-- ---- an accepted book
+
+-- "5 also for .. a bit beyond the width", of which rule 5 tests the greatest: where a field has a set, none of its bits
+-- is beyond the field's width.
+pub bits-within-width : (book : List ℕ) (b : Book) (id : ℕ) (t : Template)
+    → bookOf book ≡ done b
+    → findTemplate id (b .templates) ≡ some t
+    → EachField (λ f. f .names .kind ≡ set → Each (λ n. n < 8 * typeAt (f .type) .width) (f .names .numbers)) (t .shape)
+    (t .groups)
+bits-within-width book b id t e h = bits-within b t (accepted book b id t e h .1)
 
 -- ---- demand 2
 
@@ -39,7 +54,8 @@ written-reads-back book id l pool room m small e =
     (r .count, r .read, r .lists, r .all, r .long, r .same)
 
 -- "what is read writes back to the same octets if it carries the book's own version and block lengths, has zero padding
--- and no value out of range": that is `AsWritten`. "writing back has the message as pool and room for it"
+-- and no value out of range", and "no kind 6": that is `AsWritten`. "writing back has the message as pool and room for
+-- it"
 pub read-writes-back : (book m : List ℕ) (room : ℕ) (b : Book) (t : Template) (r : Values)
     → AllOctets m
     → bookOf book ≡ done b
@@ -75,13 +91,30 @@ module _
   pub older-accepts : checkOf newer m ≡ done tt → checkOf older m ≡ done tt
   older-accepts = accepts-too older newer old new isOlder isNewer extends m t inBoth
 
-  -- "with the same answer for every element that the older has"
+  -- "with the same answer for every element that the older has", and "kind 6 with the same number where only its list
+  -- lacks it": the older's answer is the newer's, seen beside the names of the older's field.
   pub older-answers : checkOf newer m ≡ done tt
       → (p : List Step) (x : Element)
       → hasPlace p x (t .shape) (t .groups) ≡ true
-      → placeOf older m p x ≡ placeOf newer m p x
+      → placeOf older m p x ≡ (placeOf newer m p x >>= λ a. done (beside (namesAt p x (t .shape) (t .groups)) a))
   unfolding placeOf
-  older-answers a = same-answer older newer old new isOlder isNewer extends m t inBoth a true
+  older-answers a = seen-answer older newer old new isOlder isNewer extends m t inBoth a true
+
+  -- That is: the two answer alike, or the newer answers with a number that the older's list lacks, and the older with
+  -- kind 6 and the same number.
+  pub older-answers-alike-or-unlisted : checkOf newer m ≡ done tt
+      → (p : List Step) (x : Element)
+      → hasPlace p x (t .shape) (t .groups) ≡ true
+      → AlikeOrUnlisted done (namesAt p x (t .shape) (t .groups)) (placeOf older m p x) (placeOf newer m p x)
+  older-answers-alike-or-unlisted a p x h = rw (older-answers a p x h) (seen-says _ (placeOf newer m p x))
+
+  -- Where the older has no list, as for a group or a data, they answer alike.
+  pub older-answers-alike : checkOf newer m ≡ done tt
+      → (p : List Step) (x : Element)
+      → hasPlace p x (t .shape) (t .groups) ≡ true
+      → namesAt p x (t .shape) (t .groups) ≡ noNames
+      → placeOf older m p x ≡ placeOf newer m p x
+  older-answers-alike a p x h e = older-answers a p x h ∙ rw e (seen-by-none (placeOf newer m p x))
 
   -- "if the message's version is no later than the older book's, both accept or both refuse, with the same number and
   -- place"

@@ -8,23 +8,25 @@ use native.Mathlib.Omega.{arith}
 use lib.Dec.{leb}
 use lib.ListN.{length, length-append}
 use borrow.Author.Tests.{eqb-true, le-leb, leb-false, leb-true, lt-ltb, ltb-true}
-use Rattle.layout.specs.Result.{Result, _>>=_, done, if_then_else_, must, orRefuse, refused}
+use Rattle.layout.specs.Result.{Result, _>>=_, _and_, done, if_then_else_, must, orRefuse, refused}
 use Rattle.layout.specs.Octets.{number16}
 use Rattle.layout.specs.Book.{Book, Data, Field, Groups, Shape, Template, dataSinces, findTemplate, groupSinces, more}
 use Rattle.layout.specs.Book.{none, present}
 use Rattle.layout.specs.BookRules.{bookOf, layoutGood}
-use Rattle.layout.specs.Values.{Step, Values, entry, nil}
+use Rattle.layout.specs.Values.{Step, Values, answerAt, entry, nil}
 use Rattle.layout.specs.Message.{blockLength, countGood, readMessage, readRoot, readWhole, surplusOf, templateId}
 use Rattle.layout.specs.Message.{versionOf}
 use Rattle.layout.specs.Reading.{checkOf, groupHas, hasElement, hasPlace, placeAsked}
-use Rattle.layout.specs.Extension.{AddsDatas, Extends, ExtendsGroups, ExtendsShape, StandsIn}
+use Rattle.layout.specs.Extension.{AddsDatas, Extends, ExtendsFields, ExtendsGroups, ExtendsShape, StandsIn}
+use Rattle.layout.specs.Lists.{beside}
+use Rattle.layout.specs.Demands.{namesAt}
 use Rattle.demands.proofs.Beside.{keptBlock, present-groups, sees-block, sees-groups}
-use Rattle.demands.proofs.Kept.{kept, kept-answer}
-use Rattle.demands.proofs.Needs.{need-adds, present-absent, present-append, present-most}
+use Rattle.demands.proofs.Kept.{kept, kept-answer, seen}
+use Rattle.demands.proofs.Needs.{need-extends, present-absent, present-append, present-most}
 use Rattle.demands.proofs.Sees.{Sees, seen-done, sees-bind, sees-done, sees-leb, sees-must, sees-same, sees-then}
 use Rattle.layout.proofs.Accepted.{accepted, found-holds}
 use Rattle.layout.proofs.Present.{UpTo, present-up, writable}
-use Rattle.layout.proofs.Results.{and-left, and-right, bind-done, each-way, inv-bind, inv-if, inv-must}
+use Rattle.layout.proofs.Results.{and-left, and-right, bind-assoc, bind-done, each-way, inv-bind, inv-if, inv-must}
 use Rattle.layout.specs.declared.Element.{Element}
 use Rattle.layout.specs.declared.Element as Element
 
@@ -102,7 +104,7 @@ module _ (vo vn : ℕ) (old : Template) (news : List Template) (m : List ℕ) (s
       sees-equal strict _ (three-tests _ _ _ 14 0 15 8 15 10 _ (readWhole old m))
       (three-tests _ _ _ 14 0 15 8 15 10 _ (readWhole new m))
       (sees-bind strict (λ (u : Unit {0}). u) _ _ _ _ _
-      (sees-leb strict _ _ _ 14 0 (need-adds strict v vo (new .shape .length) (old .shape .fields)
+      (sees-leb strict _ _ _ 14 0 (need-extends v vo strict (new .shape .length) (old .shape .fields)
       (new .shape .fields) fields (and-right _ _ (and-left _ _ layout)) early)) λ _.
       sees-then strict (λ (u : Unit {0}). u) _ _ _ _ _
       (sees-count vo vn v (groupSinces (old .groups)) (groupSinces (new .groups)) newer groupsIn (g .0) (g .1) strict
@@ -140,12 +142,18 @@ module _ (limit : ℕ) where
   groups-longer root (more i since s inner rest) (more i′ since′ s′ inner′ rest′) x =
       omega (arith, groups-longer root rest rest′ (x .rest))
 
+  fields-longer : (old new : List Field) → ExtendsFields limit old new → length old ≤ length new
+  unfolding ExtendsFields
+  fields-longer [] new x = omega arith
+  fields-longer (f ∷ fs) [] x = absurd x
+  fields-longer (f ∷ fs) (f′ ∷ fs′) x = omega (arith, fields-longer fs fs′ (x .1))
+
   has-element : (root : Bool) (x : Element) (s s′ : Shape) (gs gs′ : Groups) → ExtendsShape limit root s s′
       → ExtendsGroups limit root gs gs′
       → hasElement x s gs ≡ true → hasElement x s′ gs′ ≡ true
   unfolding hasElement
   has-element root (Element.the-variants.Field k) s s′ gs gs′ a b h =
-      rw (a .fields .first, length-append (s .fields) (a .fields .added)) (lt-ltb k _ (omega (arith, ltb-true k _ h)))
+      lt-ltb k _ (omega (arith, ltb-true k _ h, fields-longer (s .fields) (s′ .fields) (a .fields)))
   has-element root (Element.the-variants.Group k) s s′ gs gs′ a b h =
       lt-ltb k _ (omega (arith, ltb-true k _ h, groups-longer root gs gs′ b))
   has-element root (Element.the-variants.Data k) s s′ gs gs′ a b h =
@@ -217,17 +225,19 @@ module _ (o n : List ℕ) (old new : Book) (ao : bookOf o ≡ done old) (an : bo
       let r = newer-reads a in
       rw (ao, older-reads (r .0) (r .1)) refl
 
-  pub same-answer : checkOf n m ≡ done tt → (whole : Bool) (p : List Step) (y : Element)
+  pub seen-answer : checkOf n m ≡ done tt → (whole : Bool) (p : List Step) (y : Element)
       → hasPlace p y (t .shape) (t .groups) ≡ true
-      → (bookOf o >>= λ b. placeAsked b m whole p y) ≡ (bookOf n >>= λ b. placeAsked b m whole p y)
+      → (bookOf o >>= λ b. placeAsked b m whole p y)
+      ≡ seen (namesAt p y (t .shape) (t .groups)) (bookOf n >>= λ b. placeAsked b m whole p y)
   unfolding placeAsked orRefuse _>>=_ newer
-  same-answer a whole p y h =
+  seen-answer a whole p y h =
       let s = stands .1 in
       let r = newer-reads a in
       let has = has-place (old .version) p y true (t .shape) (newer .shape) (t .groups) (newer .groups) (s .shape)
       (s .groups) h in
       rw (ao, an, older-reads (r .0) (r .1), r .1, e, there, h, has, kept-answer p y (t .shape) (t .groups) (r .0) h)
-      refl
+      (sym (bind-assoc (must (whole and leb (length p) 4 and true) 30 0) (λ _. answerAt p y (r .0))
+      (λ z. done (beside (namesAt p y (t .shape) (t .groups)) z))))
 
   pub same-verdict : versionOf m ≤ old .version → checkOf o m ≡ checkOf n m
   unfolding checkOf

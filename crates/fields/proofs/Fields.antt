@@ -1,5 +1,5 @@
 -- What a field is, as the code's tests find it.
-use mathlib.Core.Path.{_≡_, refl}
+use mathlib.Core.Path.{_∙_, _≡_, ap, refl, sym}
 use mathlib.Core.List.{List, [], _∷_}
 use mathlib.Core.Bool.{true}
 use Prim.Native.Nat.{_+_, _-_, _<_, _≤_, suc, zero, ℕ}
@@ -10,14 +10,20 @@ use lib.ListN.{length}
 use borrow.Author.Tests.{eqb-true, le-leb, le-ltb, leb-true, lt-leb, lt-ltb}
 use Rattle.layout.specs.Result.{Each, if_then_else_}
 use Rattle.layout.specs.Octets.{numberAt}
+use Rattle.layout.specs.Lists.{beside, noNames}
 use Rattle.layout.specs.Types.{classify, typeAt, valueOf}
 use Rattle.layout.specs.Book.{Field, end, isOptional, needAfter}
-use Rattle.layout.specs.BookRules.{fieldAt, fieldsGood, lengthGood, parseFields}
+use Rattle.layout.specs.BookRules.{fieldsGood, lengthGood, parseFields, word}
 use Rattle.layout.specs.Message.{readField}
 use Rattle.layout.specs.declared.Answer.the-variants.{Absent, Octets}
+use Rattle.layout.specs.declared.Answer.{Answer}
+use Rattle.layout.proofs.ListLaws.{beside-none, read-beside}
 use Rattle.layout.proofs.Fields.{FieldGood, field-good}
 use Rattle.layout.proofs.Results.{and-left, each-way, either, or-right}
-use Rattle.fields.specs.Readable.{Fits}
+use Rattle.prepared.specs.Names.{listsAt, namesAt}
+use Rattle.prepared.specs.Positions.{IsField, fieldAt}
+use Rattle.prepared.proofs.Names.{names-free}
+use Rattle.fields.specs.Readable.{Fits, plain}
 
 module _ (m : List ℕ) (v at : ℕ) (f : Field) where
   pub field-absent : v < f .since → readField m v at f ≡ Absent
@@ -30,11 +36,10 @@ module _ (m : List ℕ) (v at : ℕ) (f : Field) where
     field-octets l = rw (le-leb (f .since) v h, lt-ltb 1 (f .length) l) refl
 
     module _ (l : f .length ≤ 1) where
-      pub field-number : readField m v at f
-          ≡ classify (typeAt (f .type)) (isOptional f)
+      pub field-number : readField m v at (plain f) ≡ classify (typeAt (f .type)) (isOptional f)
           (valueOf (typeAt (f .type)) (numberAt (typeAt (f .type) .width) m (at + f .offset)))
       unfolding readField if_then_else_
-      field-number = rw (le-leb (f .since) v h, le-ltb 1 (f .length) l) refl
+      field-number = rw (le-leb (f .since) v h, le-ltb 1 (f .length) l) (beside-none _)
 
       pub number-inside : Fits m v at f → at + f .offset + typeAt (f .type) .width ≤ length m
       number-inside p =
@@ -79,8 +84,20 @@ fields-fit m v at size l e least (f ∷ fs) g h n i = (
         let here-is : needAfter v (end f) fs ≤ size = unfold if_then_else_ in rw (le-leb (f .since) v here) at n in
         omega (arith, need-least v l (end f) (end f) fs (good .rest) (omega arith), here-is)
 
-pub fields-each : (P : Field → Type 0) (b : List ℕ) (n f : ℕ) → 0 < n → Each P (parseFields b n f)
-    → P (fieldAt b f) × Each P (parseFields b (n - 1) (f + 6))
+pub fields-each : (P : Field → Type 0) (p : List ℕ) (n f : ℕ) → 0 < n → Each P (parseFields (listsAt p) p n f)
+    → P (fieldAt p f) × Each P (parseFields (listsAt p) p (n - 1) (f + 7))
 unfolding parseFields Each
-fields-each P b zero f h e = absurd (omega arith)
-fields-each P b (suc n) f h e = let q : suc n - 1 ≡ n = omega arith in rw q e
+fields-each P p zero f h e = absurd (omega arith)
+fields-each P p (suc n) f h e = let q : suc n - 1 ≡ n = omega arith in rw q e
+
+-- What a field is without its list, seen beside the list that its table leads to, is what it is.
+module _ (p : List ℕ) (f t : ℕ) (m : List ℕ) (v at : ℕ) (a : Answer) (field : IsField p f t)
+    (is : a ≡ readField m v at (plain (fieldAt p f))) where
+  pub field-beside : (r : Answer) → r ≡ beside (namesAt p (word p (t + 5))) a → r ≡ readField m v at (fieldAt p f)
+  field-beside r told =
+      told ∙ rw (is, field .derived .names .names) (sym (read-beside (fieldAt p f .names) noNames
+      (λ x. ap (beside (fieldAt p f .names)) (beside-none x)) m v at (fieldAt p f)))
+
+  pub field-free : word p (t + 5) ≡ 0 → a ≡ readField m v at (fieldAt p f)
+  field-free e =
+      field-beside a (rw (field .derived .names .names, names-free (field .derived .names) e) (sym (beside-none a)))

@@ -2,14 +2,19 @@
 use mathlib.Core.List.{List}
 use Prim.Native.Nat.{ℕ, _+_, _≤_}
 use lib.ListN.{length}
-use Rattle.layout.specs.Book.{Field, end}
-use Rattle.layout.specs.BookRules.{fieldAt}
+use Rattle.layout.specs.Lists.{noNames}
+use Rattle.layout.specs.Book.{Field, end, withNames}
+use Rattle.prepared.specs.Positions.{IsField, fieldAt}
 
 pub record Fits (m : List ℕ) (v at : ℕ) (f : Field) : Type 0 where
   pub some : 1 ≤ f .length
   pub inside : f .since ≤ v → at + end f ≤ length m
 
--- The field at place x of the prepared numbers p.
-pub record Readable (p : List ℕ) (x : ℕ) (m : List ℕ) (v at : ℕ) : Type 0 where
-  pub whole : x + 6 ≤ length p
+-- The field at place x of the prepared numbers p, whose table is at t.
+pub record Readable (p : List ℕ) (x t : ℕ) (m : List ℕ) (v at : ℕ) : Type 0 where
+  pub field : IsField p x t
   pub fits : Fits m v at (fieldAt p x)
+
+-- A field without its list.
+abbrev pub plain : Field → Field
+plain f = withNames f noNames

@@ -1,5 +1,5 @@
 -- One law for each way that a function of the judging pass ends or goes on, in the code's terms.
-use mathlib.Core.Path.{_≡_, refl, subst, sym, ap, _∙_}
+use mathlib.Core.Path.{_≡_, refl, sym, ap, _∙_}
 use mathlib.Core.List.{List, [], _∷_}
 use mathlib.Core.Bool.{Bool, false, not, true}
 use Prim.Native.Nat.{ℕ, suc, _+_, _-_, _*_, _/_, _%_, _^_, _≤_, _<_}
@@ -12,7 +12,7 @@ use Rattle.layout.specs.Result.{Result, done, refused, must, if_then_else_, _an
 use Rattle.layout.specs.Octets.{null16}
 use Rattle.layout.specs.Types.{inRange, typeAt}
 use Rattle.layout.specs.Book.{Field, Groups, Shape, Template, more, none}
-use Rattle.layout.specs.BookRules.{fieldAt, parseDatas, parseFields, word}
+use Rattle.layout.specs.BookRules.{parseDatas, parseFields, word}
 use Rattle.layout.specs.Contracts.{refusal}
 use Rattle.layout.specs.Values.{Values, entry, group, nil}
 use Rattle.layout.specs.Writing.{datasLength, first, isGroup, isNumber, isOctets, isThere, judgeBlock, judgeData}
@@ -21,13 +21,15 @@ use Rattle.layout.specs.Writing.{judgeNumber, judgeOctets, numberFits, rowLengt
 use Rattle.layout.specs.declared.Answer.{Answer}
 use Rattle.layout.specs.declared.Answer.the-variants.{Group, Octets}
 use Rattle.layout.specs.declared.Refusal.{Refusal}
-use Rattle.layout.proofs.Results.{Reached, and-left, bind-assoc, bind-done, each-way, none-left, one-less, some-left}
+use Rattle.layout.proofs.Results.{Reached, and-assoc, and-left, bind-assoc, bind-done, each-way, none-left}
+use Rattle.layout.proofs.Results.{one-less, some-left}
 use Rattle.layout.proofs.Said.{octets-said}
 use Rattle.layout.proofs.TypeLaws.{each-type, inside-not-null}
 use Rattle.number_types.proofs.Types.{in-span}
 use Rattle.prepared.specs.Numbers.{spread}
-use Rattle.prepared.specs.Positions.{Derived, IsBlock, IsField, datasFrom, fieldsFrom, groupsFrom, innerAt}
-use Rattle.prepared.specs.Positions.{manyDatas, manyFields, manyGroups, shapeAt, tableFrom}
+use Rattle.prepared.specs.Names.{listsAt}
+use Rattle.prepared.specs.Positions.{IsBlock, datasFrom, fieldAt, groupsFrom, innerAt}
+use Rattle.prepared.specs.Positions.{manyDatas, manyGroups, shapeAt}
 use Rattle.prepared.proofs.Open.{no-datas-at, no-groups-at}
 use Rattle.judges.specs.Judges.{capped, datasEnd, entriesAt, fieldEnd, fieldsEnd, judged, listingEnd}
 use Rattle.judges.specs.Judges.{limit, octetsEnd, rowEnd}
@@ -189,10 +191,14 @@ inside-only t x =
     each-way (inRange (typeAt t) x) (λ e. rw (e, inside-not-null t x e) refl) (λ e. rw e refl)
 
 -- A number d above the least of a type fits it where d is no more than the spread.
-pub within : (t x d least far : ℕ) → d < 2 ^ 64 → (d + least) % 2 ^ 64 ≡ x → least ≡ typeAt t .least
-    → far ≡ spread (typeAt t) → (inRange (typeAt t) x and not (eqb x (typeAt t .null))) ≡ leb d far
-within t x d least far small e p q =
-    rw (inside-only t x, q) (in-span t x d _ (rw p at e) (spread-to t) small (omega arith))
+-- A number fits a field of type t, whose list has it or not, if it is in the type's range.
+pub within : (t x d least far : ℕ) (listed : Bool) → d < 2 ^ 64 → (d + least) % 2 ^ 64 ≡ x → least ≡ typeAt t .least
+    → far ≡ spread (typeAt t)
+    → (inRange (typeAt t) x and not (eqb x (typeAt t .null)) and listed) ≡ (leb d far and listed)
+within t x d least far listed small e p q =
+    sym (and-assoc (inRange (typeAt t) x) (not (eqb x (typeAt t .null))) listed)
+    ∙ rw (inside-only t x, q) (ap (λ (b : Bool). b and listed)
+    (in-span t x d _ (rw p at e) (spread-to t) small (omega arith)))
 
 -- ---- fields
 
@@ -208,28 +214,12 @@ module _ (l : List ℕ) (size : ℕ) (f : Field) (i : ℕ) where
   unfolding if_then_else_ judgeNumber
   field-number h = rw (le-ltb 1 (f .length) h) refl
 
--- The first of the fields that are left, which stand at f and whose table is at t.
-pub field-here : (p : List ℕ) (a left f t : ℕ) → IsBlock p a → 0 < left → left ≤ manyFields p a
-    → f + 6 * left ≡ fieldsFrom p a + 6 * manyFields p a → t + 5 * left ≡ tableFrom p a + 5 * manyFields p a
-    → IsField p f t
-field-here p a left f t b some few at table =
-    let j = manyFields p a - left in
-    let x : fieldsFrom p a + 6 * j ≡ f = omega arith in
-    let y : tableFrom p a + 5 * j ≡ t = omega arith in
-    record {
-      fits = omega (arith, b .fieldsFit);
-      tableFits = omega (arith, b .tableFits);
-      derived =
-          subst (λ (u : ℕ). Derived p u (fieldAt p f)) y
-          (subst (λ (u : ℕ). Derived p (tableFrom p a + 5 * j) (fieldAt p u)) x (b .derived j (omega arith)));
-    }
-
 module _ (l : List ℕ) (size : ℕ) (p : List ℕ) where
   abbrev pub fieldsIs : ℕ → ℕ → ℕ → Result (List Answer × ℕ)
-  fieldsIs k f i = judgeFields l size (parseFields p k f) i
+  fieldsIs k f i = judgeFields l size (parseFields (listsAt p) p k f) i
 
   fields-step : (k f i : ℕ) → 0 < k → fieldsIs k f i
-      ≡ (judgeField l size (fieldAt p f) i >>= λ a. fieldsIs (k - 1) (f + 6) (i + 1) >>= λ r. done (a ∷ r .0, r .1))
+      ≡ (judgeField l size (fieldAt p f) i >>= λ a. fieldsIs (k - 1) (f + 7) (i + 1) >>= λ r. done (a ∷ r .0, r .1))
   unfolding judgeFields parseFields
   fields-step k f i h = rw (some-left h, one-less, add-one i) refl
 
@@ -244,7 +234,7 @@ module _ (l : List ℕ) (size : ℕ) (p : List ℕ) where
       fields-refused z e = rw (fields-step k f i h) (stops (fieldEnd i) _ _ _ z e)
 
       pub fields-next : (x y : ℕ) → To x y ≡ judged (fieldEnd i) (judgeField l size (fieldAt p f) i)
-          → judged fieldsEnd (fieldsIs k f i) ≡ judged fieldsEnd (fieldsIs (k - 1) (f + 6) x)
+          → judged fieldsEnd (fieldsIs k f i) ≡ judged fieldsEnd (fieldsIs (k - 1) (f + 7) x)
       fields-next x y e =
           let q = inv-to (fieldEnd i) _ x y e in
           rw (fields-step k f i h, goes-on q, q .next) (ends-as _ _ _ _ λ r. refl)

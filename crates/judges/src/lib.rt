@@ -8,12 +8,11 @@ ghost use mathlib.Core.Path.{_≡_};
 ghost use mathlib.Core.Bool.{true};
 ghost use Prim.Native.Nat.{_+_, _*_, _^_, _<_, _≤_};
 ghost use lib.ListN.{length};
-ghost use Rattle.layout.specs.BookRules.{fieldAt};
 ghost use Rattle.layout.specs.Contracts.{refusal};
 ghost use Rattle.layout.specs.Writing.{isGroup, isNumber, judgeDatas, judgeField, judgeFields, judgeGroups};
 ghost use Rattle.layout.specs.Writing.{judgeListing, judgeNumber, judgeOctets, numberFits, second};
 ghost use Rattle.prepared.specs.Books.{templateAt};
-ghost use Rattle.prepared.specs.Positions.{BlockAt, IsBlock, IsField, innerAt, shapeAt};
+ghost use Rattle.prepared.specs.Positions.{BlockAt, IsBlock, IsField, fieldAt, innerAt, shapeAt};
 ghost use Rattle.judges.specs.Judges.{capped, datasEnd, entriesAt, fieldEnd, fieldsEnd, judged};
 ghost use Rattle.judges.specs.Judges.{limit, listingEnd, octetsEnd, rowEnd};
 
@@ -88,7 +87,7 @@ fn is_number(listing: &[u64], i: usize) -> bool
 }
 
 // Whether the number or null that record i is fits the field at f, whose table is at t: null an optional field, and a
-// number one whose least it is no farther from than the greatest is.
+// number one whose least it is no farther from than the greatest is, and whose list, if any, has it.
 fn number_fits(p: &[u64], f: usize, t: usize, listing: &[u64], i: usize) -> bool
     requires { ⌜ IsField (now p) f t × (3 * i + 3 ≤ length (now listing)) ⌝ }
     ensures { λ r. ⌜ r ≡ numberFits (now (listing .entry)) (fieldAt (now (p .entry)) f) i ⌝ }
@@ -96,7 +95,15 @@ fn number_fits(p: &[u64], f: usize, t: usize, listing: &[u64], i: usize) -> bool
     if listing[3 * i] == 1 {
         return number(p, f + 4) == 1;
     }
-    wrapping_sub_u64(listing[3 * i + 1], value(p, t + 1)) <= value(p, t + 2)
+    let x = listing[3 * i + 1];
+    if value(p, t + 2) < wrapping_sub_u64(x, value(p, t + 1)) {
+        return false;
+    }
+    let list = number(p, t + 5);
+    if list == 0 {
+        return true;
+    }
+    names::has(p, list, x)
 }
 
 // A number or null for the field at f, whose table is at t.
@@ -152,8 +159,8 @@ fn judge_fields(p: &[u64], a: usize, listing: &[u64], size: usize, start: usize)
             return field;
         };
         i = next;
-        f = f + 6;
-        t = t + 5;
+        f = f + 7;
+        t = t + 6;
         left = left - 1;
     }
     Judged::To { next: i, length: 0 }

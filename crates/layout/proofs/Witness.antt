@@ -1,14 +1,16 @@
 -- That the definitions and theorems speak of something: B extends A, near misses do not, M could have been written with
 -- A, and the readings that look right are shut out.
-use mathlib.Core.Path.{_≡_, _∙_, ap, refl, subst, sym}
-use mathlib.Core.Bool.{false≢true, true}
+use mathlib.Core.Path.{_≡_, ap, refl, subst, sym}
+use mathlib.Core.Bool.{Bool, false, false≢true, true}
 use mathlib.Core.List.{List, [], _++_, _∷_}
 use Prim.Native.Nat.{_<_, _^_, suc, zero, ℕ}
 use native.Mathlib.Omega.{arith}
+use lib.Dec.{eqb}
 use lib.ListN.{drop, getD, length, take}
-use lib.Seq.{drop-append-seam}
-use Rattle.layout.specs.Result.{Each, done, if_then_else_}
+use borrow.Author.Tests.{eq-eqb}
+use Rattle.layout.specs.Result.{Each, _or_, done, if_then_else_, refused}
 use Rattle.layout.specs.Octets.{AllOctets, Numbers64}
+use Rattle.layout.specs.Lists.{KeepsNames, NameList, Names, isOneOf, namesOf, noNames}
 use Rattle.layout.specs.Book.{Book, Data, Field, Groups, Shape, Template, dataSinces, fieldSinces, findTemplate}
 use Rattle.layout.specs.Book.{groupSinces, more, none}
 use Rattle.layout.specs.BookRules.{bookOf}
@@ -16,62 +18,78 @@ use Rattle.layout.specs.Values.{Values, entry, group, listing, nil}
 use Rattle.layout.specs.Message.{readMessage}
 use Rattle.layout.specs.Reading.{listOf}
 use Rattle.layout.specs.Writing.{writeOf}
-use Rattle.layout.specs.Extension.{AddedGroups, AddsDatas, AddsFields, AddsGroups, AllAbove, Extends}
-use Rattle.layout.specs.Extension.{ExtendsGroups, ExtendsShape}
+use Rattle.layout.specs.Extension.{AddedGroups, AddsGroups, AllAbove, Extends, ExtendsFields, ExtendsGroups}
+use Rattle.layout.specs.Extension.{ExtendsShape}
 use Rattle.layout.specs.All.{all}
-use Rattle.layout.specs.Cases.{bookA, bookB, messageM, minus5}
-use Rattle.layout.specs.Demands.{AsWritten, InRange, OwnBlocks, ValuesInRange, ZeroPadding}
+use Rattle.layout.specs.Cases.{bookA, bookB, bookFew, bookMany, messageM, minus5, with16}
+use Rattle.layout.specs.Demands.{AllSound, AsWritten, OwnBlocks, Sound, ZeroPadding}
+use Rattle.layout.proofs.ListLaws.{or-either}
 use Rattle.layout.specs.declared.Answer.the-variants.{Group, Number, Octets}
 
 -- ---- A and B as trees
 
+-- A field's seventh word and the names that it leads to: none, or those of a list.
+abbrev Seventh : Type 0
+Seventh = ℕ × Names
+
+abbrev noList : Seventh
+noList = (0, noNames)
+
+abbrev listed : NameList → Seventh
+listed l = (suc (l .id), namesOf l)
+
+abbrev field38 : Seventh → Field
+field38 w = record { id = 38; type = 6; length = 1; offset = 0; presence = 0; since = 0; list = w .0; names = w .1 }
+
 abbrev first38 : Field
-first38 = record { id = 38; type = 6; length = 1; offset = 0; presence = 0; since = 0 }
+first38 = field38 noList
 
 abbrev second44 : Field
-second44 = record { id = 44; type = 3; length = 1; offset = 4; presence = 1; since = 0 }
+second44 = record { id = 44; type = 3; length = 1; offset = 4; presence = 1; since = 0; list = 0; names = noNames }
 
 abbrev data58 : Data
 data58 = record { id = 58; since = 0 }
 
-abbrev field452 : Field
-field452 = record { id = 452; type = 2; length = 1; offset = 0; presence = 0; since = 0 }
+abbrev field452 : Seventh → Field
+field452 w = record { id = 452; type = 2; length = 1; offset = 0; presence = 0; since = 0; list = w .0; names = w .1 }
 
-abbrev shape453 : Shape
-shape453 = record { length = 2; fields = field452 ∷ []; datas = [] }
+-- A's root block and groups with these seventh words of fields 38 and 452, and with additions: fields and data of the
+-- root block, fields of the group's block, and root groups.
+abbrev rootWith : Seventh → List Field → List Data → Shape
+rootWith w fs ds = record { length = 8; fields = field38 w ∷ second44 ∷ fs; datas = data58 ∷ ds }
+
+abbrev blockWith : Seventh → List Field → Shape
+blockWith w fs = record { length = 2; fields = field452 w ∷ fs; datas = [] }
+
+abbrev groupsWith : Seventh → List Field → Groups → Groups
+groupsWith w fs gs = more 453 0 (blockWith w fs) none gs
 
 abbrev pub templateA : Template
-templateA =
-    record {
-      id = 1;
-      shape = record { length = 8; fields = first38 ∷ second44 ∷ []; datas = data58 ∷ [] };
-      groups = more 453 0 shape453 none none;
-    }
+templateA = record { id = 1; shape = rootWith noList [] []; groups = groupsWith noList [] none }
+
+-- A book whose only template has this root block and these groups.
+abbrev single : ℕ → List NameList → Shape → Groups → Book
+single version ls s gs =
+    record { schema = 7; version = version; lists = ls; templates = record { id = 1; shape = s; groups = gs } ∷ [] }
 
 abbrev pub treeA : Book
-treeA = record { schema = 7; version = 0; templates = templateA ∷ [] }
+treeA = single 0 [] (templateA .shape) (templateA .groups)
 
 -- What B adds.
 abbrev field45 : Field
-field45 = record { id = 45; type = 2; length = 1; offset = 6; presence = 0; since = 1 }
+field45 = record { id = 45; type = 2; length = 1; offset = 6; presence = 0; since = 1; list = 0; names = noNames }
 
 abbrev shape454 : Shape
 shape454 = record {
   length = 4;
-  fields = record { id = 455; type = 6; length = 1; offset = 0; presence = 0; since = 1 }
+  fields = record { id = 455; type = 6; length = 1; offset = 0; presence = 0; since = 1; list = 0; names = noNames }
       ∷ [];
   datas = [];
 }
 
--- A book of version 1 whose only template has this root block and these groups.
-abbrev newer : Shape → Groups → Book
-newer s gs = record { schema = 7; version = 1; templates = record { id = 1; shape = s; groups = gs } ∷ [] }
-
--- A at version 1 with additions: fields and data of the root block, fields of the group's block, and root groups.
+-- A at version 1 with additions.
 abbrev grown : List Field → List Data → List Field → Groups → Book
-grown fs ds fs′ gs =
-    newer (record { length = 8; fields = first38 ∷ second44 ∷ fs; datas = data58 ∷ ds })
-    (more 453 0 (record { length = 2; fields = field452 ∷ fs′; datas = [] }) none gs)
+grown fs ds fs′ gs = single 1 [] (rootWith noList fs ds) (groupsWith noList fs′ gs)
 
 abbrev pub treeB : Book
 treeB = grown (field45 ∷ []) [] [] (more 454 1 shape454 none none)
@@ -84,7 +102,99 @@ pub B-is : bookOf bookB ≡ done treeB
 unfolding all
 B-is = refl
 
--- ---- B extends A, as does whatever adds young elements where they may be added
+-- A with lists, as trees.
+abbrev treeL : ℕ → NameList → NameList → Book
+treeL version flags codes =
+    single version (flags ∷ codes ∷ []) (rootWith (listed flags) [] []) (groupsWith (listed codes) [] none)
+
+abbrev flagsOf : List ℕ → NameList
+flagsOf ns = record { id = 2; kind = 1; numbers = ns }
+
+abbrev codesOf : List ℕ → NameList
+codesOf ns = record { id = 9; kind = 0; numbers = ns }
+
+abbrev pub treeFew : Book
+treeFew = treeL 0 (flagsOf (3 ∷ 5 ∷ 6 ∷ 7 ∷ 8 ∷ [])) (codesOf (1 ∷ []))
+
+abbrev pub templateFew : Template
+templateFew = getD (treeFew .templates) 0 templateA
+
+abbrev pub treeMany : Book
+treeMany = treeL 1 (flagsOf (3 ∷ 4 ∷ 5 ∷ 6 ∷ 7 ∷ 8 ∷ 9 ∷ [])) (codesOf (1 ∷ 2 ∷ 3 ∷ []))
+
+pub Few-is : bookOf bookFew ≡ done treeFew
+unfolding all
+Few-is = refl
+
+pub Many-is : bookOf bookMany ≡ done treeMany
+unfolding all
+Many-is = refl
+
+-- ---- B extends A, as does whatever adds young elements where they may be added, and numbers to lists
+
+-- What it is that such a book extends another.
+record Extended (s s′ : Shape) (gs gs′ : Groups) : Type 0 where
+  shape : ExtendsShape 0 true s s′
+  groups : ExtendsGroups 0 true gs gs′
+
+extends : {ls ls′ : List NameList} {s s′ : Shape} {gs gs′ : Groups} → Extended s s′ gs gs′
+    → Extends (single 0 ls s gs) (single 1 ls′ s′ gs′)
+unfolding Each findTemplate if_then_else_
+extends {ls′ = ls′} {s′ = s′} {gs′ = gs′} x =
+    record {
+      schema = refl;
+      version = omega arith;
+      templates = (
+        record {
+          newer = getD (single 1 ls′ s′ gs′ .templates) 0 templateA;
+          there = refl;
+          shape = x .shape;
+          groups = x .groups;
+        },
+        tt,
+      );
+    }
+
+keeps-none : KeepsNames noNames noNames
+unfolding Each
+keeps-none = record { sameKind = refl; numbers = tt }
+
+grown-extended : (w w′ : ℕ) (flags flags′ codes codes′ : Names)
+    (fs : List Field) (ds : List Data) (fs′ : List Field) (gs : Groups)
+    → KeepsNames flags flags′
+    → KeepsNames codes codes′
+    → AllAbove 0 (fieldSinces fs)
+    → AllAbove 0 (dataSinces ds)
+    → AllAbove 0 (fieldSinces fs′)
+    → AddedGroups 0 gs
+    → Extended (rootWith (w, flags) [] []) (rootWith (w, flags′) fs ds) (groupsWith (w′, codes) [] none)
+    (groupsWith (w′, codes′) fs′ gs)
+unfolding Each AddsGroups ExtendsFields ExtendsGroups
+grown-extended w w′ flags flags′ codes codes′ fs ds fs′ gs keepsFlags keepsCodes youngFields youngDatas youngInside
+    youngGroups =
+    record {
+      shape = record {
+        longer = omega arith;
+        fields = (
+          record { words = refl; names = keepsFlags },
+          (record { words = refl; names = keeps-none }, youngFields),
+        );
+        datas = record { added = ds; first = refl; young = youngDatas };
+        inside = λ e. absurd (false≢true (sym e));
+      };
+      groups = record {
+        sameId = refl;
+        sameSince = refl;
+        shape = record {
+          longer = omega arith;
+          fields = (record { words = refl; names = keepsCodes }, youngInside);
+          datas = record { added = []; first = refl; young = tt };
+          inside = λ e. refl;
+        };
+        inner = refl;
+        rest = youngGroups;
+      };
+    }
 
 pub grown-extends-A : (fs : List Field) (ds : List Data) (fs′ : List Field) (gs : Groups)
     → AllAbove 0 (fieldSinces fs)
@@ -92,37 +202,9 @@ pub grown-extends-A : (fs : List Field) (ds : List Data) (fs′ : List Field) (g
     → AllAbove 0 (fieldSinces fs′)
     → AddedGroups 0 gs
     → Extends treeA (grown fs ds fs′ gs)
-unfolding Each AddsGroups ExtendsGroups findTemplate if_then_else_
 grown-extends-A fs ds fs′ gs youngFields youngDatas youngInside youngGroups =
-    record {
-      schema = refl;
-      version = omega arith;
-      templates = (
-        record {
-          newer = getD (grown fs ds fs′ gs .templates) 0 templateA;
-          there = refl;
-          shape = record {
-            longer = omega arith;
-            fields = record { added = fs; first = refl; young = youngFields };
-            datas = record { added = ds; first = refl; young = youngDatas };
-            inside = λ e. absurd (false≢true (sym e));
-          };
-          groups = record {
-            sameId = refl;
-            sameSince = refl;
-            shape = record {
-              longer = omega arith;
-              fields = record { added = fs′; first = refl; young = youngInside };
-              datas = record { added = []; first = refl; young = tt };
-              inside = λ e. refl;
-            };
-            inner = refl;
-            rest = youngGroups;
-          };
-        },
-        tt,
-      );
-    }
+    extends (grown-extended _ _ _ _ _ _ fs ds fs′ gs keeps-none keeps-none youngFields youngDatas youngInside
+    youngGroups)
 
 pub B-extends-A : Extends treeA treeB
 unfolding Each AddedGroups
@@ -130,43 +212,67 @@ B-extends-A =
     grown-extends-A _ _ _ _ (omega arith, tt) tt tt
     (record { young = omega arith; noGroups = refl; noDatas = refl }, tt)
 
+lists-extend : (flags flags′ codes codes′ : List ℕ)
+    → Each (λ n. isOneOf n flags′ ≡ true) flags
+    → Each (λ n. isOneOf n codes′ ≡ true) codes
+    → Extends (treeL 0 (flagsOf flags) (codesOf codes)) (treeL 1 (flagsOf flags′) (codesOf codes′))
+unfolding Each AddedGroups
+lists-extend flags flags′ codes codes′ a b =
+    extends (grown-extended _ _ _ _ _ _ [] [] [] none (record { sameKind = refl; numbers = a })
+    (record { sameKind = refl; numbers = b }) tt tt tt tt)
+
+pub Many-extends-Few : Extends treeFew treeMany
+unfolding Each isOneOf _or_
+Many-extends-Few = lists-extend _ _ _ _ (refl, (refl, (refl, (refl, (refl, tt))))) (refl, tt)
+
+or-more : (a b : Bool) → b ≡ true → (a or b) ≡ true
+unfolding _or_
+or-more true b h = refl
+or-more false b h = h
+
+each-one-of : (ns ns′ : List ℕ) → ((x : ℕ) → isOneOf x ns ≡ true → isOneOf x ns′ ≡ true)
+    → Each (λ n. isOneOf n ns′ ≡ true) ns
+unfolding Each isOneOf _or_
+each-one-of [] ns′ h = tt
+each-one-of (n ∷ ns) ns′ h = (h n (rw (eq-eqb n n refl) refl), each-one-of ns ns′ (λ x q. h x (or-more (eqb x n) _ q)))
+
+one-of-gained : (before after : List ℕ) (n x : ℕ) → isOneOf x (before ++ after) ≡ true
+    → isOneOf x (before ++ (n ∷ after)) ≡ true
+unfolding isOneOf
+one-of-gained [] after n x h = or-more (eqb x n) _ h
+one-of-gained (k ∷ before) after n x h = or-either (eqb x k) _ _ h (one-of-gained before after n x)
+
+-- "to which more may be added", anywhere in the rising order
+pub gained-numbers-extend : (before after before′ after′ : List ℕ) (n n′ : ℕ)
+    → Extends (treeL 0 (flagsOf (before ++ after)) (codesOf (before′ ++ after′)))
+    (treeL 1 (flagsOf (before ++ (n ∷ after))) (codesOf (before′ ++ (n′ ∷ after′))))
+gained-numbers-extend before after before′ after′ n n′ =
+    lists-extend _ _ _ _ (each-one-of _ _ (one-of-gained before after n))
+    (each-one-of _ _ (one-of-gained before′ after′ n′))
+
 -- ---- near misses: for each rule trees that break it and no other. They are trees of accepted books, but for those
 -- that the rules of since shut out anyway.
 
--- What an extension of A by such a book would have to be.
-record Would (s : Shape) (gs : Groups) : Type 0 where
-  shape : ExtendsShape 0 true (templateA .shape) s
-  groups : ExtendsGroups 0 true (templateA .groups) gs
-
-would : {s : Shape} {gs : Groups} → Extends treeA (newer s gs) → Would s gs
+extended : {ls ls′ : List NameList} {s s′ : Shape} {gs gs′ : Groups} → Extends (single 0 ls s gs) (single 1 ls′ s′ gs′)
+    → Extended s s′ gs gs′
 unfolding Each findTemplate if_then_else_
-would {s} {gs} x =
+extended {ls′ = ls′} {s = s} {s′ = s′} {gs = gs} {gs′ = gs′} x =
     let t = x .templates .0 in
-    let q : t .newer ≡ getD (newer s gs .templates) 0 templateA = cc in
+    let q : t .newer ≡ getD (single 1 ls′ s′ gs′ .templates) 0 templateA = cc in
     record {
-      shape = subst (λ (y : Template). ExtendsShape 0 true (templateA .shape) (y .shape)) q (t .shape);
-      groups = subst (λ (y : Template). ExtendsGroups 0 true (templateA .groups) (y .groups)) q (t .groups);
+      shape = subst (λ (y : Template). ExtendsShape 0 true s (y .shape)) q (t .shape);
+      groups = subst (λ (y : Template). ExtendsGroups 0 true gs (y .groups)) q (t .groups);
     }
-
--- What is added is what follows the older ones.
-follows : {A : Type 0} (old : List A) {new added : List A} → new ≡ old ++ added → added ≡ drop (length old) new
-follows old {added = added} e = sym (ap (drop (length old)) e ∙ drop-append-seam old added)
-
-young-fields : {old new : List Field} → AddsFields 0 old new → AllAbove 0 (fieldSinces (drop (length old) new))
-young-fields {old} a = subst (λ (y : List Field). AllAbove 0 (fieldSinces y)) (follows old (a .first)) (a .young)
-
-young-datas : {old new : List Data} → AddsDatas 0 old new → AllAbove 0 (dataSinces (drop (length old) new))
-young-datas {old} a = subst (λ (y : List Data). AllAbove 0 (dataSinces y)) (follows old (a .first)) (a .young)
 
 -- Another root block over A's groups, and other groups under A's root block.
 abbrev rooted : ℕ → List Field → List Data → Book
-rooted l fs ds = newer (record { length = l; fields = fs; datas = ds }) (templateA .groups)
+rooted l fs ds = single 1 [] (record { length = l; fields = fs; datas = ds }) (templateA .groups)
 
 abbrev grouped : Groups → Book
-grouped gs = newer (templateA .shape) gs
+grouped gs = single 1 [] (templateA .shape) gs
 
 -- "the schema id is equal"
-pub other-schema : ¬ Extends treeA (record { schema = 8; version = 1; templates = treeA .templates })
+pub other-schema : ¬ Extends treeA (record { schema = 8; version = 1; lists = []; templates = treeA .templates })
 other-schema x = omega (arith, x .schema)
 
 -- "its version is greater"
@@ -177,8 +283,9 @@ same-version x = omega (arith, x .version)
 abbrev template2 : Template
 template2 = record { id = 2; shape = templateA .shape; groups = none }
 
-pub missing-template : ¬ Extends (record { schema = 7; version = 0; templates = templateA ∷ template2 ∷ [] })
-    (record { schema = 7; version = 1; templates = templateA ∷ [] })
+pub missing-template : ¬ Extends
+    (record { schema = 7; version = 0; lists = []; templates = templateA ∷ template2 ∷ [] })
+    (record { schema = 7; version = 1; lists = []; templates = templateA ∷ [] })
 unfolding Each findTemplate if_then_else_
 missing-template x =
     let there = x .templates .1 .0 .there in
@@ -187,106 +294,143 @@ missing-template x =
 
 -- "declared length no smaller"
 pub shorter-block : ¬ Extends treeA (rooted 7 (first38 ∷ second44 ∷ []) (data58 ∷ []))
-shorter-block x = omega (arith, would x .shape .longer)
+shorter-block x = omega (arith, extended x .shape .longer)
 
--- "older fields come first, all six words equal": another offset, a field dropped, and one added in front, by which
--- sinces fall
+-- "older fields come first", "an older field's seven words": another offset, a field dropped, and one added in front,
+-- by which sinces fall
 abbrev moved44 : Field
-moved44 = record { id = 44; type = 3; length = 1; offset = 5; presence = 1; since = 0 }
+moved44 = record { id = 44; type = 3; length = 1; offset = 5; presence = 1; since = 0; list = 0; names = noNames }
 
 pub changed-word : ¬ Extends treeA (rooted 8 (first38 ∷ moved44 ∷ []) (data58 ∷ []))
-changed-word x = omega (arith, ap (λ (y : List Field). getD y 1 field45 .offset) (would x .shape .fields .first))
+unfolding ExtendsFields
+changed-word x = omega (arith, ap (λ (f : Field). f .offset) (extended x .shape .fields .1 .0 .words))
 
 pub dropped-field : ¬ Extends treeA (rooted 8 (first38 ∷ []) (data58 ∷ []))
-dropped-field x = omega (arith, ap length (would x .shape .fields .first))
+unfolding ExtendsFields
+dropped-field x = extended x .shape .fields .1
 
 pub field-in-front : ¬ Extends treeA (rooted 8 (field45 ∷ first38 ∷ second44 ∷ []) (data58 ∷ []))
-field-in-front x = omega (arith, ap (λ (y : List Field). getD y 0 field45 .id) (would x .shape .fields .first))
+unfolding ExtendsFields
+field-in-front x = omega (arith, ap (λ (f : Field). f .id) (extended x .shape .fields .0 .words))
+
+-- the seventh word: a list for a field that had none, and another list of the same kind and numbers
+pub given-list : ¬ Extends treeA (single 1 (flagsOf (3 ∷ []) ∷ []) (rootWith (listed (flagsOf (3 ∷ []))) [] [])
+    (templateA .groups))
+unfolding ExtendsFields
+given-list x = omega (arith, ap (λ (f : Field). f .list) (extended x .shape .fields .0 .words))
+
+pub other-list : ¬ Extends (treeL 0 (flagsOf (3 ∷ [])) (codesOf (1 ∷ [])))
+    (treeL 1 (record { id = 3; kind = 1; numbers = 3 ∷ [] }) (codesOf (1 ∷ [])))
+unfolding ExtendsFields
+other-list x = omega (arith, ap (λ (f : Field). f .list) (extended x .shape .fields .0 .words))
+
+-- "its list's kind and numbers": a number lost, one changed for another, and an enumeration that becomes a set
+pub lost-number : ¬ Extends (treeL 0 (flagsOf (3 ∷ 5 ∷ [])) (codesOf (1 ∷ [])))
+    (treeL 1 (flagsOf (3 ∷ [])) (codesOf (1 ∷ [])))
+unfolding Each ExtendsFields isOneOf _or_
+lost-number x = false≢true (extended x .shape .fields .0 .names .numbers .1 .0)
+
+pub changed-number : ¬ Extends (treeL 0 (flagsOf (3 ∷ 5 ∷ [])) (codesOf (1 ∷ [])))
+    (treeL 1 (flagsOf (3 ∷ 6 ∷ [])) (codesOf (1 ∷ [])))
+unfolding Each ExtendsFields isOneOf _or_
+changed-number x = false≢true (extended x .shape .fields .0 .names .numbers .1 .0)
+
+pub other-kind : ¬ Extends (treeL 0 (flagsOf (3 ∷ [])) (codesOf (1 ∷ [])))
+    (treeL 1 (flagsOf (3 ∷ [])) (record { id = 9; kind = 1; numbers = 1 ∷ [] }))
+unfolding ExtendsFields ExtendsGroups if_then_else_
+other-kind x =
+    let same = extended x .groups .shape .fields .0 .names .sameKind in
+    let z : _≡_ {A = ℕ} 0 1 = cc in
+    omega arith
 
 -- "older data likewise": another id, data dropped, and data added in front, by which sinces fall
 abbrev data59 : ℕ → Data
 data59 since = record { id = 59; since = since }
 
 pub changed-data : ¬ Extends treeA (rooted 8 (first38 ∷ second44 ∷ []) (data59 0 ∷ []))
-changed-data x = omega (arith, ap (λ (y : List Data). getD y 0 data58 .id) (would x .shape .datas .first))
+changed-data x = omega (arith, ap (λ (y : List Data). getD y 0 data58 .id) (extended x .shape .datas .first))
 
 pub dropped-data : ¬ Extends treeA (rooted 8 (first38 ∷ second44 ∷ []) [])
-dropped-data x = omega (arith, ap length (would x .shape .datas .first))
+dropped-data x = omega (arith, ap length (extended x .shape .datas .first))
 
 pub data-in-front : ¬ Extends treeA (rooted 8 (first38 ∷ second44 ∷ []) (data59 1 ∷ data58 ∷ []))
-data-in-front x = omega (arith, ap (λ (y : List Data). getD y 0 data58 .id) (would x .shape .datas .first))
+data-in-front x = omega (arith, ap (λ (y : List Data). getD y 0 data58 .id) (extended x .shape .datas .first))
 
 -- "older groups come first with equal id and since": a group dropped, another id, and another since, which its first
 -- field has not
 pub dropped-group : ¬ Extends treeA (grouped none)
 unfolding ExtendsGroups
-dropped-group x = would x .groups
+dropped-group x = extended x .groups
 
-pub other-group-id : ¬ Extends treeA (grouped (more 454 0 shape453 none none))
+pub other-group-id : ¬ Extends treeA (grouped (more 454 0 (blockWith noList []) none none))
 unfolding ExtendsGroups
-other-group-id x = omega (arith, would x .groups .sameId)
+other-group-id x = omega (arith, extended x .groups .sameId)
 
-pub other-group-since : ¬ Extends treeA (grouped (more 453 1 shape453 none none))
+pub other-group-since : ¬ Extends treeA (grouped (more 453 1 (blockWith noList []) none none))
 unfolding ExtendsGroups
-other-group-since x = omega (arith, would x .groups .sameSince)
+other-group-since x = omega (arith, extended x .groups .sameSince)
 
 -- "their blocks extended in turn": a shorter length, and another field
 abbrev field456 : Field
-field456 = record { id = 456; type = 2; length = 1; offset = 1; presence = 0; since = 0 }
+field456 = record { id = 456; type = 2; length = 1; offset = 1; presence = 0; since = 0; list = 0; names = noNames }
 
 pub shorter-inside : ¬ Extends treeA
-    (grouped (more 453 0 (record { length = 1; fields = field452 ∷ []; datas = [] }) none none))
+    (grouped (more 453 0 (record { length = 1; fields = field452 noList ∷ []; datas = [] }) none none))
 unfolding ExtendsGroups
-shorter-inside x = omega (arith, would x .groups .shape .longer)
+shorter-inside x = omega (arith, extended x .groups .shape .longer)
 
 pub changed-inside : ¬ Extends treeA
     (grouped (more 453 0 (record { length = 2; fields = field456 ∷ []; datas = [] }) none none))
-unfolding ExtendsGroups
-changed-inside x = omega (arith, ap (λ (y : List Field). getD y 0 field45 .id) (would x .groups .shape .fields .first))
+unfolding ExtendsFields ExtendsGroups
+changed-inside x = omega (arith, ap (λ (f : Field). f .id) (extended x .groups .shape .fields .0 .words))
 
 -- "every added element's since is above the older version"
 abbrev early45 : Field
-early45 = record { id = 45; type = 2; length = 1; offset = 6; presence = 0; since = 0 }
+early45 = record { id = 45; type = 2; length = 1; offset = 6; presence = 0; since = 0; list = 0; names = noNames }
 
 pub early-field : ¬ Extends treeA (grown (early45 ∷ []) [] [] none)
-unfolding Each
-early-field x = omega (arith, young-fields (would x .shape .fields) .0)
+unfolding Each ExtendsFields
+early-field x = omega (arith, extended x .shape .fields .1 .1 .0)
 
 pub early-data : ¬ Extends treeA (grown [] (data59 0 ∷ []) [] none)
 unfolding Each
-early-data x = omega (arith, young-datas (would x .shape .datas) .0)
+early-data x =
+    let d = extended x .shape .datas in
+    let added : d .added ≡ data59 0 ∷ [] = cc in
+    omega (arith, subst (λ (y : List Data). AllAbove 0 (dataSinces y)) added (d .young) .0)
 
 pub early-inside : ¬ Extends treeA (grown [] [] (field456 ∷ []) none)
-unfolding Each ExtendsGroups
-early-inside x = omega (arith, young-fields (would x .groups .shape .fields) .0)
+unfolding Each ExtendsFields ExtendsGroups
+early-inside x = omega (arith, extended x .groups .shape .fields .1 .0)
 
-pub early-group : ¬ Extends treeA (grown [] [] [] (more 454 0 shape453 none none))
+pub early-group : ¬ Extends treeA (grown [] [] [] (more 454 0 (blockWith noList []) none none))
 unfolding ExtendsGroups AddsGroups AddedGroups
-early-group x = omega (arith, would x .groups .rest .0 .young)
+early-group x = omega (arith, extended x .groups .rest .0 .young)
 
 -- "Inside groups only fields may be added": young data, and a young group, though all inside has the group's since
 pub data-inside : ¬ Extends treeA
-    (grouped (more 453 0 (record { length = 2; fields = field452 ∷ []; datas = data59 1 ∷ [] }) none none))
+    (grouped (more 453 0 (record { length = 2; fields = field452 noList ∷ []; datas = data59 1 ∷ [] }) none none))
 unfolding ExtendsGroups
 data-inside x =
-    let d = would x .groups .shape in
+    let d = extended x .groups .shape in
     omega (arith, ap length (d .datas .first), ap length (d .inside refl))
 
-pub group-inside : ¬ Extends treeA (grouped (more 453 0 shape453 (more 454 1 shape454 none none) none))
+pub group-inside : ¬ Extends treeA
+    (grouped (more 453 0 (blockWith noList []) (more 454 1 shape454 none none) none))
 unfolding ExtendsGroups AddsGroups groupSinces
-group-inside x = omega (arith, ap (λ (y : Groups). length (groupSinces y)) (would x .groups .inner))
+group-inside x = omega (arith, ap (λ (y : Groups). length (groupSinces y)) (extended x .groups .inner))
 
 -- "An added root group has no groups and no data": a group in it, and data in the second of two
 pub nested-group : ¬ Extends treeA (grown [] [] [] (more 454 1 shape454 (more 456 1 shape454 none none) none))
 unfolding ExtendsGroups AddsGroups AddedGroups groupSinces
-nested-group x = omega (arith, ap (λ (y : Groups). length (groupSinces y)) (would x .groups .rest .0 .noGroups))
+nested-group x = omega (arith, ap (λ (y : Groups). length (groupSinces y)) (extended x .groups .rest .0 .noGroups))
 
 abbrev shape457 : Shape
 shape457 = record { length = 4; fields = shape454 .fields; datas = data59 1 ∷ [] }
 
 pub group-with-data : ¬ Extends treeA (grown [] [] [] (more 454 1 shape454 none (more 457 1 shape457 none none)))
 unfolding ExtendsGroups AddsGroups AddedGroups
-group-with-data x = omega (arith, ap length (would x .groups .rest .1 .0 .noDatas))
+group-with-data x = omega (arith, ap length (extended x .groups .rest .1 .0 .noDatas))
 
 -- ---- M could have been written with A, and is written back
 
@@ -315,18 +459,32 @@ unfolding all valuesM
 M-is = refl
 
 pub M-as-written : AsWritten treeA templateA messageM valuesM
-unfolding all valuesM Each ZeroPadding OwnBlocks InRange ValuesInRange
+unfolding all valuesM Each ZeroPadding OwnBlocks Sound AllSound
 M-as-written =
     record {
       version = refl;
       length = refl;
       blocks = ((refl, (refl, refl)), (refl, ((refl, refl), tt, ((refl, refl), tt, tt)), tt), tt);
-      ranges = ((tt, (tt, tt)), (((tt, tt), tt, ((tt, tt), tt, tt)), tt), tt);
+      sound = ((tt, (tt, tt)), (((tt, tt), tt, ((tt, tt), tt, tt)), tt), tt);
     }
 
 pub M-written-back : writeOf bookA 1 (listing valuesM) messageM 32 ≡ done messageM
 unfolding all valuesM
 M-written-back = refl
+
+-- Its numbers are written with lists that have them, at that book's version; not with a list that lacks a bit of 1000;
+-- and neither is the record of kind 6 that 1000 is read as.
+pub listed-written : writeOf bookMany 1 (listing valuesM) messageM 32 ≡ done (with16 messageM 6 1)
+unfolding all valuesM
+listed-written = refl
+
+pub unlisted-not-written : writeOf bookFew 1 (listing valuesM) messageM 32 ≡ refused 52 0
+unfolding all valuesM
+unlisted-not-written = refl
+
+pub kind-6-not-written : writeOf bookFew 1 (6 ∷ 1000 ∷ 0 ∷ []) messageM 32 ≡ refused 51 0
+unfolding all
+kind-6-not-written = refl
 
 -- ---- "Readings that look right": two of the worked cases shut out the first and the third, and these the others
 

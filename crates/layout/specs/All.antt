@@ -2,10 +2,11 @@
 use Rattle.layout.specs.Result.{_>>=_, must, orRefuse, asRefusal, _and_, _or_, if_then_else_}
 use Rattle.layout.specs.Octets.{numberOf, octetsOf, wordsOf}
 use Rattle.layout.specs.Types.{typeAt, valueOf, inRange, classify}
+use Rattle.layout.specs.Lists.{findNames, isOneOf, onlyBits, isListed, beside}
 use Rattle.layout.specs.Book.{findTemplate, needAfter, groupSinces, present}
-use Rattle.layout.specs.BookRules.{parseFields, parseDatas, parseShape, parseGroups, parseBody, fieldsGood}
-use Rattle.layout.specs.BookRules.{groupsGood, rising, fieldsSince, groupsSince, parseContents, contentsGood}
-use Rattle.layout.specs.BookRules.{parseBodies, eachMust, bookOf}
+use Rattle.layout.specs.BookRules.{parseFields, parseDatas, parseShape, parseGroups, parseBody, climbing}
+use Rattle.layout.specs.BookRules.{kindGood, fieldsGood, groupsGood, rising, fieldsSince, groupsSince}
+use Rattle.layout.specs.BookRules.{parseContents, contentsEnd, checkContents, parseBodies, eachMust, bookOf}
 use Rattle.layout.specs.Values.{recordOf, recordsOf, listing, measure, groupOf, entriesOf, entriesFrom}
 use Rattle.layout.specs.Values.{groupsIn, elementOf, elementIn, answerAt}
 use Rattle.layout.specs.Message.{readData, skipDatas, readDimension, skipGroups, readEntries, readField}
@@ -23,9 +24,10 @@ unfolding
     _>>=_ must orRefuse asRefusal _and_ _or_ if_then_else_
     numberOf octetsOf wordsOf
     typeAt valueOf inRange classify
+    findNames isOneOf onlyBits isListed beside
     findTemplate needAfter groupSinces present
-    parseFields parseDatas parseShape parseGroups parseBody fieldsGood groupsGood rising fieldsSince
-    groupsSince parseContents contentsGood parseBodies eachMust bookOf
+    parseFields parseDatas parseShape parseGroups parseBody climbing kindGood fieldsGood groupsGood rising
+    fieldsSince groupsSince parseContents contentsEnd checkContents parseBodies eachMust bookOf
     recordOf recordsOf listing measure groupOf entriesOf entriesFrom groupsIn elementOf elementIn answerAt
     readData skipDatas readDimension skipGroups readEntries readField readDatas readBlock readGroup readGroups
     headerWhole checkHeader countGood surplusOf readWhole readRoot readMessage

@@ -6,8 +6,10 @@ use Prim.Native.Nat.{ℕ, _+_, _*_}
 use lib.Dec.{leb, ltb, eqb}
 use Rattle.layout.specs.Result.{if_then_else_}
 use Rattle.layout.specs.Types.{typeAt}
+use Rattle.layout.specs.Lists.{NameList, Names}
 
--- "Field, six words: id, type, length, offset, presence (0 required, 1 optional), since."
+-- "Field, six words: id, type, length, offset, presence (0 required, 1 optional), since"; "each field gains a seventh
+-- word, 0 for none or the list's number plus one": the list, and the names that it leads to.
 pub record Field : Type 0 where
   pub id : ℕ
   pub type : ℕ
@@ -15,6 +17,8 @@ pub record Field : Type 0 where
   pub offset : ℕ
   pub presence : ℕ
   pub since : ℕ
+  pub list : ℕ
+  pub names : Names
 
 -- "Data, two words: id, since."
 pub record Data : Type 0 where
@@ -42,6 +46,7 @@ pub record Template : Type 0 where
 pub record Book : Type 0 where
   pub schema : ℕ
   pub version : ℕ
+  pub lists : List NameList
   pub templates : List Template
 
 unfoldable pub findTemplate : ℕ → List Template → Option Template
@@ -49,6 +54,20 @@ findTemplate id [] = no
 findTemplate id (t ∷ ts) = if eqb (t .id) id then some t else findTemplate id ts
 
 -- ---- fields
+
+-- The field f with other names.
+abbrev pub withNames : Field → Names → Field
+withNames f l =
+    record {
+      id = f .id;
+      type = f .type;
+      length = f .length;
+      offset = f .offset;
+      presence = f .presence;
+      since = f .since;
+      list = f .list;
+      names = l;
+    }
 
 abbrev pub size : Field → ℕ
 size f = typeAt (f .type) .width * f .length

@@ -1,22 +1,25 @@
 -- From a book's octets to its tree, or the refusal 1 to 6: "lowest number found in any template, then the first
 -- template that has it".
-use mathlib.Core.Bool.{Bool, true}
-use mathlib.Core.List.{List, [], _∷_}
-use Prim.Native.Nat.{ℕ, zero, suc, _+_, _*_, _%_}
+use mathlib.Core.Bool.{Bool, not, true, false}
+use mathlib.Core.List.{List, [], _∷_, map}
+use Prim.Native.Nat.{ℕ, zero, suc, _+_, _-_, _*_, _%_}
 use lib.Dec.{leb, ltb, eqb}
 use lib.ListN.{length, getD, take, drop}
 use Rattle.layout.specs.Result.{Result, done, refused, _>>=_, must, asRefusal, _and_, _or_}
 use Rattle.layout.specs.Octets.{wordsOf, null16}
-use Rattle.layout.specs.Book.{Field, Data, Shape, Groups, none, more, Template, Book}
-use Rattle.layout.specs.Book.{end, fieldSinces, dataSinces}
-
--- ---- 4: the tree of a body, b being its words and w one of them
+use Rattle.layout.specs.Types.{typeAt}
+use Rattle.layout.specs.Lists.{Kind, NameList, enumeration, findNames, free, isOneOf, missing, set}
+use Rattle.layout.specs.Book.{Field, Data, Shape, Groups, none, more, Template, Book, end, isArray}
+use Rattle.layout.specs.Book.{fieldSinces, dataSinces}
 
 abbrev pub word : List ℕ → ℕ → ℕ
 word b w = getD b w 0
 
-abbrev pub fieldAt : List ℕ → ℕ → Field
-fieldAt b w =
+-- ---- 4: the tree of a body, ls being the book's lists, b the body's words and w one of them
+
+-- Its seven words, and the names that the last of them leads to.
+abbrev pub fieldAt : List NameList → List ℕ → ℕ → Field
+fieldAt ls b w =
     record {
       id = word b w;
       type = word b (w + 1);
@@ -24,11 +27,13 @@ fieldAt b w =
       offset = word b (w + 3);
       presence = word b (w + 4);
       since = word b (w + 5);
+      list = word b (w + 6);
+      names = findNames (word b (w + 6)) ls;
     }
 
-unfoldable pub parseFields : List ℕ → ℕ → ℕ → List Field
-parseFields b zero w = []
-parseFields b (suc n) w = fieldAt b w ∷ parseFields b n (w + 6)
+unfoldable pub parseFields : List NameList → List ℕ → ℕ → ℕ → List Field
+parseFields ls b zero w = []
+parseFields ls b (suc n) w = fieldAt ls b w ∷ parseFields ls b n (w + 7)
 
 unfoldable pub parseDatas : List ℕ → ℕ → ℕ → List Data
 parseDatas b zero w = []
@@ -37,37 +42,47 @@ parseDatas b (suc n) w = record { id = word b w; since = word b (w + 1) } ∷ pa
 -- "Block: declared block length, number of fields (at most 64), of groups (at most 16), of data (at most 16); then the
 -- fields, the data, the groups": what precedes the groups, how many they are, and the word where they start. The block
 -- has at least `few` fields.
-unfoldable pub parseShape : List ℕ → ℕ → ℕ → Result (Shape × ℕ × ℕ)
-parseShape b few w = do
+unfoldable pub parseShape : List NameList → List ℕ → ℕ → ℕ → Result (Shape × ℕ × ℕ)
+parseShape ls b few w = do
   _ ← must (leb (w + 4) (length b)) 4 0
   let f = word b (w + 1)
   let g = word b (w + 2)
   let d = word b (w + 3)
   let fieldsAt = w + 4
-  let datasAt = fieldsAt + 6 * f
+  let datasAt = fieldsAt + 7 * f
   let groupsAt = datasAt + 2 * d
   _ ← must (leb few f and leb f 64 and leb g 16 and leb d 16) 4 0
   _ ← must (leb groupsAt (length b)) 4 0
-  done (record { length = word b w; fields = parseFields b f fieldsAt; datas = parseDatas b d datasAt }, g, groupsAt)
+  done (record { length = word b w; fields = parseFields ls b f fieldsAt; datas = parseDatas b d datasAt }, g, groupsAt)
 
 -- n groups in a row, `depth` more levels being left, and the word after them. "A group has at least one field."
-unfoldable pub parseGroups : List ℕ → ℕ → ℕ → ℕ → Result (Groups × ℕ)
-parseGroups b zero zero w = done (none, w)
-parseGroups b (suc depth) zero w = done (none, w)
-parseGroups b zero (suc n) w = refused 4 0
-parseGroups b (suc depth) (suc n) w = do
-  (s, g, x) ← parseShape b 1 (w + 2)
-  (inner, y) ← parseGroups b depth g x
-  (rest, z) ← parseGroups b (suc depth) n y
+unfoldable pub parseGroups : List NameList → List ℕ → ℕ → ℕ → ℕ → Result (Groups × ℕ)
+parseGroups ls b zero zero w = done (none, w)
+parseGroups ls b (suc depth) zero w = done (none, w)
+parseGroups ls b zero (suc n) w = refused 4 0
+parseGroups ls b (suc depth) (suc n) w = do
+  (s, g, x) ← parseShape ls b 1 (w + 2)
+  (inner, y) ← parseGroups ls b depth g x
+  (rest, z) ← parseGroups ls b (suc depth) n y
   done (more (word b w) (word b (w + 1)) s inner rest, z)
 
 -- "A body is one block." "Groups nest to depth four, a root group being depth one." "4: .. body words left over"
-unfoldable pub parseBody : List ℕ → Result (Shape × Groups)
-parseBody b = do
-  (s, g, x) ← parseShape b 0 0
-  (groups, y) ← parseGroups b 4 g x
+unfoldable pub parseBody : List NameList → List ℕ → Result (Shape × Groups)
+parseBody ls b = do
+  (s, g, x) ← parseShape ls b 0 0
+  (groups, y) ← parseGroups ls b 4 g x
   _ ← must (eqb y (length b)) 4 0
   done (s, groups)
+
+-- From `low` on, each above the one before.
+unfoldable pub climbing : ℕ → List ℕ → Bool
+climbing low [] = true
+climbing low (n ∷ ns) = leb low n and climbing (suc n) ns
+
+-- "4 for a list that is empty, over 64, not rising or of another kind word"
+abbrev pub listGood : NameList → Bool
+listGood l =
+    ltb (l .kind) 2 and leb 1 (length (l .numbers)) and leb (length (l .numbers)) 64 and climbing 0 (l .numbers)
 
 -- ---- 5: "block length, type, length, presence or offset rule"
 
@@ -76,11 +91,28 @@ abbrev pub lengthGood : Field → Bool
 lengthGood f =
     eqb (f .length) 1 or (leb 2 (f .length) and leb (f .length) 1024 and (eqb (f .type) 0 or eqb (f .type) 2))
 
+-- The greatest of numbers that rise, as those of an accepted book's lists do.
+abbrev pub greatest : List ℕ → ℕ
+greatest ns = getD ns (length ns - 1) 0
+
+-- "values over char, uint8 or uint16, or bit numbers over an unsigned type. Arrays take no list." "5 also for a missing
+-- list, a wrong type or a bit beyond the width"
+unfoldable pub kindGood : Kind → Field → Bool
+kindGood free f = true
+kindGood missing f = false
+kindGood enumeration f = not (isArray f) and isOneOf (f .type) (0 ∷ 2 ∷ 4 ∷ [])
+kindGood set f =
+    not (isArray f) and isOneOf (f .type) (2 ∷ 4 ∷ 6 ∷ 8 ∷ [])
+    and ltb (greatest (f .names .numbers)) (8 * typeAt (f .type) .width)
+
+abbrev pub namesGood : Field → Bool
+namesGood f = kindGood (f .names .kind) f
+
 -- "An offset is at least the end of the field before it; every end is at most the declared block length": a field of a
 -- block of l octets, after one that ends at e.
 abbrev pub fieldGood : ℕ → ℕ → Field → Bool
 fieldGood l e f =
-    ltb (f .type) 9 and lengthGood f and leb (f .presence) 1 and leb e (f .offset) and leb (end f) l
+    ltb (f .type) 9 and lengthGood f and leb (f .presence) 1 and leb e (f .offset) and leb (end f) l and namesGood f
 
 unfoldable pub fieldsGood : ℕ → ℕ → List Field → Bool
 fieldsGood l e [] = true
@@ -126,7 +158,8 @@ sinceGood version t = shapeSince version 0 version (t .shape) and groupsSince ve
 
 -- ---- 1, 2 and 3, and the whole book
 
--- "Contents, three words per template: template id, first word of its body, words in its body."
+-- "Contents, three words per template: template id, first word of its body, words in its body"; "the contents name
+-- [the lists] after the templates (rising numbers below 65535, first word, words ..)".
 pub record ContentsRow : Type 0 where
   pub id : ℕ
   pub first : ℕ
@@ -137,44 +170,77 @@ parseContents b zero w = []
 parseContents b (suc n) w =
     record { id = word b w; first = word b (w + 1); words = word b (w + 2) } ∷ parseContents b n (w + 3)
 
--- "Ids rise strictly. Bodies lie back to back in contents order, from the first word after the contents to the book's
--- end": rows with ids from `low` on, the first body being at word `at`.
-unfoldable pub contentsGood : ℕ → ℕ → ℕ → List ContentsRow → Bool
-contentsGood total low at [] = eqb at total
-contentsGood total low at (r ∷ rs) =
-    leb low (r .id) and ltb (r .id) null16 and eqb (r .first) at and contentsGood total (suc (r .id)) (at + r .words) rs
+-- "Ids rise strictly. Bodies lie back to back in contents order": rows with ids from `low` on, the first body being at
+-- word `at`, and the word after the last.
+unfoldable pub contentsEnd : ℕ → ℕ → List ContentsRow → Result ℕ
+contentsEnd low at [] = done at
+contentsEnd low at (r ∷ rs) = do
+  _ ← must (leb low (r .id) and ltb (r .id) null16 and eqb (r .first) at) 3 0
+  contentsEnd (suc (r .id)) (at + r .words) rs
+
+abbrev pub bodyOf : List ℕ → ContentsRow → List ℕ
+bodyOf b r = take (r .words) (drop (r .first) b)
 
 -- The templates of the rows, of which the first has number t.
-unfoldable pub parseBodies : List ℕ → ℕ → List ContentsRow → Result (List Template)
-parseBodies b t [] = done []
-parseBodies b t (r ∷ rs) = do
-  (s, gs) ← asRefusal (parseBody (take (r .words) (drop (r .first) b))) 4 t
-  xs ← parseBodies b (suc t) rs
+unfoldable pub parseBodies : List NameList → List ℕ → ℕ → List ContentsRow → Result (List Template)
+parseBodies ls b t [] = done []
+parseBodies ls b t (r ∷ rs) = do
+  (s, gs) ← asRefusal (parseBody ls (bodyOf b r)) 4 t
+  xs ← parseBodies ls b (suc t) rs
   done (record { id = r .id; shape = s; groups = gs } ∷ xs)
 
--- Refusal n at the first template that fails the test, the first of these having number t.
-unfoldable pub eachMust : (Template → Bool) → ℕ → ℕ → List Template → Result (Unit {0})
+-- Refusal n at the first that fails the test, the first of these having number t.
+unfoldable pub eachMust : {A : Type 0} → (A → Bool) → ℕ → ℕ → List A → Result (Unit {0})
 eachMust f n t [] = done tt
 eachMust f n t (x ∷ xs) = must (f x) n t >>= λ _. eachMust f n (suc t) xs
 
--- "Head, four words: schema id, schema version, number of templates (1 to 64), number of words in the book."
+-- "Head, four words: schema id, schema version, number of templates (1 to 64), number of words in the book"; "The head
+-- gains a fifth word, the number of lists".
+abbrev pub headSize : ℕ
+headSize = 5
+
+abbrev pub contentsSize : List ℕ → ℕ
+contentsSize b = 3 * (word b 2 + word b 4)
+
+abbrev pub templateRows : List ℕ → List ContentsRow
+templateRows b = parseContents b (word b 2) headSize
+
+abbrev pub listRows : List ℕ → List ContentsRow
+listRows b = parseContents b (word b 4) (headSize + 3 * word b 2)
+
+-- The list of a row, as its words stand, and a book's lists.
+abbrev pub nameListOf : List ℕ → ContentsRow → NameList
+nameListOf b r = record { id = r .id; kind = word (bodyOf b r) 0; numbers = drop 1 (bodyOf b r) }
+
+abbrev pub listsOf : List ℕ → List NameList
+listsOf b = map (nameListOf b) (listRows b)
+
 abbrev pub headGood : List ℕ → Bool
 headGood b =
     eqb (word b 3) (length b) and ltb (word b 0) null16 and ltb (word b 1) null16
-    and leb 1 (word b 2) and leb (word b 2) 64 and leb (4 + 3 * word b 2) (length b)
+    and leb 1 (word b 2) and leb (word b 2) 64 and leb (headSize + contentsSize b) (length b)
 
 -- "1: book octets odd, under 8 or over 8,192"
 abbrev pub sizeGood : List ℕ → Bool
 sizeGood octets = eqb (length octets % 2) 0 and leb 8 (length octets) and leb (length octets) 8192
 
+-- Bodies lie "from the first word after the contents to the book's end", and "list bodies come last".
+unfoldable pub checkContents : List ℕ → Result (Unit {0})
+checkContents b = do
+  listsAt ← contentsEnd 0 (headSize + contentsSize b) (templateRows b)
+  e ← contentsEnd 0 listsAt (listRows b)
+  must (eqb e (length b)) 3 0
+
+-- 4 of a list is "placed at the number of templates plus the list's position".
 unfoldable pub bookOf : List ℕ → Result Book
 bookOf octets = do
   _ ← must (sizeGood octets) 1 0
   let b = wordsOf octets
   _ ← must (headGood b) 2 0
-  let rows = parseContents b (word b 2) 4
-  _ ← must (contentsGood (length b) 0 (4 + 3 * word b 2) rows) 3 0
-  ts ← parseBodies b 0 rows
+  _ ← checkContents b
+  let ls = listsOf b
+  ts ← parseBodies ls b 0 (templateRows b)
+  _ ← eachMust listGood 4 (word b 2) ls
   _ ← eachMust layoutGood 5 0 ts
   _ ← eachMust (sinceGood (word b 1)) 6 0 ts
-  done (record { schema = word b 0; version = word b 1; templates = ts })
+  done (record { schema = word b 0; version = word b 1; lists = ls; templates = ts })

@@ -1,9 +1,9 @@
--- The cases that document 01 marks P: one table, one theorem, which the checker computes.
+-- The cases that document 01 marks P, and four of name lists: one table, one theorem, which the checker computes.
 use mathlib.Core.Path.{_≡_, refl}
 use mathlib.Core.Bool.{Bool, true, false}
 use mathlib.Core.List.{List, [], _∷_, _++_, map}
 use Prim.Native.Nat.{ℕ, _+_, _-_, _/_, _%_, _^_}
-use lib.ListN.{take, set}
+use lib.ListN.{take, set, length}
 use Rattle.layout.specs.All.{all}
 use Rattle.layout.specs.Result.{Result, _>>=_, _and_, done, if_then_else_, refused}
 use Rattle.layout.specs.Octets.{numberOf}
@@ -17,17 +17,17 @@ words [] = []
 words (w ∷ ws) = w % 256 ∷ w / 256 ∷ words ws
 
 -- "Book A (37 words): head 7 0 1 37; contents 1 7 30; block 8 2 1 1; fields 38 6 1 0 0 0 and 44 3 1 4 1 0; data 58 0;
--- group 453 0, block 2 1 0 0, field 452 2 1 0 0 0."
+-- group 453 0, block 2 1 0 0, field 452 2 1 0 0 0", recast "with each new word": the head's fifth, a field's seventh.
 abbrev pub bookA : List ℕ
 bookA =
     words
-    (7 ∷ 0 ∷ 1 ∷ 37
-    ∷ 1 ∷ 7 ∷ 30
+    (7 ∷ 0 ∷ 1 ∷ 41 ∷ 0
+    ∷ 1 ∷ 8 ∷ 33
     ∷ 8 ∷ 2 ∷ 1 ∷ 1
-    ∷ 38 ∷ 6 ∷ 1 ∷ 0 ∷ 0 ∷ 0
-    ∷ 44 ∷ 3 ∷ 1 ∷ 4 ∷ 1 ∷ 0
+    ∷ 38 ∷ 6 ∷ 1 ∷ 0 ∷ 0 ∷ 0 ∷ 0
+    ∷ 44 ∷ 3 ∷ 1 ∷ 4 ∷ 1 ∷ 0 ∷ 0
     ∷ 58 ∷ 0
-    ∷ 453 ∷ 0 ∷ 2 ∷ 1 ∷ 0 ∷ 0 ∷ 452 ∷ 2 ∷ 1 ∷ 0 ∷ 0 ∷ 0
+    ∷ 453 ∷ 0 ∷ 2 ∷ 1 ∷ 0 ∷ 0 ∷ 452 ∷ 2 ∷ 1 ∷ 0 ∷ 0 ∷ 0 ∷ 0
     ∷ [])
 
 -- "Book B extends A at version 1: root field uint8, offset 6, required, since 1; a second root group, block 4, one
@@ -35,16 +35,39 @@ bookA =
 abbrev pub bookB : List ℕ
 bookB =
     words
-    (7 ∷ 1 ∷ 1 ∷ 55
-    ∷ 1 ∷ 7 ∷ 48
+    (7 ∷ 1 ∷ 1 ∷ 61 ∷ 0
+    ∷ 1 ∷ 8 ∷ 53
     ∷ 8 ∷ 3 ∷ 2 ∷ 1
-    ∷ 38 ∷ 6 ∷ 1 ∷ 0 ∷ 0 ∷ 0
-    ∷ 44 ∷ 3 ∷ 1 ∷ 4 ∷ 1 ∷ 0
-    ∷ 45 ∷ 2 ∷ 1 ∷ 6 ∷ 0 ∷ 1
+    ∷ 38 ∷ 6 ∷ 1 ∷ 0 ∷ 0 ∷ 0 ∷ 0
+    ∷ 44 ∷ 3 ∷ 1 ∷ 4 ∷ 1 ∷ 0 ∷ 0
+    ∷ 45 ∷ 2 ∷ 1 ∷ 6 ∷ 0 ∷ 1 ∷ 0
     ∷ 58 ∷ 0
-    ∷ 453 ∷ 0 ∷ 2 ∷ 1 ∷ 0 ∷ 0 ∷ 452 ∷ 2 ∷ 1 ∷ 0 ∷ 0 ∷ 0
-    ∷ 454 ∷ 1 ∷ 4 ∷ 1 ∷ 0 ∷ 0 ∷ 455 ∷ 6 ∷ 1 ∷ 0 ∷ 0 ∷ 1
+    ∷ 453 ∷ 0 ∷ 2 ∷ 1 ∷ 0 ∷ 0 ∷ 452 ∷ 2 ∷ 1 ∷ 0 ∷ 0 ∷ 0 ∷ 0
+    ∷ 454 ∷ 1 ∷ 4 ∷ 1 ∷ 0 ∷ 0 ∷ 455 ∷ 6 ∷ 1 ∷ 0 ∷ 0 ∷ 1 ∷ 0
     ∷ [])
+
+-- A with two lists, a set over field 38 and an enumeration over field 452: list 2 has these flags, list 9 these codes.
+abbrev pub bookL : ℕ → List ℕ → List ℕ → List ℕ
+bookL version flags codes =
+    words
+    (7 ∷ version ∷ 1 ∷ (49 + length flags + length codes) ∷ 2
+    ∷ 1 ∷ 14 ∷ 33
+    ∷ 2 ∷ 47 ∷ (1 + length flags)
+    ∷ 9 ∷ (48 + length flags) ∷ (1 + length codes)
+    ∷ 8 ∷ 2 ∷ 1 ∷ 1
+    ∷ 38 ∷ 6 ∷ 1 ∷ 0 ∷ 0 ∷ 0 ∷ 3
+    ∷ 44 ∷ 3 ∷ 1 ∷ 4 ∷ 1 ∷ 0 ∷ 0
+    ∷ 58 ∷ 0
+    ∷ 453 ∷ 0 ∷ 2 ∷ 1 ∷ 0 ∷ 0 ∷ 452 ∷ 2 ∷ 1 ∷ 0 ∷ 0 ∷ 0 ∷ 10
+    ∷ ((1 ∷ flags) ++ (0 ∷ codes)))
+
+-- M's 1000 sets bits 3, 5, 6, 7, 8 and 9, and its entries have 1 and 3: of one book the lists lack 9 and 3, of the
+-- other nothing.
+abbrev pub bookFew : List ℕ
+bookFew = bookL 0 (3 ∷ 5 ∷ 6 ∷ 7 ∷ 8 ∷ []) (1 ∷ [])
+
+abbrev pub bookMany : List ℕ
+bookMany = bookL 1 (3 ∷ 4 ∷ 5 ∷ 6 ∷ 7 ∷ 8 ∷ 9 ∷ []) (1 ∷ 2 ∷ 3 ∷ [])
 
 -- "Message M (32 octets)"
 abbrev pub messageM : List ℕ
@@ -130,6 +153,12 @@ table =
     done (0 ∷ 1000 ∷ 0 ∷ 0 ∷ minus5 ∷ 0 ∷ 3 ∷ 0 ∷ 0 ∷ 4 ∷ 2 ∷ 0 ∷ 0 ∷ 1 ∷ 0 ∷ 0 ∷ 3 ∷ 0 ∷ 3 ∷ 0 ∷ 0 ∷ 2 ∷ 30 ∷ 2 ∷ []))
     ∷ (listed bookA messageB says
     done (0 ∷ 1000 ∷ 0 ∷ 0 ∷ minus5 ∷ 0 ∷ 4 ∷ 2 ∷ 0 ∷ 0 ∷ 1 ∷ 0 ∷ 0 ∷ 3 ∷ 0 ∷ 2 ∷ 38 ∷ 2 ∷ []))
+    ∷ (listed bookFew messageM says
+    done (6 ∷ 1000 ∷ 0 ∷ 0 ∷ minus5 ∷ 0 ∷ 4 ∷ 2 ∷ 0 ∷ 0 ∷ 1 ∷ 0 ∷ 6 ∷ 3 ∷ 0 ∷ 2 ∷ 30 ∷ 2 ∷ []))
+    ∷ (listed bookMany messageM says
+    done (0 ∷ 1000 ∷ 0 ∷ 0 ∷ minus5 ∷ 0 ∷ 4 ∷ 2 ∷ 0 ∷ 0 ∷ 1 ∷ 0 ∷ 0 ∷ 3 ∷ 0 ∷ 2 ∷ 30 ∷ 2 ∷ []))
+    ∷ (listed (bookL 0 (3 ∷ 3 ∷ []) (1 ∷ [])) messageM says refused 4 1)
+    ∷ (listed (bookL 0 (3 ∷ 32 ∷ []) (1 ∷ [])) messageM says refused 5 0)
     ∷ (listed bookA (take 31 messageM) says refused 16 28)
     ∷ (listed bookA (messageM ++ (0 ∷ [])) says refused 20 32)
     ∷ (listed bookA [] says refused 10 0)

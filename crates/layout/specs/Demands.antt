@@ -1,17 +1,23 @@
--- The words in which demand 2 is said.
+-- The words in which demands 2 and 3 are said.
 use mathlib.Core.Path.{_≡_}
-use mathlib.Core.List.{List, [], _∷_}
-use Prim.Native.Nat.{_+_, _-_, ℕ}
+use mathlib.Core.Bool.{false}
+use mathlib.Core.List.{List, [], _∷_, map}
+use Prim.Native.Nat.{_+_, _-_, suc, zero, ℕ}
 use lib.Dec.{eqb}
-use lib.ListN.{drop, replicate, take}
+use lib.ListN.{drop, getD, replicate, take}
 use Rattle.layout.specs.Result.{Each, if_then_else_}
 use Rattle.layout.specs.Octets.{number16}
+use Rattle.layout.specs.Lists.{Names, beside, has, noNames}
 use Rattle.layout.specs.Book.{Book, Field, Groups, Shape, Template, end, more, none}
-use Rattle.layout.specs.Values.{Values, entry, group, nil}
+use Rattle.layout.specs.Values.{Step, Values, entry, group, nil}
 use Rattle.layout.specs.Message.{blockLength, dimensionSize, headerSize, versionOf}
 use Rattle.layout.specs.Writing.{rowLength}
+use Rattle.layout.specs.declared.Found as Found
+use Rattle.layout.specs.declared.Found.{Found}
+use Rattle.layout.specs.declared.Element as Element
+use Rattle.layout.specs.declared.Element.{Element}
 use Rattle.layout.specs.declared.Answer.{Answer}
-use Rattle.layout.specs.declared.Answer.the-variants.{Number, Null, Octets, Absent, Group, OutOfRange}
+use Rattle.layout.specs.declared.Answer.the-variants.{Number, Null, Octets, Absent, Group, OutOfRange, Unlisted}
 
 -- ---- "What is written reads back with the same values"
 
@@ -49,22 +55,55 @@ OwnBlocks m s (more i since sh inner gs) at (group a es rest) =
     × OwnBlocks m sh inner (at + dimensionSize) es
     × OwnBlocks m s gs (at + dimensionSize + rowLength sh inner es) rest
 
-unfoldable pub InRange : Answer → Type 0
-InRange (Number x) = Unit {0}
-InRange Null = Unit {0}
-InRange (Octets start len) = Unit {0}
-InRange Absent = Unit {0}
-InRange (Group k) = Unit {0}
-InRange (OutOfRange x) = ⊥
+-- "no value out of range", and "demand 2's writing back also asks for no kind 6".
+unfoldable pub Sound : Answer → Type 0
+Sound (Number x) = Unit {0}
+Sound Null = Unit {0}
+Sound (Octets start len) = Unit {0}
+Sound Absent = Unit {0}
+Sound (Group k) = Unit {0}
+Sound (OutOfRange x) = ⊥
+Sound (Unlisted x) = ⊥
 
-unfoldable pub ValuesInRange : Values → Type 0
-ValuesInRange nil = Unit {0}
-ValuesInRange (entry fs g ds rest) = Each InRange fs × ValuesInRange g × ValuesInRange rest
-ValuesInRange (group a es rest) = ValuesInRange es × ValuesInRange rest
+unfoldable pub AllSound : Values → Type 0
+AllSound nil = Unit {0}
+AllSound (entry fs g ds rest) = Each Sound fs × AllSound g × AllSound rest
+AllSound (group a es rest) = AllSound es × AllSound rest
 
 -- The message m, read as r, could have been written with the book.
 pub record AsWritten (b : Book) (t : Template) (m : List ℕ) (r : Values) : Type 0 where
   pub version : versionOf m ≡ b .version
   pub length : blockLength m ≡ t .shape .length
   pub blocks : OwnBlocks m (t .shape) (t .groups) headerSize r
-  pub ranges : ValuesInRange r
+  pub sound : AllSound r
+
+-- ---- "Demand 3 then allows the older book kind 6 with the same number where only its list lacks it": the names of a
+-- place in a book
+
+-- What f says of the block of group g of a row, and `lacking` where the row lacks that group.
+unfoldable pub ofGroup : {A : Type 0} → A → Groups → ℕ → (Shape → Groups → A) → A
+ofGroup lacking none g f = lacking
+ofGroup lacking (more i since s inner rest) zero f = f s inner
+ofGroup lacking (more i since s inner rest) (suc g) f = ofGroup lacking rest g f
+
+-- Of an element: a field has the names of its list.
+unfoldable pub elementNames : Element → Shape → Names
+elementNames (Element.the-variants.Field k) s = getD (map (λ (f : Field). f .names) (s .fields)) k noNames
+elementNames (Element.the-variants.Group k) s = noNames
+elementNames (Element.the-variants.Data k) s = noNames
+
+unfoldable pub namesAt : List Step → Element → Shape → Groups → Names
+namesAt [] x s gs = elementNames x s
+namesAt (p ∷ ps) x s gs = ofGroup noNames gs (p .group) (namesAt ps x)
+
+-- What was found, seen beside these names.
+unfoldable pub foundBeside : Names → Found → Found
+foundBeside l (Found.the-variants.Is a) = Found.the-variants.Is (beside l a)
+foundBeside l (Found.the-variants.Refused z) = Found.the-variants.Refused z
+
+-- "the same answer", or "kind 6 with the same number where only its list lacks it": what an older book says of a place
+-- that has the names l in it, by what the newer says of it. `is` is how an answer is told.
+pub data AlikeOrUnlisted {R : Type 0} (is : Answer → R) (l : Names) (older newer : R) : Type 0 where
+  alike : older ≡ newer → AlikeOrUnlisted is l older newer
+  unlisted : (x : ℕ) → newer ≡ is (Number x) → older ≡ is (Unlisted x) → has l x ≡ false
+      → AlikeOrUnlisted is l older newer

@@ -1,12 +1,18 @@
 -- "A newer book extends an older one when ..": legal extension, a relation with named parts.
 use mathlib.Core.Path.{_≡_}
 use mathlib.Core.Bool.{Bool, false, true}
-use mathlib.Core.List.{List, [], _++_}
+use mathlib.Core.List.{List, [], _∷_, _++_}
 use mathlib.Core.Option.{some}
 use Prim.Native.Nat.{_<_, _≤_, ℕ}
 use Rattle.layout.specs.Result.{Each}
+use Rattle.layout.specs.Lists.{KeepsNames}
 use Rattle.layout.specs.Book.{Book, Data, Field, Groups, Shape, Template, dataSinces, fieldSinces, findTemplate}
-use Rattle.layout.specs.Book.{more, none}
+use Rattle.layout.specs.Book.{more, none, withNames}
+
+-- "A legal extension keeps an older field's seven words and its list's kind and numbers, to which more may be added."
+pub record KeepsField (old new : Field) : Type 0 where
+  pub words : new ≡ withNames old (new .names)
+  pub names : KeepsNames (old .names) (new .names)
 
 -- `limit` is the older version.
 module _ (limit : ℕ) where
@@ -14,13 +20,13 @@ module _ (limit : ℕ) where
   abbrev pub AllAbove : List ℕ → Type 0
   AllAbove sinces = Each (λ since. limit < since) sinces
 
-  -- "older fields come first, all six words equal"
-  pub record AddsFields (old new : List Field) : Type 0 where
-    pub added : List Field
-    pub first : new ≡ old ++ added
-    pub young : AllAbove (fieldSinces added)
+  -- "older fields come first", each kept
+  unfoldable pub ExtendsFields : List Field → List Field → Type 0
+  ExtendsFields [] new = AllAbove (fieldSinces new)
+  ExtendsFields (f ∷ fs) [] = ⊥
+  ExtendsFields (f ∷ fs) (f′ ∷ fs′) = KeepsField f f′ × ExtendsFields fs fs′
 
-  -- "older data likewise"
+  -- "older data come first, both words equal"
   pub record AddsDatas (old new : List Data) : Type 0 where
     pub added : List Data
     pub first : new ≡ old ++ added
@@ -29,7 +35,7 @@ module _ (limit : ℕ) where
   -- "Per block: declared length no smaller; ..". "Inside groups only fields may be added": there, `root` is false.
   pub record ExtendsShape (root : Bool) (old new : Shape) : Type 0 where
     pub longer : old .length ≤ new .length
-    pub fields : AddsFields (old .fields) (new .fields)
+    pub fields : ExtendsFields (old .fields) (new .fields)
     pub datas : AddsDatas (old .datas) (new .datas)
     pub inside : root ≡ false → datas .added ≡ []
 

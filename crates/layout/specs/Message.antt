@@ -8,8 +8,9 @@ use lib.ListN.{length}
 use Rattle.layout.specs.Result.{Result, done, must, orRefuse, if_then_else_, _and_, _>>=_}
 use Rattle.layout.specs.Octets.{numberAt, number16, null16}
 use Rattle.layout.specs.Types.{typeAt, valueOf, classify}
-use Rattle.layout.specs.Book.{Field, Data, Shape, Groups, none, more, Template, Book, findTemplate}
-use Rattle.layout.specs.Book.{isArray, isOptional, need, dataSinces, groupSinces, present}
+use Rattle.layout.specs.Lists.{beside}
+use Rattle.layout.specs.Book.{Field, Data, Shape, Groups, none, more, Template, Book, findTemplate, isArray}
+use Rattle.layout.specs.Book.{isOptional, need, dataSinces, groupSinces, present}
 use Rattle.layout.specs.Values.{Values, nil, entry, group}
 use Rattle.layout.specs.declared.Answer.{Answer}
 use Rattle.layout.specs.declared.Answer.the-variants.{Octets, Absent, Group}
@@ -105,7 +106,7 @@ module _ (m : List ℕ) (v : ℕ) where
       let k = typeAt (f .type) in
       let start = at + f .offset in
       let value = valueOf k (numberAt (k .width) m start) in
-      if isArray f then Octets start (f .length) else classify k (isOptional f) value
+      if isArray f then Octets start (f .length) else beside (f .names) (classify k (isOptional f) value)
 
   -- "An element with since above v is absent, even where the block has octets for it."
   unfoldable pub readField : ℕ → Field → Answer

@@ -7,13 +7,14 @@ use lib.ListN.{drop, getD, length, replicate, take}
 use Rattle.layout.specs.Result.{Result, _>>=_, _and_, _or_, done, if_then_else_, must, orRefuse}
 use Rattle.layout.specs.Octets.{null16, octetsOf}
 use Rattle.layout.specs.Types.{inRange, typeAt}
-use Rattle.layout.specs.Book.{Field, Data, Shape, Groups, none, more, Template, Book, findTemplate}
-use Rattle.layout.specs.Book.{end, isArray, isOptional, groupSinces}
+use Rattle.layout.specs.Lists.{has}
+use Rattle.layout.specs.Book.{Field, Data, Shape, Groups, none, more, Template, Book, findTemplate, end, isArray}
+use Rattle.layout.specs.Book.{isOptional, groupSinces}
 use Rattle.layout.specs.BookRules.{bookOf}
 use Rattle.layout.specs.Values.{Values, entry, group, nil}
 use Rattle.layout.specs.Message.{Entry, dimensionSize, headerSize}
 use Rattle.layout.specs.declared.Answer.{Answer}
-use Rattle.layout.specs.declared.Answer.the-variants.{Number, Null, Octets, Absent, Group, OutOfRange}
+use Rattle.layout.specs.declared.Answer.the-variants.{Number, Null, Octets, Absent, Group, OutOfRange, Unlisted}
 
 -- ---- 51: record i of the listing l
 
@@ -31,7 +32,8 @@ module _ (l : List ℕ) where
   abbrev pub isThere : ℕ → Bool
   isThere i = leb (3 * i + 3) (length l)
 
-  -- "wrong kind for its element (3 and 5 always, 1 for an array), or an unused number not 0"
+  -- "wrong kind for its element (3 and 5 always, 1 for an array), or an unused number not 0"; "the writer takes 6 as
+  -- 51"
   abbrev pub isNumber : ℕ → Bool
   isNumber i = isThere i and eqb (third i) 0 and (eqb (first i) 0 or (eqb (first i) 1 and eqb (second i) 0))
 
@@ -41,11 +43,12 @@ module _ (l : List ℕ) where
   abbrev pub isGroup : ℕ → Bool
   isGroup i = isThere i and eqb (first i) 4 and eqb (third i) 0
 
-  -- 52: "number is null or out of range; null for a required field"
+  -- 52: "number is null or out of range; null for a required field", or a number that the field's list lacks
   abbrev pub numberFits : Field → ℕ → Bool
   numberFits f i =
       let k = typeAt (f .type) in
-      if eqb (first i) 1 then isOptional f else inRange k (second i) and not (eqb (second i) (k .null))
+      if eqb (first i) 1 then isOptional f
+      else inRange k (second i) and not (eqb (second i) (k .null)) and has (f .names) (second i)
 
 -- ---- 51 to 54, in the listing's order, `size` being the pool's length
 
@@ -132,6 +135,7 @@ spanOf Null = (0, 0)
 spanOf Absent = (0, 0)
 spanOf (Group k) = (0, 0)
 spanOf (OutOfRange x) = (0, 0)
+spanOf (Unlisted x) = (0, 0)
 
 -- The entries of a group.
 unfoldable pub entriesIn : Answer → ℕ
@@ -141,6 +145,7 @@ entriesIn Null = 0
 entriesIn (Octets start len) = 0
 entriesIn Absent = 0
 entriesIn (OutOfRange x) = 0
+entriesIn (Unlisted x) = 0
 
 module _ (pool : List ℕ) where
   abbrev pub spanOctets : Answer → List ℕ
@@ -153,6 +158,7 @@ module _ (pool : List ℕ) where
   fieldOctets f Absent = []
   fieldOctets f (Group k) = []
   fieldOctets f (OutOfRange x) = []
+  fieldOctets f (Unlisted x) = []
 
   -- "declared block lengths, .. and zero padding": a block of l octets, from its octet `at` on.
   unfoldable pub blockOctets : ℕ → ℕ → List Field → List Answer → List ℕ

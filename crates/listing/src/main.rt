@@ -108,7 +108,7 @@ fn list_rest(p: &[u64])
 // Lists the message by a book, which may be any octets.
 fn list_by(book: &[u8]) {
     // As many numbers as the prepared form of any book has at most.
-    let mut numbers = [0u64; 8259];
+    let mut numbers = [0u64; 8260];
     match prepare::prepare_octets(book, &mut numbers) {
         Counted::Count(n) => list_rest(&numbers[..n]),
         Counted::Refused(refusal) => show_refusal(refusal),

@@ -14,6 +14,7 @@ use Rattle.layout.specs.Contracts.{refusal}
 use Rattle.layout.specs.Message.{checkHeader, headerNumbers, headerSize, headerWhole, templateId}
 use Rattle.layout.specs.declared.Refusal.{Refusal}
 use Rattle.layout.proofs.Results.{and-left, and-right, inv-if}
+use Rattle.prepared.specs.Numbers.{contentsFrom}
 use Rattle.prepared.specs.Positions.{BlockAt}
 use Rattle.prepared.specs.Books.{HoldsBook, locationAmong, locationOf}
 use Rattle.prepared.specs.declared.Located.{Located}
@@ -76,7 +77,7 @@ module _ (p : List ℕ) (book : HoldsBook p) (m : List ℕ) (lent : Lent m heade
       → headerWhole m headerNumbers 0 ≡ done tt
   unfolding headerWhole must _>>=_
   whole l s v g d =
-      let less = rows-less p (h .template) a (word p 2) 67
+      let less = rows-less p (h .template) a (word p 2) contentsFrom
       (λ i n. let t = book .templates i n in omega (arith, t .less)) at in
       rw (
         ← (is .length .value),

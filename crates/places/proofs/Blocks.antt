@@ -14,9 +14,8 @@ use Rattle.layout.specs.declared.Element.{Element}
 use Rattle.layout.specs.declared.Element.the-variants.{Data as DataAt, Field, Group}
 use Rattle.prepared.specs.Positions.{BlockAt, manyGroups, groupsFrom, innerAt, shapeAt}
 use Rattle.prepared.specs.declared.Located.the-variants.{At, Unknown}
-use Rattle.prepared.proofs.Accepted.{datas-length}
+use Rattle.prepared.proofs.Accepted.{datas-length, fields-length}
 use Rattle.prepared.proofs.Open.{length-row}
-use Rattle.walk.proofs.Blocks.{length-fields}
 use Rattle.places.specs.Spots.{Block, dropGroups, firstBlock}
 use Rattle.places.specs.Seeks.{rowAfter, stepsFrom}
 use Rattle.places.specs.Elements.{blockAfter, blockFor, countOf, numberOf}
@@ -27,7 +26,7 @@ use Rattle.places.proofs.Places.{group-is, row-drops-all, steps-done, s
 pub has-element : (p : List ℕ) (depth a : ℕ) (x : Element) → BlockAt p depth a
     → hasElement x (shapeAt p a) (innerAt p depth a) ≡ ltb (numberOf x) (countOf p a x)
 unfolding hasElement numberOf countOf
-has-element p depth a (Field k) at = rw (length-fields p _ _) refl
+has-element p depth a (Field k) at = rw (fields-length _ p _ _) refl
 has-element p depth a (Group k) at = rw (length-row p depth _ _ (at .row)) refl
 has-element p depth a (DataAt k) at = rw (datas-length p _ _) refl
 

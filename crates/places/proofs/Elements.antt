@@ -2,7 +2,7 @@
 use mathlib.Core.Path.{_∙_, _≡_, ap, refl, sym}
 use mathlib.Core.Bool.{true}
 use mathlib.Core.List.{List, [], _∷_, map}
-use Prim.Native.Nat.{ℕ, zero, suc, _+_, _*_, _≤_, _<_}
+use Prim.Native.Nat.{ℕ, zero, suc, _+_, _-_, _*_, _≤_, _<_}
 use native.Mathlib.Omega.{arith}
 use lib.Dec.{leb}
 use lib.ListN.{getD, length}
@@ -10,7 +10,7 @@ use borrow.Author.Tests.{le-leb, leb-true, lt-leb, ltb-true}
 use Rattle.layout.specs.Result.{Each, Result, _>>=_, done, if_then_else_}
 use Rattle.layout.specs.Octets.{number16}
 use Rattle.layout.specs.Book.{Field, Groups, Shape, more, need}
-use Rattle.layout.specs.BookRules.{fieldAt, parseDatas, parseFields, word}
+use Rattle.layout.specs.BookRules.{parseDatas, parseFields, word}
 use Rattle.layout.specs.Message.{readData, readDatas, readField, readGroups, skipDatas, skipGroups}
 use Rattle.layout.specs.Reading.{hasElement}
 use Rattle.layout.specs.Values.{Values, elementOf, groupOf, nil}
@@ -20,15 +20,17 @@ use Rattle.layout.specs.declared.Element.the-variants as Element
 use Rattle.layout.specs.declared.Refusal.{Refusal}
 use Rattle.layout.specs.declared.Answer.the-variants.{Absent, Group, Octets}
 use Rattle.layout.proofs.Results.{and-right, done-inj, inv-bind, inv-both, inv-must}
-use Rattle.prepared.specs.Positions.{BlockAt, manyDatas, manyFields, fieldsFrom, manyGroups, groupsFrom, innerAt}
-use Rattle.prepared.specs.Positions.{shapeAt}
+use Rattle.prepared.specs.Names.{listsAt}
+use Rattle.prepared.specs.Positions.{BlockAt, fieldAt, manyDatas, manyFields, fieldsFrom, manyGroups, groupsFrom}
+use Rattle.prepared.specs.Positions.{innerAt, shapeAt, tableFrom}
 use Rattle.wire.specs.Walks.{skipEnd, walked}
 use Rattle.wire.specs.declared.Walked as Walked
 use Rattle.wire.proofs.Answers.{inv-to}
 use Rattle.walk.specs.Walks.{datasEnd, rowAt, valuesEnd}
 use Rattle.walk.proofs.Rows.{surplus-after}
-use Rattle.fields.specs.Readable.{Fits}
+use Rattle.fields.specs.Readable.{Fits, Readable}
 use Rattle.fields.proofs.Fields.{fields-fit}
+use Rattle.prepared.proofs.Open.{field-here}
 use Rattle.places.specs.Seeks.{rowAfter}
 use Rattle.places.specs.Elements.{Accepted, Done, countOf, dataRead, datasRead, elementRead, entryRead}
 use Rattle.places.specs.Elements.{groupRead, numberOf}
@@ -49,30 +51,34 @@ not-refused r f h z e =
 -- ---- fields
 
 pub field-in : (m : List ℕ) (v at : ℕ) (p : List ℕ) (n k f : ℕ) → k < n
-    → getD (map (readField m v at) (parseFields p n f)) k Absent ≡ readField m v at (fieldAt p (f + 6 * k))
+    → getD (map (readField m v at) (parseFields (listsAt p) p n f)) k Absent ≡ readField m v at (fieldAt p (f + 7 * k))
 unfolding parseFields getD map
 field-in m v at p zero k f h = absurd (omega arith)
-field-in m v at p (suc n) zero f h = let q : f + 6 * 0 ≡ f = omega arith in rw q refl
+field-in m v at p (suc n) zero f h = let q : f + 7 * 0 ≡ f = omega arith in rw q refl
 field-in m v at p (suc n) (suc k) f h =
-    let q : f + 6 * suc k ≡ f + 6 + 6 * k = omega arith in
-    rw q (field-in m v at p n k (f + 6) (omega (arith, h)))
+    let q : f + 7 * suc k ≡ f + 7 + 7 * k = omega arith in
+    rw q (field-in m v at p n k (f + 7) (omega (arith, h)))
 
-field-fits : (P : Field → Type 0) (p : List ℕ) (n k f : ℕ) → k < n → Each P (parseFields p n f)
-    → P (fieldAt p (f + 6 * k))
+field-fits : (P : Field → Type 0) (p : List ℕ) (n k f : ℕ) → k < n → Each P (parseFields (listsAt p) p n f)
+    → P (fieldAt p (f + 7 * k))
 unfolding parseFields Each
 field-fits P p zero k f h e = absurd (omega arith)
-field-fits P p (suc n) zero f h e = let q : f + 6 * 0 ≡ f = omega arith in rw q (e .0)
+field-fits P p (suc n) zero f h e = let q : f + 7 * 0 ≡ f = omega arith in rw q (e .0)
 field-fits P p (suc n) (suc k) f h e =
-    let q : f + 6 * suc k ≡ f + 6 + 6 * k = omega arith in
-    rw q (field-fits P p n k (f + 6) (omega (arith, h)) (e .1))
+    let q : f + 7 * suc k ≡ f + 7 + 7 * k = omega arith in
+    rw q (field-fits P p n k (f + 7) (omega (arith, h)) (e .1))
 
 pub field-readable : (p : List ℕ) (depth a : ℕ) (m : List ℕ) (v l at k : ℕ) → BlockAt p depth a
     → need v (shapeAt p a) ≤ l → at + l ≤ length m → k < manyFields p a
-    → Fits m v at (fieldAt p (fieldsFrom p a + 6 * k))
+    → Readable p (fieldsFrom p a + 7 * k) (tableFrom p a + 6 * k) m v at
 field-readable p depth a m v l at k stands enough fits less =
-    field-fits (Fits m v at) p (manyFields p a) k (fieldsFrom p a) less
-    (fields-fit m v at l (shapeAt p a .length) 0 0 (shapeAt p a .fields) (and-right _ _ (stands .block .good))
-    (omega arith) enough fits)
+    record {
+      field = field-here p a (manyFields p a - k) _ _ (stands .block) (omega arith) (omega arith) (omega arith)
+          (omega arith);
+      fits = field-fits (Fits m v at) p (manyFields p a) k (fieldsFrom p a) less
+          (fields-fit m v at l (shapeAt p a .length) 0 0 (shapeAt p a .fields) (and-right _ _ (stands .block .good))
+          (omega arith) enough fits);
+    }
 
 -- ---- a group
 
@@ -263,7 +269,7 @@ module _ {p : List ℕ} {depth a : ℕ} {m : List ℕ} {v n l at : ℕ} (ok : Ac
 
   pub element-field : (k : ℕ) → k < manyFields p a
       → elementRead (Element.Field k) (entryRead p depth a m v n l at)
-      ≡ readField m v at (fieldAt p (fieldsFrom p a + 6 * k))
+      ≡ readField m v at (fieldAt p (fieldsFrom p a + 7 * k))
   unfolding elementRead elementOf
   element-field k less =
       rw (ok .reads .is, ← (parts .fields)) (field-in m v at p (manyFields p a) k (fieldsFrom p a) less)

@@ -417,7 +417,10 @@ pub fn element_at(
     let s = *p;
     let t = *m;
     match x {
-        Element::Field(k) => fields::read_field(s, a + 12 + 6 * k, t, v, at),
+        Element::Field(k) => {
+            let table = number(s, a + 11) + 6 * k;
+            fields::read_one(s, a + 12 + 7 * k, table, t, v, at)
+        }
         Element::Group(k) => group_at(p, a, depth, m, v, at + length, k),
         Element::Data(k) => data_after(p, a, depth, m, v, at + length, surplus, k),
     }

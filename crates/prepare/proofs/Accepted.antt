@@ -1,5 +1,5 @@
 -- What an accepted book is good for: its templates are read by position, and its prepared numbers are few.
-use mathlib.Core.Path.{_≡_, refl, subst, sym, _∙_}
+use mathlib.Core.Path.{_≡_, ap, refl, subst, sym, _∙_}
 use mathlib.Core.List.{List}
 use Prim.Native.Nat.{ℕ, zero, suc, _+_, _-_, _*_, _/_, _<_, _≤_}
 use native.Mathlib.Nat.{zero-add}
@@ -10,18 +10,22 @@ use lib.Seq.{sets, sets-eq}
 use borrow.Author.Tests.{eqb-true, le-leb, leb-true, lt-leb}
 use Rattle.layout.specs.Result.{Result, _>>=_, done, must, refused}
 use Rattle.layout.specs.Octets.{wordsOf}
-use Rattle.layout.specs.Book.{Book, Groups, Shape, Template}
-use Rattle.layout.specs.BookRules.{bookOf, parseBodies, parseBody, parseContents, parseGroups, parseShape, word}
+use Rattle.layout.specs.Book.{Book, Groups, Shape, Template, more}
+use Rattle.layout.specs.Lists.{NameList}
+use Rattle.layout.specs.BookRules.{bookOf, headSize, parseBodies, parseBody, parseContents, parseGroups, parseShape}
+use Rattle.layout.specs.BookRules.{word}
 use Rattle.layout.specs.Contracts.{checked, counted, refusal, roomAfter}
 use Rattle.layout.specs.declared.Checked.the-variants.{Accepted}
 use Rattle.layout.specs.declared.Counted.the-variants.{Count, Refused}
+use Rattle.layout.proofs.Accepted.{each-good}
 use Rattle.layout.proofs.Results.{bind-done, done-inj, inv-bind, inv-must, inv-refusal}
-use Rattle.book.proofs.Bodies.{Lies, lies-first}
-use Rattle.book.proofs.RuleLaws.{head-says}
+use Rattle.book.specs.Rows.{HasLists}
+use Rattle.book.proofs.Rows.{body-lies, head-says}
 use Rattle.book.proofs.Words.{length-words, words-between}
-use Rattle.prepared.specs.Numbers.{preparedOf, sizesOf}
+use Rattle.prepared.specs.Numbers.{listsSize, preparedOf, sizesOf}
 use Rattle.prepared.proofs.Books.{length-prepared}
 use Rattle.prepared.proofs.Prepared.{length-numbers}
+use Rattle.prepare.specs.Names.{listsIn}
 use Rattle.prepare.specs.Positions.{IsRow, manyGroups, groupsAt, groupsEnd, groupsFrom, innerAt, innerEnd}
 use Rattle.prepare.specs.Positions.{shapeAt}
 use Rattle.prepare.specs.Prepares.{IsBook, Prepares, preparing}
@@ -38,18 +42,22 @@ is-book s e = go (bookOf s) refl e
 
 -- ---- bodies
 
-module _ (s : List ℕ) where
+same-group : (i since : ℕ) {s s′ : Shape} {inner inner′ rest rest′ : Groups} → s ≡ s′ → inner ≡ inner′ → rest ≡ rest′
+    → more i since s inner rest ≡ more i since s′ inner′ rest′
+same-group i since p q r = rw (p, q, r) refl
+
+module _ (ls : List NameList) (s : List ℕ) where
   abbrev b : List ℕ
   b = wordsOf s
 
   -- A shape that was parsed at word w, its number of groups, and the word after it.
   record ShapeIs (w : ℕ) (r : Shape × ℕ × ℕ) : Type 0 where
     fits : groupsFrom s w ≤ length s / 2
-    shape : shapeAt s w ≡ r .0
+    shape : shapeAt ls s w ≡ r .0
     count : manyGroups s w ≡ r .1
     from : groupsFrom s w ≡ r .2
 
-  shape-is : (few w : ℕ) (r : Shape × ℕ × ℕ) → parseShape b few w ≡ done r → ShapeIs w r
+  shape-is : (few w : ℕ) (r : Shape × ℕ × ℕ) → parseShape ls b few w ≡ done r → ShapeIs w r
   unfolding parseShape
   shape-is few w r e =
       let p = inv-bind _ _ _ (inv-bind _ _ _ (inv-bind _ _ _ e .next) .next) in
@@ -64,10 +72,10 @@ module _ (s : List ℕ) where
   -- Groups that were parsed at word w, and the word after them.
   record RowIs (depth n w : ℕ) (r : Groups × ℕ) : Type 0 where
     row : IsRow s depth n w
-    tree : groupsAt s depth n w ≡ r .0
+    tree : groupsAt ls s depth n w ≡ r .0
     end : groupsEnd s depth n w ≡ r .1
 
-  row-is : (depth n w : ℕ) (r : Groups × ℕ) → parseGroups b depth n w ≡ done r → RowIs depth n w r
+  row-is : (depth n w : ℕ) (r : Groups × ℕ) → parseGroups ls b depth n w ≡ done r → RowIs depth n w r
   unfolding parseGroups IsRow groupsAt groupsEnd
   row-is zero zero w r e = subst (RowIs 0 0 w) (done-inj e) (record { row = tt; tree = refl; end = refl })
   row-is (suc depth) zero w r e =
@@ -84,16 +92,16 @@ module _ (s : List ℕ) where
       subst (RowIs (suc depth) (suc n) w) (done-inj (k .next))
       (record {
         row = (o .fits, inner .row, rest .row);
-        tree = rw (o .shape, inner .tree, rest .tree) refl;
+        tree = same-group _ _ (o .shape) (inner .tree) (rest .tree);
         end = rest .end;
       })
 
   record BodyIs (r : Shape × Groups) : Type 0 where
     body : IsBody s
-    shape : shapeAt s 0 ≡ r .0
-    groups : innerAt s 4 0 ≡ r .1
+    shape : shapeAt ls s 0 ≡ r .0
+    groups : innerAt ls s 4 0 ≡ r .1
 
-  body-is : (r : Shape × Groups) → parseBody b ≡ done r → BodyIs r
+  body-is : (r : Shape × Groups) → parseBody ls b ≡ done r → BodyIs r
   unfolding parseBody
   body-is r e =
       let p = inv-bind _ _ _ e in
@@ -114,8 +122,9 @@ module _ (s : List ℕ) where
 
 -- ---- the templates of n rows from word w on
 
-rows-are : (s : List ℕ) (t n w : ℕ) (ts : List Template) → w + 3 * n ≤ length s / 2 → Lies (wordsOf s) n w
-    → parseBodies (wordsOf s) t (parseContents (wordsOf s) n w) ≡ done ts
+rows-are : (s : List ℕ) (t n w : ℕ) (ts : List Template) → w + 3 * n ≤ length s / 2
+    → ((i : ℕ) → i < n → word (wordsOf s) (w + 3 * i + 1) + word (wordsOf s) (w + 3 * i + 2) ≤ length s / 2)
+    → parseBodies (listsIn s) (wordsOf s) t (parseContents (wordsOf s) n w) ≡ done ts
     → AreTemplates s n w × (ts ≡ templatesAt s n w)
 unfolding parseContents parseBodies AreTemplates templatesAt
 rows-are s t zero w ts h l e = (tt, sym (done-inj e))
@@ -123,13 +132,13 @@ rows-are s t (suc n) w ts h l e =
     let b = wordsOf s in
     let p = inv-bind _ _ _ e in
     let q = inv-bind _ _ _ (p .next) in
-    let j : suc n - 1 ≡ n = omega arith in
-    let lies = lies-first b (suc n) w (omega arith) l in
-    let body = body-is (bodyAt s w) (p .value)
+    let o : w + 3 * 0 ≡ w = omega arith in
+    let k : (i : ℕ) → w + 3 * suc i ≡ w + 3 + 3 * i = λ i. omega arith in
+    let body = body-is (listsIn s) (bodyAt s w) (p .value)
     (rw (words-between s (word b (w + 1)) (word b (w + 2))) (inv-refusal _ _ _ _ (p .first))) in
-    let rest = rows-are s (suc t) n (w + 3) (q .value) (omega arith) (subst (λ (x : ℕ). Lies b x (w + 3)) j (lies .1))
-    (q .first) in (
-      (record { fits = omega arith; lies = omega (arith, lies .0, length-words s); body = body .body }, rest .0),
+    let rest = rows-are s (suc t) n (w + 3) (q .value) (omega arith)
+    (λ i j. rw (k i) at (l (suc i) (omega arith))) (q .first) in (
+      (record { fits = omega arith; lies = rw o at (l 0 (omega arith)); body = body .body }, rest .0),
       sym (done-inj (q .next)) ∙ rw (body .shape, body .groups, rest .1) refl,
     )
 
@@ -141,18 +150,19 @@ preparable s k =
     let p₂ = inv-bind _ _ _ (inv-bind _ _ _ (k .is) .next) in
     let p₃ = inv-bind _ _ _ (p₂ .next) in
     let p₄ = inv-bind _ _ _ (p₃ .next) in
-    let p₆ = inv-bind _ _ _ (inv-bind _ _ _ (p₄ .next) .next) in
-    let head = head-says s (record { good = inv-must _ _ _ _ (p₂ .first) }) in
+    let p₅ = inv-bind _ _ _ (p₄ .next) in
+    let p₇ = inv-bind _ _ _ (inv-bind _ _ _ (p₅ .next) .next) in
     let n = word (wordsOf s) 2 in
-    let lies : Lies (wordsOf s) n 4 = record { low = 0; at = 4 + 3 * n; good = inv-must _ _ _ _ (p₃ .first) } in
-    let r = rows-are s 0 n 4 (p₄ .value) (head .fits) lies (p₄ .first) in
-    let tree : k .tree ≡ bookAt s = sym (done-inj (p₆ .next)) ∙ rw (r .1) refl in
+    let has : HasLists s = record { head = record { good = inv-must _ _ _ _ (p₂ .first) }; kept = p₃ .first } in
+    let r = rows-are s 0 n headSize (p₄ .value) (omega (arith, head-says s (has .head) .fits)) (body-lies s has)
+    (p₄ .first) in
+    let tree : k .tree ≡ bookAt s = sym (done-inj (p₇ .next)) ∙ rw (r .1) refl in
     let short = length-prepared (record { octets = s; tree = k .tree; accepted = k .is; is = refl }) in (
       record {
-        head = omega (arith, head .fits);
+        lists = record { has = has; good = each-good _ 4 _ (listsIn s) (p₅ .value) (p₅ .first) };
         count = refl;
         templates = r .0;
-        few = omega (arith, rw (tree, length-numbers (bookAt s), length-templates s n 4) at short);
+        few = omega (arith, rw (tree, length-numbers (bookAt s), length-templates s n 5) at short);
       },
       tree,
     )
@@ -163,13 +173,16 @@ module _ (s : List ℕ) (k : IsBook s) (n : ℕ) (count-is : n ≡ word (wordsOf
   pub ready : IsPreparable s n
   ready = subst (λ (x : ℕ). IsPreparable s x) (sym count-is) (preparable s k .0)
 
-  module _ (before : List ℕ) (size : ℕ) (is : size ≡ 67 + 2 * n + sizesOf (templatesAt s n 4)) where
+  module _ (before : List ℕ) (size : ℕ)
+      (is : size ≡ 68 + 2 * n + listsSize (listsIn s) + sizesOf (templatesAt s n 5)) where
     abbrev made : List ℕ
     made = preparedOf (bookAt s)
 
     long : length made ≡ size
     long =
-        length-numbers (bookAt s) ∙ rw (length-templates s (word (wordsOf s) 2) 4, ← count-is) (sym is)
+        length-numbers (bookAt s) ∙ ap (λ (x : ℕ). 68 + 2 * x + listsSize (listsIn s) + sizesOf (bookAt s .templates))
+        (length-templates s (word (wordsOf s) 2) 5)
+        ∙ ap (λ (x : ℕ). 68 + 2 * x + listsSize (listsIn s) + sizesOf (templatesAt s x 5)) (sym count-is) ∙ sym is
 
     says : preparing s (length before) ≡ (must (leb size (length before)) 40 size >>= λ _. done made)
     unfolding preparing

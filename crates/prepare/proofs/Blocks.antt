@@ -12,10 +12,11 @@ use Rattle.octets.proofs.Joined.{sets-append}
 use Rattle.layout.specs.Octets.{wordsOf}
 use Rattle.layout.specs.Result.{if_then_else_}
 use Rattle.layout.specs.Types.{typeAt}
+use Rattle.layout.specs.Lists.{NameList}
 use Rattle.layout.specs.Book.{need as needOf, needAfter}
 use Rattle.layout.specs.BookRules.{fieldAt, parseDatas, parseFields, word}
 use Rattle.layout.proofs.TypeLaws.{each-type}
-use Rattle.prepared.specs.Numbers.{blockOf, blockSize, datasOf, fieldsOf, spread, tableOf}
+use Rattle.prepared.specs.Numbers.{blockOf, blockSize, datasOf, fieldsOf, placeOf, spread, tableOf}
 use Rattle.prepared.proofs.Accepted.{datas-length, fields-length}
 use Rattle.prepared.proofs.Prepared.{length-table}
 use Rattle.prepare.specs.Positions.{manyDatas, elementsAt, manyFields, manyGroups, headAt, shapeAt}
@@ -46,12 +47,13 @@ words-join s zero n w = rw (zero-add, add-zero) refl
 words-join s (suc m) n w =
     rw (suc-add, add-suc, ← suc-add) (ap (λ (l : List ℕ). word (wordsOf s) w ∷ l) (words-join s m n (suc w)))
 
-fields-words : (s : List ℕ) (n w : ℕ) → fieldsOf (parseFields (wordsOf s) n w) ≡ wordsFrom s (6 * n) w
+fields-words : (ls : List NameList) (s : List ℕ) (n w : ℕ)
+    → fieldsOf (parseFields ls (wordsOf s) n w) ≡ wordsFrom s (7 * n) w
 unfolding fieldsOf parseFields wordsFrom
-fields-words s zero w = refl
-fields-words s (suc n) w =
-    let e : 6 * suc n ≡ suc (suc (suc (suc (suc (suc (6 * n)))))) = omega arith in
-    rw (e, fields-words s n (w + 6)) (simp towards-suc)
+fields-words ls s zero w = refl
+fields-words ls s (suc n) w =
+    let e : 7 * suc n ≡ suc (suc (suc (suc (suc (suc (suc (7 * n))))))) = omega arith in
+    rw (e, fields-words ls s n (w + 7)) (simp towards-suc)
 
 datas-words : (s : List ℕ) (n w : ℕ) → datasOf (parseDatas (wordsOf s) n w) ≡ wordsFrom s (2 * n) w
 unfolding datasOf parseDatas wordsFrom
@@ -71,84 +73,87 @@ spread-is t s =
     (λ w a e h. omega (arith, a .whole))
     t
 
-fields-step : (b : List ℕ) (left f : ℕ) → 0 < left
-    → parseFields b left f ≡ fieldAt b f ∷ parseFields b (left - 1) (f + 6)
+fields-step : (ls : List NameList) (b : List ℕ) (left f : ℕ) → 0 < left
+    → parseFields ls b left f ≡ fieldAt ls b f ∷ parseFields ls b (left - 1) (f + 7)
 unfolding parseFields
-fields-step b zero f h = absurd (omega arith)
-fields-step b (suc left) f h = let j : suc left - 1 ≡ left = omega arith in rw j refl
+fields-step ls b zero f h = absurd (omega arith)
+fields-step ls b (suc left) f h = let j : suc left - 1 ≡ left = omega arith in rw j refl
 
--- The table and the need of the fields that are left: a field more, with the end e, of type t, length n and offset o.
-module _ (b : List ℕ) (f left e t n o : ℕ) (some-left : 0 < left) (is : e ≡ o + typeAt t .width * n)
-    (is-t : t ≡ word b (f + 1)) (is-n : n ≡ word b (f + 2)) (is-o : o ≡ word b (f + 3)) where
-  pub table-filled : {d₀ : List ℕ} {n₀ : ℕ} {all d : List ℕ} {at : ℕ} (d′ : List ℕ)
-      → Filling d₀ n₀ all d at (tableOf (parseFields b left f)) → d′ ≡ sets d at (worked e (typeAt t))
-      → Filling d₀ n₀ all d′ (at + 5) (tableOf (parseFields b (left - 1) (f + 6)))
+-- The table and the need of the fields that are left: a field more, with the end e, of type t, length n and offset o,
+-- whose list is at `place`.
+module _ (ls : List NameList) (from : ℕ) (b : List ℕ) (f left e t n o : ℕ) (some-left : 0 < left)
+    (is : e ≡ o + typeAt t .width * n) (is-t : t ≡ word b (f + 1)) (is-n : n ≡ word b (f + 2))
+    (is-o : o ≡ word b (f + 3)) where
+  pub table-filled : {d₀ : List ℕ} {n₀ : ℕ} {all d : List ℕ} {at : ℕ} (d′ : List ℕ) (place : ℕ)
+      → place ≡ placeOf (word b (f + 6)) ls from → Filling d₀ n₀ all d at (tableOf ls from (parseFields ls b left f))
+      → d′ ≡ sets d at (worked e (typeAt t) place)
+      → Filling d₀ n₀ all d′ (at + 6) (tableOf ls from (parseFields ls b (left - 1) (f + 7)))
   unfolding tableOf
-  table-filled d′ g q =
-      filling-on g (worked e (typeAt t)) _ d′ _ (rw (fields-step b left f some-left, is, is-t, is-n, is-o) refl) q refl
+  table-filled d′ place is-p g q =
+      filling-on g (worked e (typeAt t) place) _ d′ _
+      (rw (fields-step ls b left f some-left, is, is-t, is-n, is-o, is-p) refl) q refl
 
-  pub need-step : (version need v : ℕ) → v ≡ word b (f + 5) → needAfter version need (parseFields b left f)
-      ≡ needAfter version (if leb v version then e else need) (parseFields b (left - 1) (f + 6))
+  pub need-step : (version need v : ℕ) → v ≡ word b (f + 5) → needAfter version need (parseFields ls b left f)
+      ≡ needAfter version (if leb v version then e else need) (parseFields ls b (left - 1) (f + 7))
   unfolding needAfter
-  need-step version need v is-v = rw (fields-step b left f some-left, is, is-t, is-n, is-o, is-v) refl
+  need-step version need v is-v = rw (fields-step ls b left f some-left, is, is-t, is-n, is-o, is-v) refl
 
-pub no-fields : (b : List ℕ) (f left : ℕ) → left ≤ 0 → parseFields b left f ≡ []
+pub no-fields : (ls : List NameList) (b : List ℕ) (f left : ℕ) → left ≤ 0 → parseFields ls b left f ≡ []
 unfolding parseFields
-no-fields b f zero h = refl
-no-fields b f (suc left) h = absurd (omega arith)
+no-fields ls b f zero h = refl
+no-fields ls b f (suc left) h = absurd (omega arith)
 
 -- ---- a block's numbers
 
--- The block at word w of the octets s.
-module _ (s : List ℕ) (w : ℕ) where
-  abbrev b : List ℕ
-  b = wordsOf s
+-- The block at word w of the octets s, its head stored by sixes, of the length l and the counts f, g and d.
+pub head-stored : (s : List ℕ) (w id since need next at l f g d : ℕ) (d₀ d₁ d₂ : List ℕ) → l ≡ word (wordsOf s) w
+    → f ≡ manyFields s w → g ≡ manyGroups s w → d ≡ manyDatas s w
+    → d₁ ≡ sets d₀ at (id ∷ since ∷ l ∷ f ∷ g ∷ d ∷ [])
+    → d₂ ≡ sets d₁ (at + 6) (need ∷ (g + d) ∷ next ∷ (at + 12 + 7 * f + 2 * d + 6 * f) ∷ (at + 12 + 7 * f)
+    ∷ (at + 12 + 7 * f + 2 * d) ∷ [])
+    → d₂ ≡ sets d₀ at (headAt s w id since need next at)
+head-stored s w id since need next at l f g d d₀ d₁ d₂ el ef eg ed p q =
+    let n : at + 12 + 7 * f + 2 * d + 6 * f ≡ at + sizeAt s w = omega arith in
+    q ∙ rw (p, n, el, ef, eg, ed) (simp towards-suc)
 
-  fields-are : length (shapeAt s w .fields) ≡ manyFields s w
-  fields-are = fields-length b (manyFields s w) (w + 4)
+module _ (ls : List NameList) (s : List ℕ) (w : ℕ) where
+  fields-are : length (shapeAt ls s w .fields) ≡ manyFields s w
+  fields-are = fields-length ls (wordsOf s) (manyFields s w) (w + 4)
 
-  datas-are : length (shapeAt s w .datas) ≡ manyDatas s w
-  datas-are = datas-length b (manyDatas s w) (w + 4 + 6 * manyFields s w)
+  datas-are : length (shapeAt ls s w .datas) ≡ manyDatas s w
+  datas-are = datas-length (wordsOf s) (manyDatas s w) (w + 4 + 7 * manyFields s w)
 
-  pub block-size : blockSize (shapeAt s w) ≡ sizeAt s w
+  pub block-size : blockSize (shapeAt ls s w) ≡ sizeAt s w
   block-size = omega (arith, fields-are, datas-are)
 
-  -- The head is stored by sixes, of the length l and the counts f, g and d.
-  pub head-stored : (id since need next at l f g d : ℕ) (d₀ d₁ d₂ : List ℕ) → l ≡ word b w → f ≡ manyFields s w
-      → g ≡ manyGroups s w → d ≡ manyDatas s w → d₁ ≡ sets d₀ at (id ∷ since ∷ l ∷ f ∷ g ∷ d ∷ [])
-      → d₂ ≡ sets d₁ (at + 6) (need ∷ (g + d) ∷ next ∷ (at + 12 + 6 * f + 2 * d + 5 * f) ∷ (at + 12 + 6 * f)
-      ∷ (at + 12 + 6 * f + 2 * d) ∷ [])
-      → d₂ ≡ sets d₀ at (headAt s w id since need next at)
-  head-stored id since need next at l f g d d₀ d₁ d₂ el ef eg ed p q =
-      let n : at + 12 + 6 * f + 2 * d + 5 * f ≡ at + sizeAt s w = omega arith in
-      q ∙ rw (p, n, el, ef, eg, ed) (simp towards-suc)
+  module _ (from : ℕ) where
+    pub elements-long : length (elementsAt ls s w from) + 12 ≡ sizeAt s w
+    elements-long = simp (length-append, length-words, length-table, fields-are) (omega arith)
 
-  pub elements-long : length (elementsAt s w) + 12 ≡ sizeAt s w
-  elements-long = simp (length-append, length-words, length-table, fields-are) (omega arith)
+    -- n words are stored, and then the table of f fields.
+    pub elements-stored : (f n start : ℕ) (d d₁ d₂ : List ℕ) → f ≡ manyFields s w → n ≡ 7 * f + 2 * manyDatas s w
+        → d₁ ≡ sets d start (wordsFrom s n (w + 4))
+        → d₂ ≡ sets d₁ (start + n) (tableOf ls from (parseFields ls (wordsOf s) f (w + 4)))
+        → d₂ ≡ sets d start (elementsAt ls s w from)
+    elements-stored f n start d d₁ d₂ ef en p q =
+        let k = 7 * manyFields s w + 2 * manyDatas s w in
+        q ∙ rw (p, en, ef) (sym (sets-append d start (wordsFrom s k (w + 4)) (tableOf ls from (shapeAt ls s w .fields))
+        ∙ rw length-words refl))
 
-  -- n words are stored, and then the table of f fields.
-  pub elements-stored : (f n start : ℕ) (d d₁ d₂ : List ℕ) → f ≡ manyFields s w → n ≡ 6 * f + 2 * manyDatas s w
-      → d₁ ≡ sets d start (wordsFrom s n (w + 4)) → d₂ ≡ sets d₁ (start + n) (tableOf (parseFields b f (w + 4)))
-      → d₂ ≡ sets d start (elementsAt s w)
-  elements-stored f n start d d₁ d₂ ef en p q =
-      let k = 6 * manyFields s w + 2 * manyDatas s w in
-      q ∙ rw (p, en, ef) (sym (sets-append d start (wordsFrom s k (w + 4)) (tableOf (shapeAt s w .fields))
-      ∙ rw length-words refl))
-
-  pub block-is : (version id since need next at : ℕ) → need ≡ needOf version (shapeAt s w)
-      → blockOf version id since (shapeAt s w) (manyGroups s w) next at
-      ≡ headAt s w id since need next at ++ elementsAt s w
-  block-is version id since need next at en =
-      let f = manyFields s w in
-      let d = manyDatas s w in
-      let q : at + (12 + 6 * f + 2 * d + 5 * f) ≡ at + sizeAt s w = omega arith in
-      rw (
-        en,
-        fields-are,
-        datas-are,
-        q,
-        fields-words s f (w + 4),
-        datas-words s d (w + 4 + 6 * f),
-        words-join s (6 * f) (2 * d) (w + 4),
-        append-assoc,
-      ) refl
+    pub block-is : (version id since need next at : ℕ) → need ≡ needOf version (shapeAt ls s w)
+        → blockOf ls from version id since (shapeAt ls s w) (manyGroups s w) next at
+        ≡ headAt s w id since need next at ++ elementsAt ls s w from
+    block-is version id since need next at en =
+        let f = manyFields s w in
+        let d = manyDatas s w in
+        let q : at + (12 + 7 * f + 2 * d + 6 * f) ≡ at + sizeAt s w = omega arith in
+        rw (
+          en,
+          fields-are,
+          datas-are,
+          q,
+          fields-words ls s f (w + 4),
+          datas-words s d (w + 4 + 7 * f),
+          words-join s (7 * f) (2 * d) (w + 4),
+          append-assoc,
+        ) refl

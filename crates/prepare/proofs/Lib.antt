@@ -2,6 +2,8 @@ pub mod Filling
 pub mod Blocks
 pub mod Rows
 pub mod Sizes
+pub mod Lists
+pub mod Masks
 pub mod Templates
 pub mod Accepted
 pub mod Prepared

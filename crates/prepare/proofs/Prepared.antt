@@ -1,5 +1,5 @@
 -- What a caller may go by: where a book was prepared, the numbers that were counted are its prepared book; a room of
--- 8,259 numbers is enough for every book.
+-- 8,260 numbers is enough for every book.
 use mathlib.Core.Path.{_≡_, _∙_, ap, refl, sym}
 use mathlib.Core.Bool.{true}
 use mathlib.Core.List.{List, _++_}
@@ -64,8 +64,8 @@ has-prepared s before n after h = go (preparing s (length before)) refl (h .answ
 
 -- ---- refused
 
--- A room of 8,259 numbers is enough.
-enough : (s : List ℕ) (b : Book) → bookOf s ≡ done b → (k : ℕ) → 8259 ≤ k → preparing s k ≡ done (preparedOf b)
+-- A room of 8,260 numbers is enough.
+enough : (s : List ℕ) (b : Book) → bookOf s ≡ done b → (k : ℕ) → 8260 ≤ k → preparing s k ≡ done (preparedOf b)
 unfolding preparing _>>=_ must
 enough s b e k h =
     let fits : leb (length (preparedOf b)) k ≡ true =
@@ -84,7 +84,7 @@ unfolding counted preparing _>>=_
 at-once s k z m i e h = rw e at h
 
 -- So nothing but the book is refused.
-pub book-refused : (s before : List ℕ) (z : Refusal) (after : List ℕ) → 8259 ≤ length before
+pub book-refused : (s before : List ℕ) (z : Refusal) (after : List ℕ) → 8260 ≤ length before
     → Prepares s before (Refused z) after → bookOf s ≡ refused (z .number) (z .place)
 book-refused s before z after k h = go (bookOf s) refl
   where

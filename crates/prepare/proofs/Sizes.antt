@@ -1,6 +1,6 @@
 -- In a body blocks lie one after the other, whatever groups they are in.
 use mathlib.Core.Path.{_≡_, refl}
-use mathlib.Core.List.{List}
+use mathlib.Core.List.{List, []}
 use Prim.Native.Nat.{ℕ, zero, suc, _+_, _/_, _≤_, _<_}
 use native.Mathlib.Omega.{arith}
 use lib.ListN.{length}
@@ -17,7 +17,7 @@ pub data Run (s : List ℕ) (e : ℕ) : ℕ → ℕ → Type 0 where
       → n ≡ sizeAt s (w + 2) + k → Run s e w n
 
 run-row : (s : List ℕ) (e depth n w k m : ℕ) → IsRow s depth n w → Run s e (groupsEnd s depth n w) k
-    → m ≡ groupsSize (groupsAt s depth n w) + k → Run s e w m
+    → m ≡ groupsSize (groupsAt [] s depth n w) + k → Run s e w m
 unfolding IsRow groupsEnd groupsAt groupsSize
 run-row s e zero zero w k m row run q = let j : m ≡ k = omega arith in rw j run
 run-row s e (suc depth) zero w k m row run q = let j : m ≡ k = omega arith in rw j run
@@ -25,7 +25,7 @@ run-row s e zero (suc n) w k m row run q = absurd row
 run-row s e (suc depth) (suc n) w k m row run q =
     goes {n = m} (row .0)
     (run-row s e depth _ _ _ _ (row .1) (run-row s e (suc depth) n _ k _ (row .2) run refl) refl)
-    (omega (arith, block-size s (w + 2)))
+    (omega (arith, block-size [] s (w + 2)))
 
 -- Blocks of as many numbers as are to be seen lie from word w on.
 pub record Seeing (s : List ℕ) (w seen : ℕ) : Type 0 where
@@ -36,7 +36,7 @@ pub record Seeing (s : List ℕ) (w seen : ℕ) : Type 0 where
 pub seeing-starts : (s : List ℕ) → IsBody s → (w seen : ℕ) → w ≡ groupsFrom s 0 → seen ≡ sizeAt s 0 → Seeing s w seen
 seeing-starts s body w seen ew es =
     record {
-      left = groupsSize (innerAt s 4 0);
+      left = groupsSize (innerAt [] s 4 0);
       run = rw ew (run-row s _ 4 (manyGroups s 0) (groupsFrom s 0) 0 _ (body .block .row) (ends (body .end) refl)
           (omega arith));
       sum = omega arith;

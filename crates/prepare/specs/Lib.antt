@@ -1,3 +1,4 @@
+pub mod Names
 pub mod Positions
 pub mod Prepares
 pub mod Templates

@@ -1,5 +1,5 @@
--- Where the parts of a block stand among the words of a body with the octets s, the trees that they are, and what is
--- made of them in the code's steps.
+-- Where the parts of a block stand among the words of a body with the octets s, the trees that they are by the book's
+-- lists ls, and what is made of them in the code's steps.
 use mathlib.Core.Path.{_≡_}
 use mathlib.Core.List.{List, [], _∷_, _++_}
 use Prim.Native.Nat.{ℕ, zero, suc, _+_, _-_, _*_, _/_, _≤_, _<_}
@@ -8,11 +8,12 @@ use Rattle.layout.specs.Octets.{wordsOf}
 use Rattle.layout.specs.Types.{TypeRow}
 use Rattle.layout.specs.Book.{Groups, Shape, more, none}
 use Rattle.layout.specs.BookRules.{word, parseDatas, parseFields}
+use Rattle.layout.specs.Lists.{NameList}
 use Rattle.prepared.specs.Numbers.{groupsSize, spread, tableOf}
 
--- What is worked out of a field with this end, of the type k.
-abbrev pub worked : ℕ → TypeRow → List ℕ
-worked end k = end ∷ k .least ∷ spread k ∷ k .null ∷ k .width ∷ []
+-- What is worked out of a field with this end, of the type k, whose list is at `place`.
+abbrev pub worked : ℕ → TypeRow → ℕ → List ℕ
+worked end k place = end ∷ k .least ∷ spread k ∷ k .null ∷ k .width ∷ place ∷ []
 
 -- n words from word w on.
 unfoldable pub wordsFrom : List ℕ → ℕ → ℕ → List ℕ
@@ -31,28 +32,30 @@ module _ (s : List ℕ) (w : ℕ) where
   manyDatas = word (wordsOf s) (w + 3)
 
   abbrev pub groupsFrom : ℕ
-  groupsFrom = w + 4 + 6 * manyFields + 2 * manyDatas
-
-  abbrev pub shapeAt : Shape
-  shapeAt =
-      record {
-        length = word (wordsOf s) w;
-        fields = parseFields (wordsOf s) manyFields (w + 4);
-        datas = parseDatas (wordsOf s) manyDatas (w + 4 + 6 * manyFields);
-      }
+  groupsFrom = w + 4 + 7 * manyFields + 2 * manyDatas
 
   -- How many numbers it is without its groups: its head, and then its fields, its data and its fields' table.
   abbrev pub sizeAt : ℕ
-  sizeAt = 12 + 11 * manyFields + 2 * manyDatas
+  sizeAt = 12 + 13 * manyFields + 2 * manyDatas
 
   abbrev pub headAt : ℕ → ℕ → ℕ → ℕ → ℕ → List ℕ
   headAt id since need next at =
       id ∷ since ∷ word (wordsOf s) w ∷ manyFields ∷ manyGroups ∷ manyDatas ∷ need ∷ (manyGroups + manyDatas) ∷ next
-      ∷ (at + sizeAt) ∷ (at + 12 + 6 * manyFields) ∷ (at + 12 + 6 * manyFields + 2 * manyDatas) ∷ []
+      ∷ (at + sizeAt) ∷ (at + 12 + 7 * manyFields) ∷ (at + 12 + 7 * manyFields + 2 * manyDatas) ∷ []
 
-  abbrev pub elementsAt : List ℕ
-  elementsAt =
-      wordsFrom s (6 * manyFields + 2 * manyDatas) (w + 4) ++ tableOf (parseFields (wordsOf s) manyFields (w + 4))
+-- The shape of the block at word w, and its elements' numbers, the first list standing at `from`.
+module _ (ls : List NameList) (s : List ℕ) (w : ℕ) where
+  abbrev pub shapeAt : Shape
+  shapeAt =
+      record {
+        length = word (wordsOf s) w;
+        fields = parseFields ls (wordsOf s) (manyFields s w) (w + 4);
+        datas = parseDatas (wordsOf s) (manyDatas s w) (w + 4 + 7 * manyFields s w);
+      }
+
+  abbrev pub elementsAt : ℕ → List ℕ
+  elementsAt from =
+      wordsFrom s (7 * manyFields s w + 2 * manyDatas s w) (w + 4) ++ tableOf ls from (shapeAt .fields)
 
 -- The word after the n groups in a row at word w, `depth` more levels being left, and the groups.
 unfoldable pub groupsEnd : List ℕ → ℕ → ℕ → ℕ → ℕ
@@ -62,14 +65,14 @@ groupsEnd s zero (suc n) w = w
 groupsEnd s (suc depth) (suc n) w =
     groupsEnd s (suc depth) n (groupsEnd s depth (manyGroups s (w + 2)) (groupsFrom s (w + 2)))
 
-unfoldable pub groupsAt : List ℕ → ℕ → ℕ → ℕ → Groups
-groupsAt s zero zero w = none
-groupsAt s (suc depth) zero w = none
-groupsAt s zero (suc n) w = none
-groupsAt s (suc depth) (suc n) w =
-    more (word (wordsOf s) w) (word (wordsOf s) (w + 1)) (shapeAt s (w + 2))
-    (groupsAt s depth (manyGroups s (w + 2)) (groupsFrom s (w + 2)))
-    (groupsAt s (suc depth) n (groupsEnd s depth (manyGroups s (w + 2)) (groupsFrom s (w + 2))))
+unfoldable pub groupsAt : List NameList → List ℕ → ℕ → ℕ → ℕ → Groups
+groupsAt ls s zero zero w = none
+groupsAt ls s (suc depth) zero w = none
+groupsAt ls s zero (suc n) w = none
+groupsAt ls s (suc depth) (suc n) w =
+    more (word (wordsOf s) w) (word (wordsOf s) (w + 1)) (shapeAt ls s (w + 2))
+    (groupsAt ls s depth (manyGroups s (w + 2)) (groupsFrom s (w + 2)))
+    (groupsAt ls s (suc depth) n (groupsEnd s depth (manyGroups s (w + 2)) (groupsFrom s (w + 2))))
 
 -- They stand there.
 unfoldable pub IsRow : List ℕ → ℕ → ℕ → ℕ → Type 0
@@ -81,20 +84,21 @@ IsRow s (suc depth) (suc n) w =
     × IsRow s (suc depth) n (groupsEnd s depth (manyGroups s (w + 2)) (groupsFrom s (w + 2)))
 
 -- The groups of the block at word w, and the word after them.
-module _ (s : List ℕ) (depth w : ℕ) where
+module _ (ls : List NameList) (s : List ℕ) (depth w : ℕ) where
   abbrev pub innerAt : Groups
-  innerAt = groupsAt s depth (manyGroups s w) (groupsFrom s w)
-
-  abbrev pub innerEnd : ℕ
-  innerEnd = groupsEnd s depth (manyGroups s w) (groupsFrom s w)
-
-  -- How many numbers the block is with its groups.
-  abbrev pub groupSize : ℕ
-  groupSize = sizeAt s w + groupsSize innerAt
+  innerAt = groupsAt ls s depth (manyGroups s w) (groupsFrom s w)
 
   -- The block as a group with this id and since, alone in its row.
   abbrev pub groupAt : ℕ → ℕ → Groups
-  groupAt id since = more id since (shapeAt s w) innerAt none
+  groupAt id since = more id since (shapeAt ls s w) innerAt none
+
+module _ (s : List ℕ) (depth w : ℕ) where
+  abbrev pub innerEnd : ℕ
+  innerEnd = groupsEnd s depth (manyGroups s w) (groupsFrom s w)
+
+  -- How many numbers the block is with its groups, which does not depend on lists.
+  abbrev pub groupSize : ℕ
+  groupSize = sizeAt s w + groupsSize (innerAt [] s depth w)
 
   pub record BlockAt : Type 0 where
     pub fits : groupsFrom s w ≤ length s / 2
@@ -106,6 +110,6 @@ pub record Opened (s : List ℕ) (depth n w : ℕ) : Type 0 where
   pub block : BlockAt s (depth - 1) (w + 2)
   pub rest : IsRow s depth (n - 1) (innerEnd s (depth - 1) (w + 2))
   pub end : groupsEnd s depth n w ≡ groupsEnd s depth (n - 1) (innerEnd s (depth - 1) (w + 2))
-  pub tree : groupsAt s depth n w
-      ≡ more (word (wordsOf s) w) (word (wordsOf s) (w + 1)) (shapeAt s (w + 2)) (innerAt s (depth - 1) (w + 2))
-      (groupsAt s depth (n - 1) (innerEnd s (depth - 1) (w + 2)))
+  pub tree : (ls : List NameList) → groupsAt ls s depth n w
+      ≡ more (word (wordsOf s) w) (word (wordsOf s) (w + 1)) (shapeAt ls s (w + 2)) (innerAt ls s (depth - 1) (w + 2))
+      (groupsAt ls s depth (n - 1) (innerEnd s (depth - 1) (w + 2)))

@@ -7,7 +7,8 @@ use lib.Seq.{sets}
 use Rattle.layout.specs.Octets.{wordsOf}
 use Rattle.layout.specs.Book.{Book, Template}
 use Rattle.layout.specs.BookRules.{word}
-use Rattle.prepared.specs.Numbers.{groupsOf, rowOf, sizesOf}
+use Rattle.prepared.specs.Numbers.{listsFrom, listsSize, rowOf, sizesOf, slots, slotsFrom}
+use Rattle.prepare.specs.Names.{GoodLists, groupsIn, listsIn}
 use Rattle.prepare.specs.Positions.{BlockAt, groupSize, innerAt, innerEnd, shapeAt}
 
 -- s are the octets of a template's body.
@@ -25,7 +26,8 @@ module _ (s : List ℕ) (w : ℕ) where
       take (k + 2 * word (wordsOf s) (w + 2) - k) (drop k s)
 
   abbrev pub templateAt : Template
-  templateAt = record { id = word (wordsOf s) w; shape = shapeAt bodyAt 0; groups = innerAt bodyAt 4 0 }
+  templateAt =
+      record { id = word (wordsOf s) w; shape = shapeAt (listsIn s) bodyAt 0; groups = innerAt (listsIn s) bodyAt 4 0 }
 
   -- How many numbers it is.
   abbrev pub templateSize : ℕ
@@ -48,16 +50,15 @@ AreTemplates s (suc n) w = IsTemplate s w × AreTemplates s n (w + 3)
 abbrev pub bookAt : List ℕ → Book
 bookAt s =
     let b = wordsOf s in
-    record { schema = word b 0; version = word b 1; templates = templatesAt s (word b 2) 4 }
+    record { schema = word b 0; version = word b 1; lists = listsIn s; templates = templatesAt s (word b 2) 5 }
 
 -- A book of n templates, with its head: few enough numbers for every sum of the code.
 pub record IsPreparable (s : List ℕ) (n : ℕ) : Type 0 where
-  pub head : 4 ≤ length s / 2
+  pub lists : GoodLists s
   pub count : n ≡ word (wordsOf s) 2
-  pub templates : AreTemplates s n 4
-  pub few : 67 + 2 * n + sizesOf (templatesAt s n 4) ≤ 65535
+  pub templates : AreTemplates s n 5
+  pub few : listsFrom n + listsSize (listsIn s) + sizesOf (templatesAt s n 5) ≤ 65535
 
 -- The room d once a template is stored: its slot, its row of the contents at c, and its block from `at` on.
-abbrev pub laid : ℕ → Template → ℕ → ℕ → List ℕ → List ℕ
-laid version t c at d =
-    sets (sets (set d (3 + t .id % 64) at) c (t .id ∷ at ∷ [])) at (groupsOf version (rowOf t) at)
+abbrev pub laid : List ℕ → Template → ℕ → ℕ → List ℕ → List ℕ
+laid s t c at d = sets (sets (set d (slotsFrom + t .id % slots) at) c (t .id ∷ at ∷ [])) at (groupsIn s (rowOf t) at)

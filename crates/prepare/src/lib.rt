@@ -1,21 +1,27 @@
 // Makes the prepared book of an accepted one: fills the lent room with its numbers.
+use book::Listed;
 use layout::Checked;
 use layout::Counted;
 use layout::Refusal;
 use std::num::wrapping_sub_u64;
 ghost use mathlib.Core.Path.{_≡_};
+ghost use mathlib.Core.Bool.{true};
 ghost use mathlib.Core.List.{[], _∷_};
 ghost use Prim.Native.Nat.{_+_, _*_, _/_, _<_, _≤_};
 ghost use lib.Dec.{leb};
-ghost use lib.ListN.{length, replicate};
+ghost use lib.ListN.{drop, length, replicate, take};
 ghost use lib.Seq.{sets};
 ghost use Rattle.layout.specs.Result.{if_then_else_};
 ghost use Rattle.layout.specs.Octets.{wordsOf};
 ghost use Rattle.layout.specs.Types.{typeAt};
 ghost use Rattle.layout.specs.Book.{need as needOf, needAfter};
-ghost use Rattle.layout.specs.BookRules.{parseFields};
-ghost use Rattle.prepared.specs.Numbers.{groupsOf, preparedOf, sizesOf, tableOf};
+ghost use Rattle.layout.specs.BookRules.{climbing, word};
+ghost use Rattle.book.specs.Rows.{listAt};
+ghost use Rattle.prepared.specs.Numbers.{bitOf, listNumbers, listSize, listsNumbers, listsSize, maskOf, preparedOf};
+ghost use Rattle.prepared.specs.Numbers.{sizesOf};
 ghost use Rattle.prepare.specs.Prepares.{IsBook, Prepares};
+ghost use Rattle.prepare.specs.Names.{GoodLists, IsGoodList, fieldsIn, fromIn, groupsIn, listsIn, placeIn};
+ghost use Rattle.prepare.specs.Names.{tableIn, versionOf};
 ghost use Rattle.prepare.specs.Positions.{BlockAt, IsRow, Opened, elementsAt, groupAt, groupSize, groupsFrom};
 ghost use Rattle.prepare.specs.Positions.{headAt, innerEnd, shapeAt, sizeAt, wordsFrom, worked};
 ghost use Rattle.prepare.specs.Templates.{AreTemplates, IsBody, IsPreparable, IsTemplate, bookAt};
@@ -34,7 +40,7 @@ fn size_block(body: &[u8], w: usize) -> usize
     requires { ⌜ groupsFrom (now body) w ≤ length (now body) / 2 ⌝ }
     ensures { λ r. ⌜ r ≡ sizeAt (now (body .entry)) w ⌝ }
 {
-    12 + 11 * book::word(body, w + 1) + 2 * book::word(body, w + 3)
+    12 + 13 * book::word(body, w + 1) + 2 * book::word(body, w + 3)
 }
 
 // The word where its groups start.
@@ -42,7 +48,7 @@ fn groups_from(body: &[u8], w: usize) -> usize
     requires { ⌜ groupsFrom (now body) w ≤ length (now body) / 2 ⌝ }
     ensures { λ r. ⌜ r ≡ groupsFrom (now (body .entry)) w ⌝ }
 {
-    w + 4 + 6 * book::word(body, w + 1) + 2 * book::word(body, w + 3)
+    w + 4 + 7 * book::word(body, w + 1) + 2 * book::word(body, w + 3)
 }
 
 // The n words from `from` on, as numbers.
@@ -61,10 +67,10 @@ fn copy_words(body: &[u8], from: usize, n: usize, room: &mut [u64], start: usize
     }
 }
 
-// What is worked out of a field with this end, of type t.
-fn put_worked(room: &mut [u64], at: usize, end: usize, t: usize)
-    requires { ⌜ at + 5 ≤ length (now room) ⌝ }
-    ensures { λ _. ⌜ now (room .exit) ≡ sets (now (room .entry)) at (worked end (typeAt t)) ⌝ }
+// What is worked out of a field with this end, of type t, whose list is at `place`.
+fn put_worked(room: &mut [u64], at: usize, end: usize, t: usize, place: usize)
+    requires { ⌜ at + 6 ≤ length (now room) ⌝ }
+    ensures { λ _. ⌜ now (room .exit) ≡ sets (now (room .entry)) at (worked end (typeAt t) place) ⌝ }
 {
     let k = number_types::number_type(t);
     room[at] = end as u64;
@@ -72,6 +78,25 @@ fn put_worked(room: &mut [u64], at: usize, end: usize, t: usize)
     room[at + 2] = wrapping_sub_u64(k.greatest, k.least);
     room[at + 3] = k.null;
     room[at + 4] = k.width as u64;
+    room[at + 5] = place as u64;
+}
+
+// The place of the list that a field's seventh word leads to, 0 if it leads to none: a list has three numbers more than
+// words, and in the book lists lie back to back.
+fn place_of(book: &[u8], list: usize) -> usize
+    requires { ⌜ GoodLists (now book) ⌝ }
+    ensures { λ r. ⌜ r ≡ placeIn (now (book .entry)) list ⌝ }
+{
+    if list == 0 {
+        return 0;
+    }
+    let Listed::At(i) = book::find_list(book, list - 1) else {
+        return 0;
+    };
+    let n = book::word(book, 2);
+    let rows = 5 + 3 * n;
+    let first = book::word(book, rows + 1);
+    68 + 2 * n + 3 * i + (book::word(book, rows + 3 * i + 1) - first)
 }
 
 // The need after a field with this end: its own, if it is present.
@@ -83,18 +108,20 @@ fn need_after(since: usize, version: usize, end: usize, need: usize) -> usize
 
 // The table of the n fields at word `from`; their need is the answer.
 fn put_table(
+    book: &[u8],
     body: &[u8],
     from: usize,
     n: usize,
-    version: usize,
     room: &mut [u64],
     start: usize,
 ) -> usize
-    requires { ⌜ (from + 6 * n ≤ length (now body) / 2) × (start + 5 * n ≤ length (now room)) ⌝ }
-    ensures { λ r. ⌜ r ≡ needAfter version 0 (parseFields (wordsOf (now (body .entry))) n from) ⌝ }
-    ensures { λ _. ⌜ now (room .exit) ≡ sets (now (room .entry)) start (tableOf (parseFields (wordsOf (now
-        (body .entry))) n from)) ⌝ }
+    requires { ⌜ GoodLists (now book) × (from + 7 * n ≤ length (now body) / 2) × (start + 6 * n ≤ length (now room)) ⌝ }
+    ensures { λ r. ⌜ r ≡ needAfter (versionOf (now (book .entry))) 0 (fieldsIn (now (book .entry)) (now
+        (body .entry)) n from) ⌝ }
+    ensures { λ _. ⌜ now (room .exit) ≡ sets (now (room .entry)) start (tableIn (now (book .entry)) (fieldsIn (now
+        (book .entry)) (now (body .entry)) n from)) ⌝ }
 {
+    let version = book::word(book, 1);
     let mut left = n;
     let mut f = from;
     let mut at = start;
@@ -103,26 +130,28 @@ fn put_table(
         let t = book::word(body, f + 1);
         let k = book::word(body, f + 2);
         let end = book::field_end(t, k, book::word(body, f + 3));
-        put_worked(room, at, end, t);
+        put_worked(room, at, end, t, place_of(book, book::word(body, f + 6)));
         need = need_after(book::word(body, f + 5), version, end, need);
-        f = f + 6;
-        at = at + 5;
+        f = f + 7;
+        at = at + 6;
         left = left - 1;
     }
     need
 }
 
 // Its fields, its data and its fields' table, stored from `start` on; its need is the answer.
-fn put_elements(body: &[u8], w: usize, version: usize, room: &mut [u64], start: usize) -> usize
-    requires { ⌜ (groupsFrom (now body) w ≤ length (now body) / 2)
+fn put_elements(book: &[u8], body: &[u8], w: usize, room: &mut [u64], start: usize) -> usize
+    requires { ⌜ GoodLists (now book) × (groupsFrom (now body) w ≤ length (now body) / 2)
         × (start + sizeAt (now body) w ≤ length (now room) + 12) ⌝ }
-    ensures { λ r. ⌜ r ≡ needOf version (shapeAt (now (body .entry)) w) ⌝ }
-    ensures { λ _. ⌜ now (room .exit) ≡ sets (now (room .entry)) start (elementsAt (now (body .entry)) w) ⌝ }
+    ensures { λ r. ⌜ r ≡ needOf (versionOf (now (book .entry))) (shapeAt (listsIn (now (book .entry))) (now
+        (body .entry)) w) ⌝ }
+    ensures { λ _. ⌜ now (room .exit) ≡ sets (now (room .entry)) start (elementsAt (listsIn (now
+        (book .entry))) (now (body .entry)) w (fromIn (now (book .entry)))) ⌝ }
 {
     let f = book::word(body, w + 1);
-    let n = 6 * f + 2 * book::word(body, w + 3);
+    let n = 7 * f + 2 * book::word(body, w + 3);
     copy_words(body, w + 4, n, room, start);
-    put_table(body, w + 4, f, version, room, start + n)
+    put_table(book, body, w + 4, f, room, start + n)
 }
 
 fn put_six(room: &mut [u64], at: usize, a: usize, b: usize, c: usize, d: usize, e: usize, f: usize)
@@ -156,10 +185,10 @@ fn put_head(
     let f = book::word(body, w + 1);
     let g = book::word(body, w + 2);
     let d = book::word(body, w + 3);
-    let datas = at + 12 + 6 * f;
+    let datas = at + 12 + 7 * f;
     let table = datas + 2 * d;
     put_six(room, at, id, since, l, f, g, d);
-    put_six(room, at + 6, need, g + d, next, table + 5 * f, datas, table);
+    put_six(room, at + 6, need, g + d, next, table + 6 * f, datas, table);
 }
 
 // Does nothing. Its contract is a law: what the first of the n groups at word w is good for.
@@ -170,23 +199,23 @@ fn open_row(body: &[u8], w: usize, n: usize, depth: usize)
 
 // The block with its groups, stored from `at` on: its head last, when it is known where they end.
 fn put_group(
+    book: &[u8],
     body: &[u8],
     w: usize,
     id: usize,
     since: usize,
     depth: usize,
-    version: usize,
     room: &mut [u64],
     at: usize,
 ) -> Ends
-    requires { ⌜ BlockAt (now body) depth w
+    requires { ⌜ GoodLists (now book) × BlockAt (now body) depth w
         × (at + groupSize (now body) depth w ≤ length (now room)) ⌝ }
     ensures { λ r. ⌜ (r .word ≡ innerEnd (now (body .entry)) depth w)
         × (r .at ≡ at + groupSize (now (body .entry)) depth w) ⌝ }
-    ensures { λ _. ⌜ now (room .exit) ≡ sets (now (room .entry)) at (groupsOf version (groupAt (now (body .entry))
-        depth w id since) at) ⌝ }
+    ensures { λ _. ⌜ now (room .exit) ≡ sets (now (room .entry)) at (groupsIn (now (book .entry)) (groupAt (listsIn
+        (now (book .entry))) (now (body .entry)) depth w id since) at) ⌝ }
 {
-    let need = put_elements(body, w, version, room, at + 12);
+    let need = put_elements(book, body, w, room, at + 12);
     let mut to = at + size_block(body, w);
     let mut x = groups_from(body, w);
     let mut left = book::word(body, w + 2);
@@ -194,13 +223,87 @@ fn put_group(
         open_row(body, x, left, depth);
         let i = book::word(body, x);
         let s = book::word(body, x + 1);
-        let r = put_group(body, x + 2, i, s, depth - 1, version, room, to);
+        let r = put_group(book, body, x + 2, i, s, depth - 1, room, to);
         to = r.at;
         x = r.word;
         left = left - 1;
     }
     put_head(body, w, id, since, need, to, room, at);
     Ends { word: x, at: to }
+}
+
+// ---- lists
+
+// The number whose one bit is this, of which 64-bit numbers have those below 64.
+fn bit_of(n: usize) -> u64
+    ensures { λ r. ⌜ r ≡ bitOf n ⌝ }
+{
+    if n < 64 {
+        return 1 << n;
+    }
+    0
+}
+
+// The mask of the n numbers at word `from`.
+fn mask_of(book: &[u8], from: usize, n: usize) -> u64
+    requires { ⌜ (from + n ≤ length (now book) / 2) × (climbing 0 (take n (drop from (wordsOf (now book)))) ≡ true) ⌝ }
+    ensures { λ r. ⌜ r ≡ maskOf (take n (drop from (wordsOf (now (book .entry))))) ⌝ }
+{
+    let mut left = n;
+    let mut w = from;
+    let mut mask = 0u64;
+    while 0 < left {
+        mask = mask + bit_of(book::word(book, w));
+        w = w + 1;
+        left = left - 1;
+    }
+    mask
+}
+
+// The list whose row is at word w, stored from `at` on: the place after it.
+fn put_list(book: &[u8], w: usize, room: &mut [u64], at: usize) -> usize
+    requires { ⌜ IsGoodList (now book) w × (at + 3 + word (wordsOf (now book)) (w + 2) ≤ length (now room)) ⌝ }
+    ensures { λ r. ⌜ r ≡ at + listSize (listAt (wordsOf (now (book .entry))) w) ⌝ }
+    ensures { λ _. ⌜ now (room .exit) ≡ sets (now (room .entry)) at (listNumbers (listAt (wordsOf (now
+        (book .entry))) w)) ⌝ }
+{
+    let first = book::word(book, w + 1);
+    let n = book::word(book, w + 2) - 1;
+    room[at] = book::word(book, w) as u64;
+    room[at + 1] = book::word(book, first) as u64;
+    room[at + 2] = mask_of(book, first + 1, n);
+    room[at + 3] = n as u64;
+    copy_words(book, first + 1, n, room, at + 4);
+    at + 4 + n
+}
+
+// All lists, stored from `start` on: the place after them.
+fn put_lists(book: &[u8], room: &mut [u64], start: usize) -> usize
+    requires { ⌜ GoodLists (now book) × (start + listsSize (listsIn (now book)) ≤ length (now room)) ⌝ }
+    ensures { λ r. ⌜ r ≡ start + listsSize (listsIn (now (book .entry))) ⌝ }
+    ensures { λ _. ⌜ now (room .exit) ≡ sets (now (room .entry)) start (listsNumbers (listsIn (now (book .entry)))) ⌝ }
+{
+    let mut left = book::word(book, 4);
+    let mut w = 5 + 3 * book::word(book, 2);
+    let mut at = start;
+    while 0 < left {
+        at = put_list(book, w, room, at);
+        w = w + 3;
+        left = left - 1;
+    }
+    at
+}
+
+// How many numbers all lists are: three more than words, each.
+fn size_lists(book: &[u8]) -> usize
+    requires { ⌜ GoodLists (now book) ⌝ }
+    ensures { λ r. ⌜ r ≡ listsSize (listsIn (now (book .entry))) ⌝ }
+{
+    let k = book::word(book, 4);
+    if k == 0 {
+        return 0;
+    }
+    3 * k + (book.len() / 2 - book::word(book, 6 + 3 * book::word(book, 2)))
 }
 
 // ---- templates
@@ -222,11 +325,11 @@ fn size_body(body: &[u8]) -> usize
 
 // How many numbers all n templates are.
 fn size_templates(book: &[u8], n: usize) -> usize
-    requires { ⌜ AreTemplates (now book) n 4 × (sizesOf (templatesAt (now book) n 4) ≤ 65535) ⌝ }
-    ensures { λ r. ⌜ r ≡ sizesOf (templatesAt (now (book .entry)) n 4) ⌝ }
+    requires { ⌜ AreTemplates (now book) n 5 × (sizesOf (templatesAt (now book) n 5) ≤ 65535) ⌝ }
+    ensures { λ r. ⌜ r ≡ sizesOf (templatesAt (now (book .entry)) n 5) ⌝ }
 {
     let mut left = n;
-    let mut w = 4;
+    let mut w = 5;
     let mut seen = 0;
     while 0 < left {
         let start = 2 * book::word(book, w + 1);
@@ -239,26 +342,20 @@ fn size_templates(book: &[u8], n: usize) -> usize
 }
 
 // The template whose row of the contents is at word w: its row stored at c, its slot, and its block from `at` on.
-fn put_template(
-    book: &[u8],
-    w: usize,
-    version: usize,
-    room: &mut [u64],
-    c: usize,
-    at: usize,
-) -> usize
-    requires { ⌜ IsTemplate (now book) w × (67 ≤ c) × (c + 2 ≤ at)
+fn put_template(book: &[u8], w: usize, room: &mut [u64], c: usize, at: usize) -> usize
+    requires { ⌜ GoodLists (now book) × IsTemplate (now book) w × (68 ≤ c) × (c + 2 ≤ at)
         × (at + templateSize (now book) w ≤ length (now room)) ⌝ }
     ensures { λ r. ⌜ r ≡ at + templateSize (now (book .entry)) w ⌝ }
-    ensures { λ _. ⌜ now (room .exit) ≡ laid version (templateAt (now (book .entry)) w) c at (now (room .entry)) ⌝ }
+    ensures { λ _. ⌜ now (room .exit) ≡ laid (now (book .entry)) (templateAt (now (book .entry)) w) c at (now
+        (room .entry)) ⌝ }
 {
     let id = book::word(book, w);
     let start = 2 * book::word(book, w + 1);
     let end = start + 2 * book::word(book, w + 2);
-    room[3 + id % 64] = at as u64;
+    room[4 + id % 64] = at as u64;
     room[c] = id as u64;
     room[c + 1] = at as u64;
-    let r = put_group(&book[start..end], 0, id, 0, 4, version, room, at);
+    let r = put_group(book, &book[start..end], 0, id, 0, 4, room, at);
     r.at
 }
 
@@ -277,20 +374,21 @@ fn put_zeros(room: &mut [u64], start: usize, n: usize)
 
 // All numbers of a book with n templates.
 fn put_book(book: &[u8], n: usize, room: &mut [u64])
-    requires { ⌜ IsPreparable (now book) n × (67 + 2 * n + sizesOf (templatesAt (now book) n 4) ≤ length (now room)) ⌝ }
+    requires { ⌜ IsPreparable (now book) n × (68 + 2 * n + listsSize (listsIn (now book))
+        + sizesOf (templatesAt (now book) n 5) ≤ length (now room)) ⌝ }
     ensures { λ _. ⌜ now (room .exit) ≡ sets (now (room .entry)) 0 (preparedOf (bookAt (now (book .entry)))) ⌝ }
 {
-    let version = book::word(book, 1);
     room[0] = book::word(book, 0) as u64;
-    room[1] = version as u64;
+    room[1] = book::word(book, 1) as u64;
     room[2] = n as u64;
-    put_zeros(room, 3, 64);
+    room[3] = book::word(book, 4) as u64;
+    put_zeros(room, 4, 64);
+    let mut at = put_lists(book, room, 68 + 2 * n);
     let mut left = n;
-    let mut w = 4;
-    let mut c = 67;
-    let mut at = 67 + 2 * n;
+    let mut w = 5;
+    let mut c = 68;
     while 0 < left {
-        at = put_template(book, w, version, room, c, at);
+        at = put_template(book, w, room, c, at);
         c = c + 2;
         w = w + 3;
         left = left - 1;
@@ -304,7 +402,7 @@ pub fn prepare(book: &[u8], room: &mut [u64]) -> Counted
     ensures { λ r. ⌜ Prepares (now (book .entry)) (now (room .entry)) r (now (room .exit)) ⌝ }
 {
     let n = book::word(book, 2);
-    let size = 67 + 2 * n + size_templates(book, n);
+    let size = 68 + 2 * n + size_lists(book) + size_templates(book, n);
     if room.len() < size {
         return Counted::Refused(Refusal {
             number: 40,

@@ -5,19 +5,22 @@ use Prim.Native.Nat.{ℕ, zero, suc, _+_, _*_, _%_, _≤_, _<_}
 use native.Mathlib.Omega.{arith}
 use lib.ListN.{getD, length, replicate, set}
 use Rattle.layout.specs.Octets.{null16}
+use Rattle.layout.specs.Lists.{NameList}
 use Rattle.layout.specs.Book.{Book, Template, groupSinces}
 use Rattle.layout.specs.BookRules.{word}
 use Rattle.layout.proofs.Stands.{Stands, all-stands, split-to}
-use Rattle.prepared.specs.Numbers.{bodiesOf, contentsOf, groupsOf, groupsSize, preparedOf, rowOf, slots}
-use Rattle.prepared.specs.Numbers.{slotsOf}
+use Rattle.prepared.specs.Numbers.{bodiesOf, contentsFrom, contentsOf, groupsOf, groupsSize, listsFrom}
+use Rattle.prepared.specs.Numbers.{listsNumbers, listsSize, preparedOf, rowOf, slots, slotsFrom, slotsOf}
+use Rattle.prepared.specs.Names.{listsAt}
 use Rattle.prepared.specs.Positions.{BlockAt, innerAt, shapeAt, versionAt}
 use Rattle.prepared.specs.Books.{HoldsBook, IsPrepared, IsSlot, bookAt, empty, idOf, leads, templateAt}
 use Rattle.prepared.specs.Books.{templatesAt}
 use Rattle.prepared.specs.Fits.{FitTemplates, Fits, FitsBook}
 use Rattle.prepared.proofs.Open.{open-row}
 use Rattle.prepared.proofs.Accepted.{accepted-fits}
-use Rattle.prepared.proofs.Prepared.{first-at, length-contents, length-groups, length-slots, number-at, rises}
-use Rattle.prepared.proofs.Prepared.{row-stands}
+use Rattle.prepared.proofs.Lists.{leads-to-names, lists-back}
+use Rattle.prepared.proofs.Prepared.{LeadsToNames, first-at, length-contents, length-groups, length-lists}
+use Rattle.prepared.proofs.Prepared.{length-slots, number-at, rises, row-stands}
 use Rattle.prepared.proofs.Rows.{shifted, unshifted}
 
 -- ---- slots
@@ -56,16 +59,17 @@ module _ (P : ℕ → Type 0) where
 
 -- ---- ids
 
-ids-next : (p : List ℕ) (version : ℕ) (ts : List Template) (low w to at : ℕ) → FitTemplates version low ts
-    → Stands p w (contentsOf ts at) to → (i : ℕ) → suc i < length ts → word p (w + 2 * i) < word p (w + 2 * suc i)
+ids-next : (p : List ℕ) (ls : List NameList) (version : ℕ) (ts : List Template) (low w to at : ℕ)
+    → FitTemplates ls version low ts → Stands p w (contentsOf ts at) to → (i : ℕ) → suc i < length ts
+    → word p (w + 2 * i) < word p (w + 2 * suc i)
 unfolding FitTemplates contentsOf
-ids-next p version [] low w to at f c i h = absurd (omega arith)
-ids-next p version (t ∷ []) low w to at f c zero h = absurd (omega arith)
-ids-next p version (t ∷ u ∷ ts) low w to at f c zero h =
+ids-next p ls version [] low w to at f c i h = absurd (omega arith)
+ids-next p ls version (t ∷ []) low w to at f c zero h = absurd (omega arith)
+ids-next p ls version (t ∷ u ∷ ts) low w to at f c zero h =
     rw (number-at c 0 (omega arith), number-at c 2 (omega arith)) (f .3 .0)
-ids-next p version (t ∷ ts) low w to at f c (suc i) h =
+ids-next p ls version (t ∷ ts) low w to at f c (suc i) h =
     rw (shifted w i, shifted w (suc i))
-    (ids-next p version ts (suc (t .id)) (w + 2) to _ (f .3) (contents-on t ts at c) i (omega arith))
+    (ids-next p ls version ts (suc (t .id)) (w + 2) to _ (f .3) (contents-on t ts at c) i (omega arith))
 
 -- ---- templates
 
@@ -74,18 +78,6 @@ record IsRead (p : List ℕ) (a : ℕ) (t : Template) : Type 0 where
   block : BlockAt p 4 a
   named : word p a ≡ t .id
   is : templateAt p a ≡ t
-
-template-stands : (p : List ℕ) → length p ≤ 65535 → (at to : ℕ) (t : Template) → Fits (versionAt p) 5 (rowOf t)
-    → Stands p at (groupsOf (versionAt p) (rowOf t) at) to → IsRead p at t
-unfolding groupSinces
-template-stands p short at to t f s =
-    let r = row-stands p short 5 at to (rowOf t) f s in
-    let o = open-row p 5 1 at (omega arith) (r .row) in
-    let e = sym (o .tree) ∙ r .tree in
-    let id-is : word p at ≡ t .id = cc in
-    let shape-is : shapeAt p at ≡ t .shape = cc in
-    let groups-are : innerAt p 4 at ≡ t .groups = cc in
-    record { block = o .first; named = id-is; is = rw (id-is, shape-is, groups-are) refl }
 
 -- The row of the contents at w leads to a template.
 record IsRow (p : List ℕ) (w : ℕ) : Type 0 where
@@ -98,9 +90,21 @@ rows-on : (p : List ℕ) (n w : ℕ) → IsRow p w → ((i : ℕ) → i < n → 
 rows-on p n w first rest zero h = subst (IsRow p) (sym (unshifted w)) first
 rows-on p n w first rest (suc i) h = subst (IsRow p) (sym (shifted w i)) (rest i (omega arith))
 
-module _ (p : List ℕ) (short : length p ≤ 65535) where
-  templates-stand : (ts : List Template) (low w to at end : ℕ) → FitTemplates (versionAt p) low ts
-      → Stands p w (contentsOf ts at) to → Stands p at (bodiesOf (versionAt p) ts at) end
+module _ (p : List ℕ) (short : length p ≤ 65535) (from : ℕ) (leads : LeadsToNames p from) where
+  template-stands : (at to : ℕ) (t : Template) → Fits (listsAt p) (versionAt p) 5 (rowOf t)
+      → Stands p at (groupsOf (listsAt p) from (versionAt p) (rowOf t) at) to → IsRead p at t
+  unfolding groupSinces
+  template-stands at to t f s =
+      let r = row-stands p short from leads 5 at to (rowOf t) f s in
+      let o = open-row p 5 1 at (omega arith) (r .row) in
+      let e = sym (o .tree) ∙ r .tree in
+      let id-is : word p at ≡ t .id = cc in
+      let shape-is : shapeAt p at ≡ t .shape = cc in
+      let groups-are : innerAt p 4 at ≡ t .groups = cc in
+      record { block = o .first; named = id-is; is = rw (id-is, shape-is, groups-are) refl }
+
+  templates-stand : (ts : List Template) (low w to at end : ℕ) → FitTemplates (listsAt p) (versionAt p) low ts
+      → Stands p w (contentsOf ts at) to → Stands p at (bodiesOf (listsAt p) from (versionAt p) ts at) end
       → ((i : ℕ) → i < length ts → IsRow p (w + 2 * i)) × (templatesAt p (length ts) w ≡ ts)
   unfolding FitTemplates templatesAt contentsOf bodiesOf
   templates-stand [] low w to at end f c b = (λ i h. absurd (omega arith), refl)
@@ -108,9 +112,10 @@ module _ (p : List ℕ) (short : length p ≤ 65535) where
       let next = at + groupsSize (rowOf t) in
       let id-is = first-at c in
       let place-is = number-at c 1 (omega arith) in
-      let o = split-to (groupsOf (versionAt p) (rowOf t) at) (bodiesOf (versionAt p) ts next) next
-      (omega (arith, length-groups (versionAt p) (rowOf t) at)) b in
-      let first = template-stands p short at next t (f .2) (o .0) in
+      let o = split-to (groupsOf (listsAt p) from (versionAt p) (rowOf t) at)
+      (bodiesOf (listsAt p) from (versionAt p) ts next) next
+      (omega (arith, length-groups (listsAt p) from (versionAt p) (rowOf t) at)) b in
+      let first = template-stands at next t (f .2) (o .0) in
       let rest = templates-stand ts (suc (t .id)) (w + 2) to next end (f .3)
       (contents-on t ts at c) (o .1) in (
         rows-on p (length ts) w
@@ -132,22 +137,28 @@ pub record Held (p : List ℕ) (b : Book) : Type 0 where
 pub book-stands : (p : List ℕ) (b : Book) → p ≡ preparedOf b → FitsBook b → Held p b
 unfolding preparedOf
 book-stands p b e f =
+    let ls = b .lists in
     let ts = b .templates in
-    let from = 67 + 2 * length ts in
-    let ss = slotsOf ts from (replicate slots 0) in
+    let from = listsFrom (length ts) in
+    let at = from + listsSize ls in
+    let ss = slotsOf ts at (replicate slots 0) in
+    let bodies = bodiesOf ls from (b .version) ts at in
     let short : length p ≤ 65535 = rw e (omega (arith, f .short)) in
     let all = subst (λ (xs : List ℕ). Stands p 0 xs (length p)) e (all-stands p) in
-    let h = split-to (b .schema ∷ b .version ∷ length ts ∷ [])
-    (ss ++ (contentsOf ts from ++ bodiesOf (b .version) ts from)) 3 refl all in
-    let s = split-to ss (contentsOf ts from ++ bodiesOf (b .version) ts from) 67
-    (omega (arith, length-slots ts from (replicate slots 0))) (h .1) in
-    let c = split-to (contentsOf ts from) (bodiesOf (b .version) ts from) from (omega (arith, length-contents ts from))
+    let h = split-to (b .schema ∷ b .version ∷ length ts ∷ length ls ∷ [])
+    (ss ++ (contentsOf ts at ++ (listsNumbers ls ++ bodies))) slotsFrom refl all in
+    let s = split-to ss (contentsOf ts at ++ (listsNumbers ls ++ bodies)) contentsFrom
+    (omega (arith, length-slots ts at (replicate slots 0))) (h .1) in
+    let c = split-to (contentsOf ts at) (listsNumbers ls ++ bodies) from (omega (arith, length-contents ts at))
     (s .1) in
+    let l = split-to (listsNumbers ls) bodies at (omega (arith, length-lists ls)) (c .1) in
     let schema : word p 0 ≡ b .schema = number-at (h .0) 0 (omega arith) in
     let version : word p 1 ≡ b .version = number-at (h .0) 1 (omega arith) in
     let n : word p 2 ≡ length ts = number-at (h .0) 2 (omega arith) in
-    let t = templates-stand p short ts 0 67 from from (length p) (rw version (f .templates)) (c .0)
-    (rw version (c .1)) in
+    let lists : listsAt p ≡ ls = lists-back p _ ls at n (number-at (h .0) 3 (omega arith)) (l .0) in
+    let names = leads-to-names p from at (omega arith) (rw lists (f .lists)) (rw lists (l .0)) in
+    let t = templates-stand p short from names ts 0 contentsFrom from at (length p)
+    (rw (version, lists) (f .templates)) (c .0) (rw (version, lists) (l .1)) in
     record {
       holds = record {
         short = short;
@@ -158,7 +169,7 @@ book-stands p b e f =
         templates = λ i k. let row = t .0 i (rw n at k) in
             record { block = row .block; id = row .id; less = row .less };
         rising = λ i j k l.
-            let next = ids-next p _ ts 0 67 from from (f .templates) (c .0) in
+            let next = ids-next p _ _ ts 0 contentsFrom from at (f .templates) (c .0) in
             let l′ = rw n at l in
             omega (
               arith,
@@ -166,11 +177,11 @@ book-stands p b e f =
               rises (idOf p) (length ts) (λ i k. omega (arith, next i k)) (suc i) j k l′,
             );
         slot = λ j k.
-            subst (IsSlot p) (sym (number-at (s .0) j (omega (arith, length-slots ts from (replicate slots 0)))))
-            (slots-hold (IsSlot p) p ts 67 from from (replicate slots 0) (c .0) (λ i k. leads i (rw n k) refl)
-            (λ j. empty (zeros slots j)) j);
+            subst (IsSlot p) (sym (number-at (s .0) j (omega (arith, length-slots ts at (replicate slots 0)))))
+            (slots-hold (IsSlot p) p ts contentsFrom from at (replicate slots 0) (c .0)
+            (λ i k. leads i (rw n k) refl) (λ j. empty (zeros slots j)) j);
       };
-      back = rw (schema, version, n, t .1) refl;
+      back = rw (schema, version, n, lists, t .1) refl;
     }
 
 module _ {p : List ℕ} (h : IsPrepared p) where
@@ -184,5 +195,5 @@ module _ {p : List ℕ} (h : IsPrepared p) where
   book-back = book-stands p (h .tree) (h .is) fits .back
 
   -- So many numbers are enough for every book.
-  pub length-prepared : length p ≤ 8259
+  pub length-prepared : length p ≤ 8260
   length-prepared = rw (h .is) (fits .short)

@@ -12,6 +12,7 @@ use Rattle.layout.specs.Result.{if_then_else_}
 use Rattle.layout.specs.Book.{Template, findTemplate}
 use Rattle.layout.specs.BookRules.{word}
 use Rattle.prepared.specs.Positions.{BlockAt}
+use Rattle.prepared.specs.Numbers.{contentsFrom}
 use Rattle.prepared.specs.Books.{HoldsBook, IsSlot, bookAt, empty, leads, locationAmong, locationOf, templateAt}
 use Rattle.prepared.specs.Books.{templatesAt}
 use Rattle.prepared.specs.declared.Located.{Located}
@@ -72,7 +73,7 @@ rows-say p id (suc n) w rows =
 
 module _ (p : List ℕ) (book : HoldsBook p) (id : ℕ) where
   all-say : Says p id (bookAt p .templates) (locationOf p id)
-  all-say = rows-say p id (word p 2) 67 (λ i h. let t = book .templates i h in (t .block, t .id))
+  all-say = rows-say p id (word p 2) contentsFrom (λ i h. let t = book .templates i h in (t .block, t .id))
 
   pub found : (a : ℕ) → locationOf p id ≡ At a → Found p id a (bookAt p .templates)
   found a e = unfold Says in (rw e at all-say)

@@ -1,7 +1,9 @@
 pub mod Accepted
 pub mod Books
 pub mod Found
+pub mod Lists
 pub mod Needs
 pub mod Open
 pub mod Prepared
 pub mod Rows
+pub mod Names

@@ -1,14 +1,15 @@
 -- What a pass over prepared numbers cites instead of a check.
 use mathlib.Core.Path.{_≡_, refl}
 use mathlib.Core.List.{List, []}
-use Prim.Native.Nat.{ℕ, zero, suc, _+_, _-_, _≤_, _<_}
+use Prim.Native.Nat.{ℕ, zero, suc, _+_, _-_, _*_, _≤_, _<_}
 use native.Mathlib.Omega.{arith}
 use lib.ListN.{length}
 use borrow.Author.Tests.{le-leb}
 use Rattle.layout.specs.Result.{if_then_else_}
 use Rattle.layout.specs.Book.{groupSinces, none, present}
 use Rattle.layout.specs.BookRules.{parseDatas, word}
-use Rattle.prepared.specs.Positions.{IsRow, Opened, groupsAt, nextFrom, versionAt}
+use Rattle.prepared.specs.Positions.{IsBlock, IsField, IsRow, Opened, fieldsFrom, groupsAt, manyFields}
+use Rattle.prepared.specs.Positions.{nextFrom, tableFrom, versionAt}
 use Rattle.layout.proofs.Results.{none-left}
 
 -- No groups are no tree.
@@ -55,3 +56,17 @@ groups-here p v zero (suc n) a h row = absurd row
 groups-here p v (suc depth) (suc n) a h row =
     rw (le-leb (word p (a + 1)) v (omega (arith, row .0 .since)))
     (omega (arith, groups-here p v (suc depth) n (nextFrom p a) h (row .2)))
+
+-- The first of the fields of a block that are left, which stand at f and whose table is at t.
+pub field-here : (p : List ℕ) (a left f t : ℕ) → IsBlock p a → 0 < left → left ≤ manyFields p a
+    → f + 7 * left ≡ fieldsFrom p a + 7 * manyFields p a → t + 6 * left ≡ tableFrom p a + 6 * manyFields p a
+    → IsField p f t
+field-here p a left f t b some few at table =
+    let j = manyFields p a - left in
+    let x : fieldsFrom p a + 7 * j ≡ f = omega arith in
+    let y : tableFrom p a + 6 * j ≡ t = omega arith in
+    record {
+      fits = omega (arith, b .fieldsFit);
+      tableFits = omega (arith, b .tableFits);
+      derived = rw (x, y) at (b .derived j (omega arith));
+    }

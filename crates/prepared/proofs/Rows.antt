@@ -1,15 +1,15 @@
 -- Rows of the contents, whose ids rise: where the row with an id lies.
-use mathlib.Core.Path.{_≡_, ap, refl}
+use mathlib.Core.Path.{_≡_, refl}
 use mathlib.Core.List.{List}
 use Prim.Native.Nat.{_*_, _+_, _<_, _≤_, suc, zero, ℕ}
 use native.Mathlib.Omega.{arith}
-use lib.Dec.{ltb}
-use borrow.Author.Tests.{eq-eqb, ltb-false, ltb-true, ne-eqb}
+use borrow.Author.Tests.{eq-eqb, ne-eqb}
 use Rattle.layout.specs.Result.{if_then_else_}
 use Rattle.layout.specs.BookRules.{word}
+use Rattle.prepared.specs.Numbers.{contentsFrom}
 use Rattle.prepared.specs.Books.{HoldsBook, blockOf, idOf, locationAmong, locationOf}
 use Rattle.prepared.specs.declared.Located.the-variants.{At, Unknown}
-use Rattle.layout.proofs.Results.{each-way}
+use Rattle.book.proofs.Search.{Within, none-before, not-within}
 
 pub shifted : (w i : ℕ) → w + 2 * suc i ≡ w + 2 + 2 * i
 shifted w i = omega arith
@@ -39,31 +39,12 @@ module _ (p : List ℕ) (id : ℕ) where
       rw (ne-eqb (word p w) id (rw (unshifted w) at (others 0 (omega arith))))
       (no-place n (w + 2) (λ j l e. others (suc j) (omega arith) (rw (shifted w j) e)))
 
--- ---- the search's steps
+-- ---- the search
 
-module _ (p : List ℕ) (book : HoldsBook p) where
-  rises-back : (i j : ℕ) → i < word p 2 → j < word p 2 → idOf p i < idOf p j → i < j
-  rises-back i j h k less =
-      each-way (ltb i j) (ltb-true i j)
-      (λ e. each-way (ltb j i) (λ q. absurd (omega (arith, book .rising j i (ltb-true j i q) h)))
-      (λ q. let same : i ≡ j = omega (arith, ltb-false i j e, ltb-false j i q) in
-      absurd (omega (arith, ap (idOf p) same))))
+module _ (p : List ℕ) (book : HoldsBook p) (id : ℕ) where
+  pub found-at : (i : ℕ) → i < word p 2 → idOf p i ≡ id → locationOf p id ≡ At (blockOf p i)
+  found-at i h is = place-here p id (word p 2) contentsFrom i h (none-before (idOf p) _ (book .rising) id i h is) is
 
-  module _ (id : ℕ) where
-    pub found-at : (i : ℕ) → i < word p 2 → idOf p i ≡ id → locationOf p id ≡ At (blockOf p i)
-    found-at i h is = place-here p id (word p 2) 67 i h (λ j l e. omega (arith, book .rising j i l h)) is
-
-    -- A row that has the id lies from row `low` up to `high`.
-    abbrev pub Within : ℕ → ℕ → Type 0
-    Within low high = (i : ℕ) → i < word p 2 → idOf p i ≡ id → (low ≤ i) × (i < high)
-
-    module _ (low high : ℕ) (within : Within low high) where
-      pub within-above : (mid : ℕ) → mid < word p 2 → idOf p mid < id → Within (mid + 1) high
-      within-above mid h less i k e =
-          (omega (arith, rises-back mid i h k (omega arith)), within i k e .1)
-
-      pub within-below : (mid : ℕ) → mid < word p 2 → id < idOf p mid → Within low mid
-      within-below mid h less i k e = (within i k e .0, rises-back i mid k h (omega arith))
-
-      pub not-within : high ≤ low → locationOf p id ≡ Unknown
-      not-within h = no-place p id (word p 2) 67 (λ i k e. omega (arith, within i k e .0, within i k e .1))
+  pub not-found-at : (low high : ℕ) → Within (idOf p) (word p 2) id low high → high ≤ low → locationOf p id ≡ Unknown
+  not-found-at low high within h =
+      no-place p id (word p 2) contentsFrom (not-within (idOf p) _ (book .rising) id low high within h)

@@ -8,6 +8,7 @@ use Rattle.layout.specs.Result.{done, if_then_else_}
 use Rattle.layout.specs.Book.{Book, Template}
 use Rattle.layout.specs.BookRules.{bookOf, word}
 use Rattle.prepared.specs.Numbers.{contentsFrom, preparedOf, slots, slotsFrom}
+use Rattle.prepared.specs.Names.{listsAt}
 use Rattle.prepared.specs.Positions.{BlockAt, innerAt, shapeAt}
 use Rattle.prepared.specs.declared.Located as Located
 use Rattle.prepared.specs.declared.Located.{Located}
@@ -31,7 +32,13 @@ templatesAt p zero w = []
 templatesAt p (suc n) w = templateAt p (word p (w + 1)) ∷ templatesAt p n (w + 2)
 
 abbrev pub bookAt : List ℕ → Book
-bookAt p = record { schema = word p 0; version = word p 1; templates = templatesAt p (word p 2) contentsFrom }
+bookAt p =
+    record {
+      schema = word p 0;
+      version = word p 1;
+      lists = listsAt p;
+      templates = templatesAt p (word p 2) contentsFrom;
+    }
 
 -- The place of the template with this id, among n rows of the contents from w on.
 unfoldable pub locationAmong : List ℕ → ℕ → ℕ → ℕ → Located

@@ -1,15 +1,19 @@
--- The prepared book: the numbers that are made once of an accepted book's tree. Fields and data are six and two numbers
--- as in the book; what is worked out of them stands in a block's head, and of each field in a table behind them.
+-- The prepared book: the numbers that are made once of an accepted book's tree. Fields and data are seven and two
+-- numbers as in the book; what is worked out of them stands in a block's head, and of each field in a table behind
+-- them.
 use mathlib.Core.List.{List, [], _∷_, _++_}
 use Prim.Native.Nat.{ℕ, zero, suc, _+_, _-_, _*_, _%_, _^_}
+use lib.Dec.{eqb, ltb}
 use lib.ListN.{length, replicate, set}
+use Rattle.layout.specs.Result.{if_then_else_}
 use Rattle.layout.specs.Types.{TypeRow, typeAt}
+use Rattle.layout.specs.Lists.{NameList}
 use Rattle.layout.specs.Book.{Field, Data, Shape, Groups, none, more, Template, Book, end, groupSinces, need}
 
 unfoldable pub fieldsOf : List Field → List ℕ
 fieldsOf [] = []
 fieldsOf (f ∷ fs) =
-    f .id ∷ f .type ∷ f .length ∷ f .offset ∷ f .presence ∷ f .since ∷ fieldsOf fs
+    f .id ∷ f .type ∷ f .length ∷ f .offset ∷ f .presence ∷ f .since ∷ f .list ∷ fieldsOf fs
 
 unfoldable pub datasOf : List Data → List ℕ
 datasOf [] = []
@@ -19,42 +23,77 @@ datasOf (d ∷ ds) = d .id ∷ d .since ∷ datasOf ds
 abbrev pub spread : TypeRow → ℕ
 spread k = (2 ^ 64 + k .greatest - k .least) % 2 ^ 64
 
--- What is worked out of a field: its end, and of its type the least number, the spread, the null and the width.
-unfoldable pub tableOf : List Field → List ℕ
-tableOf [] = []
-tableOf (f ∷ fs) =
+-- ---- lists
+
+-- The number whose bits are these, of which 64-bit numbers have those below 64.
+abbrev pub bitOf : ℕ → ℕ
+bitOf n = if ltb n 64 then 2 ^ n else 0
+
+unfoldable pub maskOf : List ℕ → ℕ
+maskOf [] = 0
+maskOf (n ∷ ns) = bitOf n + maskOf ns
+
+-- A list: its number, the word for its kind, its mask, how many numbers it has, and these.
+abbrev pub listNumbers : NameList → List ℕ
+listNumbers l = l .id ∷ l .kind ∷ maskOf (l .numbers) ∷ length (l .numbers) ∷ l .numbers
+
+abbrev pub listSize : NameList → ℕ
+listSize l = 4 + length (l .numbers)
+
+unfoldable pub listsNumbers : List NameList → List ℕ
+listsNumbers [] = []
+listsNumbers (l ∷ ls) = listNumbers l ++ listsNumbers ls
+
+unfoldable pub listsSize : List NameList → ℕ
+listsSize [] = 0
+listsSize (l ∷ ls) = listSize l + listsSize ls
+
+-- The place of the list that a field's seventh word leads to, the first list standing at `at`; 0 if it leads to none.
+unfoldable pub placeOf : ℕ → List NameList → ℕ → ℕ
+placeOf zero ls at = 0
+placeOf (suc id) [] at = 0
+placeOf (suc id) (l ∷ ls) at = if eqb (l .id) id then at else placeOf (suc id) ls (at + listSize l)
+
+-- ---- blocks: ls are the book's lists, of which the first stands at `from`
+
+-- What is worked out of a field: its end; of its type the least number, the spread, the null and the width; the place
+-- of its list.
+unfoldable pub tableOf : List NameList → ℕ → List Field → List ℕ
+tableOf ls from [] = []
+tableOf ls from (f ∷ fs) =
     let k = typeAt (f .type) in
-    end f ∷ k .least ∷ spread k ∷ k .null ∷ k .width ∷ tableOf fs
+    end f ∷ k .least ∷ spread k ∷ k .null ∷ k .width ∷ placeOf (f .list) ls from ∷ tableOf ls from fs
 
 abbrev pub count : Groups → ℕ
 count gs = length (groupSinces gs)
 
 -- How many numbers a block has without its groups.
 abbrev pub blockSize : Shape → ℕ
-blockSize s = 12 + 6 * length (s .fields) + 2 * length (s .datas) + 5 * length (s .fields)
+blockSize s = 12 + 7 * length (s .fields) + 2 * length (s .datas) + 6 * length (s .fields)
 
 -- A block at `at` with g groups: id, since, declared length; counts of fields, groups and data; the need at the book's
 -- version; how many groups and data follow its octets; the places after it and its groups, of its groups, of its data
 -- and of its fields' table. Then its fields, its data, and the table.
-abbrev pub blockOf : ℕ → ℕ → ℕ → Shape → ℕ → ℕ → ℕ → List ℕ
-blockOf version id since s g next at =
+abbrev pub blockOf : List NameList → ℕ → ℕ → ℕ → ℕ → Shape → ℕ → ℕ → ℕ → List ℕ
+blockOf ls from version id since s g next at =
     let f = length (s .fields) in
     let d = length (s .datas) in
-    (id ∷ since ∷ s .length ∷ f ∷ g ∷ d ∷ need version s ∷ (g + d) ∷ next ∷ (at + blockSize s) ∷ (at + 12 + 6 * f)
-    ∷ (at + 12 + 6 * f + 2 * d) ∷ [])
-    ++ (fieldsOf (s .fields) ++ (datasOf (s .datas) ++ tableOf (s .fields)))
+    (id ∷ since ∷ s .length ∷ f ∷ g ∷ d ∷ need version s ∷ (g + d) ∷ next ∷ (at + blockSize s) ∷ (at + 12 + 7 * f)
+    ∷ (at + 12 + 7 * f + 2 * d) ∷ [])
+    ++ (fieldsOf (s .fields) ++ (datasOf (s .datas) ++ tableOf ls from (s .fields)))
 
 unfoldable pub groupsSize : Groups → ℕ
 groupsSize none = 0
 groupsSize (more i since s inner rest) = blockSize s + groupsSize inner + groupsSize rest
 
 -- The groups of a row, the first standing at `at`.
-unfoldable pub groupsOf : ℕ → Groups → ℕ → List ℕ
-groupsOf version none at = []
-groupsOf version (more i since s inner rest) at =
+unfoldable pub groupsOf : List NameList → ℕ → ℕ → Groups → ℕ → List ℕ
+groupsOf ls from version none at = []
+groupsOf ls from version (more i since s inner rest) at =
     let x = at + blockSize s in
     let y = x + groupsSize inner in
-    blockOf version i since s (count inner) y at ++ (groupsOf version inner x ++ groupsOf version rest y)
+    blockOf ls from version i since s (count inner) y at
+    ++ (groupsOf ls from version inner x ++ groupsOf ls from version rest y)
 
 -- A template is a row of one group, whose since is 0.
 abbrev pub rowOf : Template → Groups
@@ -65,9 +104,10 @@ unfoldable pub contentsOf : List Template → ℕ → List ℕ
 contentsOf [] at = []
 contentsOf (t ∷ ts) at = t .id ∷ at ∷ contentsOf ts (at + groupsSize (rowOf t))
 
-unfoldable pub bodiesOf : ℕ → List Template → ℕ → List ℕ
-bodiesOf version [] at = []
-bodiesOf version (t ∷ ts) at = groupsOf version (rowOf t) at ++ bodiesOf version ts (at + groupsSize (rowOf t))
+unfoldable pub bodiesOf : List NameList → ℕ → ℕ → List Template → ℕ → List ℕ
+bodiesOf ls from version [] at = []
+bodiesOf ls from version (t ∷ ts) at =
+    groupsOf ls from version (rowOf t) at ++ bodiesOf ls from version ts (at + groupsSize (rowOf t))
 
 -- How many numbers the blocks are.
 unfoldable pub sizesOf : List Template → ℕ
@@ -83,18 +123,23 @@ unfoldable pub slotsOf : List Template → ℕ → List ℕ → List ℕ
 slotsOf [] at ss = ss
 slotsOf (t ∷ ts) at ss = slotsOf ts (at + groupsSize (rowOf t)) (set ss (t .id % slots) at)
 
--- Where the slots and the contents start.
+-- Where the slots and the contents start, and the lists of a book of n templates.
 abbrev pub slotsFrom : ℕ
-slotsFrom = 3
+slotsFrom = 4
 
 abbrev pub contentsFrom : ℕ
-contentsFrom = 67
+contentsFrom = 68
 
--- Schema, version and number of templates; the slots; the contents; the blocks.
+abbrev pub listsFrom : ℕ → ℕ
+listsFrom n = contentsFrom + 2 * n
+
+-- Schema, version, numbers of templates and of lists; the slots; the contents; the lists; the blocks.
 unfoldable pub preparedOf : Book → List ℕ
 preparedOf b =
     let n = length (b .templates) in
-    let from = contentsFrom + 2 * n in
-    (b .schema ∷ b .version ∷ n ∷ [])
-    ++ (slotsOf (b .templates) from (replicate slots 0)
-    ++ (contentsOf (b .templates) from ++ bodiesOf (b .version) (b .templates) from))
+    let from = listsFrom n in
+    let at = from + listsSize (b .lists) in
+    (b .schema ∷ b .version ∷ n ∷ length (b .lists) ∷ [])
+    ++ (slotsOf (b .templates) at (replicate slots 0)
+    ++ (contentsOf (b .templates) at
+    ++ (listsNumbers (b .lists) ++ bodiesOf (b .lists) from (b .version) (b .templates) at)))

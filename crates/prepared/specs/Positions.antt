@@ -7,12 +7,17 @@ use Prim.Native.Nat.{ℕ, zero, suc, _+_, _-_, _*_, _≤_, _<_}
 use lib.ListN.{length}
 use Rattle.layout.specs.Types.{typeAt}
 use Rattle.layout.specs.Book.{Field, Shape, Groups, none, more, dataSinces, end as endOf, need, present}
-use Rattle.layout.specs.BookRules.{word, fieldAt, parseFields, parseDatas, shapeGood}
+use Rattle.layout.specs.BookRules.{word, fieldAt as fieldBy, parseFields, parseDatas, shapeGood}
+use Rattle.prepared.specs.Names.{HasNames, listsAt}
 use Rattle.prepared.specs.Numbers.{spread as spreadOf}
 
 -- The book's version.
 abbrev pub versionAt : List ℕ → ℕ
 versionAt p = word p 1
+
+-- The field at x, with the names that its list has here.
+abbrev pub fieldAt : List ℕ → ℕ → Field
+fieldAt p x = fieldBy (listsAt p) p x
 
 -- What is worked out of the field f stands at x.
 pub record Derived (p : List ℕ) (x : ℕ) (f : Field) : Type 0 where
@@ -21,6 +26,7 @@ pub record Derived (p : List ℕ) (x : ℕ) (f : Field) : Type 0 where
   pub spread : word p (x + 2) ≡ spreadOf (typeAt (f .type))
   pub null : word p (x + 3) ≡ typeAt (f .type) .null
   pub width : word p (x + 4) ≡ typeAt (f .type) .width
+  pub names : HasNames p (word p (x + 5)) (f .names)
 
 module _ (p : List ℕ) (a : ℕ) where
   abbrev pub manyFields : ℕ
@@ -51,7 +57,7 @@ module _ (p : List ℕ) (a : ℕ) where
   shapeAt =
       record {
         length = word p (a + 2);
-        fields = parseFields p manyFields fieldsFrom;
+        fields = parseFields (listsAt p) p manyFields fieldsFrom;
         datas = parseDatas p manyDatas datasFrom;
       }
 
@@ -61,17 +67,17 @@ module _ (p : List ℕ) (a : ℕ) where
     pub fewFields : manyFields ≤ 64
     pub fewGroups : manyGroups ≤ 16
     pub fewDatas : manyDatas ≤ 16
-    pub fieldsFit : fieldsFrom + 6 * manyFields ≤ length p
+    pub fieldsFit : fieldsFrom + 7 * manyFields ≤ length p
     pub datasFit : datasFrom + 2 * manyDatas ≤ length p
-    pub tableFits : tableFrom + 5 * manyFields ≤ length p
+    pub tableFits : tableFrom + 6 * manyFields ≤ length p
     pub good : shapeGood shapeAt ≡ true
     -- "never above the schema version", "never falling along the fields"
     pub since : word p (a + 1) ≤ versionAt p
-    pub rising : (i j : ℕ) → i ≤ j → j < manyFields → word p (fieldsFrom + 6 * i + 5) ≤ word p (fieldsFrom + 6 * j + 5)
+    pub rising : (i j : ℕ) → i ≤ j → j < manyFields → word p (fieldsFrom + 7 * i + 5) ≤ word p (fieldsFrom + 7 * j + 5)
     pub datasHere : (v : ℕ) → versionAt p ≤ v → present v (dataSinces (shapeAt .datas)) ≡ manyDatas
     pub needs : (v : ℕ) → versionAt p ≤ v → word p (a + 6) ≡ need v shapeAt
     pub follow : word p (a + 7) ≡ manyGroups + manyDatas
-    pub derived : (i : ℕ) → i < manyFields → Derived p (tableFrom + 5 * i) (fieldAt p (fieldsFrom + 6 * i))
+    pub derived : (i : ℕ) → i < manyFields → Derived p (tableFrom + 6 * i) (fieldAt p (fieldsFrom + 7 * i))
 
 -- The n groups in a row at a, `depth` more levels being left.
 unfoldable pub groupsAt : List ℕ → ℕ → ℕ → ℕ → Groups
@@ -111,6 +117,6 @@ pub record Opened (p : List ℕ) (depth n a : ℕ) : Type 0 where
 
 -- A field stands at f, and what was worked out of it at t.
 pub record IsField (p : List ℕ) (f t : ℕ) : Type 0 where
-  pub fits : f + 6 ≤ length p
-  pub tableFits : t + 5 ≤ length p
+  pub fits : f + 7 ≤ length p
+  pub tableFits : t + 6 ≤ length p
   pub derived : Derived p t (fieldAt p f)

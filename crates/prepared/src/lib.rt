@@ -9,9 +9,9 @@ ghost use Rattle.prepared.specs.Needs.{FieldsUpTo};
 ghost use Rattle.prepared.specs.Books.{HoldsBook, locationOf};
 
 // Where the slots start, and the contents; how many numbers are a block's head.
-const SLOTS: usize = 3;
+const SLOTS: usize = 4;
 
-const CONTENTS: usize = 67;
+const CONTENTS: usize = 68;
 
 const HEAD: usize = 12;
 
@@ -53,7 +53,7 @@ fn older_fields(p: &[u64], a: usize, v: usize) -> usize
     let mut high = number(p, a + 3);
     while low < high {
         let mid = (low + high) / 2;
-        if number(p, a + HEAD + 6 * mid + 5) <= v {
+        if number(p, a + HEAD + 7 * mid + 5) <= v {
             low = mid + 1;
         } else {
             high = mid;
@@ -71,7 +71,7 @@ fn older_need(p: &[u64], a: usize, v: usize) -> usize
     if n == 0 {
         return 0;
     }
-    number(p, number(p, a + 11) + 5 * (n - 1))
+    number(p, number(p, a + 11) + 6 * (n - 1))
 }
 
 // The need of the block at a, at version v.

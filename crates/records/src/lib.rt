@@ -28,5 +28,6 @@ pub fn put(room: &mut [u64], n: usize, answer: Answer)
         Answer::Absent => put_three(room, n, 3, 0, 0),
         Answer::Group(entries) => put_three(room, n, 4, entries, 0),
         Answer::OutOfRange(x) => put_three(room, n, 5, x, 0),
+        Answer::Unlisted(x) => put_three(room, n, 6, x, 0),
     }
 }

@@ -18,7 +18,7 @@ ghost use Rattle.siphonbard.specs.Places.{askedFor, placeTold, placeTold
 const ACCEPTED: u64 = 0;
 
 // As many numbers as the prepared form of any book has at most.
-const MOST: usize = 8259;
+const MOST: usize = 8260;
 
 #[repr(C)]
 pub struct CheckedReply {

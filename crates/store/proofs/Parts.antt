@@ -7,13 +7,15 @@ use borrow.Author.Tests.{le-leb, lt-leb, leb-true}
 use Rattle.layout.specs.Result.{Result, done, refused, if_then_else_, _>>=_}
 use Rattle.layout.specs.Octets.{number16}
 use Rattle.layout.specs.Book.{Data, Groups, Shape, more, need, none}
-use Rattle.layout.specs.BookRules.{fieldAt, parseDatas, parseFields, word}
+use Rattle.layout.specs.BookRules.{parseDatas, parseFields, word}
 use Rattle.layout.specs.Values.{Values, listing, nil, recordOf, recordsOf}
 use Rattle.layout.specs.Message.{readBlock, readData, readDatas, readDimension, readEntries, readField, readGroup}
 use Rattle.layout.specs.Message.{readGroups, skipDatas, skipGroups}
 use Rattle.layout.specs.declared.Answer.{Answer}
 use Rattle.layout.specs.declared.Answer.the-variants.{Absent, Group, Octets}
 use Rattle.layout.proofs.Results.{bind-done, done-inj, none-left, one-less, some-left}
+use Rattle.prepared.specs.Names.{listsAt}
+use Rattle.prepared.specs.Positions.{fieldAt}
 use Rattle.wire.specs.Walks.{skipEnd, walked}
 use Rattle.wire.specs.declared.Walked.{Walked}
 use Rattle.wire.specs.declared.Walked.the-variants.{To}
@@ -29,13 +31,13 @@ use Rattle.store.specs.Stores.{datasPrint, entriesPrint, fieldsPrint, gr
 
 module _ (m : List ℕ) (v l at : ℕ) (p : List ℕ) where
   pub fields-next : (n f : ℕ) → 0 < n
-      → fieldsPrint m v (parseFields p n f) l at
+      → fieldsPrint m v (parseFields (listsAt p) p n f) l at
       ≡ andThen (got at (recordOf (readField m v at (fieldAt p f))))
-      (λ x. fieldsPrint m v (parseFields p (n - 1) (f + 6)) l at)
+      (λ x. fieldsPrint m v (parseFields (listsAt p) p (n - 1) (f + 7)) l at)
   unfolding fieldsPrint parseFields recordsOf prepend andThen
   fields-next n f h = rw (some-left h, one-less) refl
 
-  pub fields-end : (n f : ℕ) → n ≤ 0 → fieldsPrint m v (parseFields p n f) l at ≡ got (at + l) []
+  pub fields-end : (n f : ℕ) → n ≤ 0 → fieldsPrint m v (parseFields (listsAt p) p n f) l at ≡ got (at + l) []
   unfolding fieldsPrint parseFields recordsOf
   fields-end n f h = rw (none-left h) refl
 

@@ -51,10 +51,12 @@ fn store_fields(
     let at = c.at;
     let mut left = number(p, a + 3);
     let mut f = a + 12;
+    let mut t = number(p, a + 11);
     let mut n = c.n;
     while 0 < left {
-        n = store_answer(fields::read_field(p, f, m, v, at), at, room, n).n;
-        f = f + 6;
+        n = store_answer(fields::read_field(p, f, t, m, v, at), at, room, n).n;
+        f = f + 7;
+        t = t + 6;
         left = left - 1;
     }
     Cursor { at: at + l, n }

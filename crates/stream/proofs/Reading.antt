@@ -19,9 +19,10 @@ use Rattle.layout.specs.declared.Counted.the-variants as Counted
 use Rattle.layout.specs.declared.Refusal.{Refusal}
 use Rattle.layout.proofs.Records.{listing-three}
 use Rattle.layout.proofs.Results.{done-inj, inv-bind}
+use Rattle.prepared.specs.Names.{listsAt}
 use Rattle.prepared.specs.Positions.{manyDatas, datasFrom, manyFields, innerAt, shapeAt}
 use Rattle.prepared.specs.Books.{bookAt, templateAt}
-use Rattle.walk.proofs.Blocks.{length-fields}
+use Rattle.prepared.proofs.Accepted.{fields-length}
 use Rattle.messages.proofs.Counts.{length-datas}
 use Rattle.places.specs.Seeks.{Path}
 use Rattle.prints.specs.Prints.{Room, endOf, got, numbersOf}
@@ -101,7 +102,7 @@ module _ {p m : List ℕ} {a v l g k f n : ℕ} (o : Enters p m [] a v l g k f n
       omega (
         arith,
         length-map (shapeAt p a .fields) (readField m (versionOf m) headerSize),
-        length-fields p (manyFields p a) (a + 12),
+        fields-length (listsAt p) p (manyFields p a) (a + 12),
         data-records o,
         o .records,
       )

@@ -1,13 +1,12 @@
 -- A block with its groups and data: one law for each way that reading it ends.
-use mathlib.Core.Path.{_≡_, refl, ap}
+use mathlib.Core.Path.{_≡_, refl}
 use mathlib.Core.List.{List}
-use Prim.Native.Nat.{ℕ, zero, suc, _+_, _≤_, _<_}
+use Prim.Native.Nat.{ℕ, _+_, _≤_, _<_}
 use native.Mathlib.Omega.{arith}
 use lib.ListN.{length, length-map}
 use borrow.Author.Tests.{le-leb, lt-leb}
 use Rattle.layout.specs.Result.{Result, must, _>>=_}
 use Rattle.layout.specs.Book.{Shape}
-use Rattle.layout.specs.BookRules.{parseFields}
 use Rattle.layout.specs.Contracts.{refusal}
 use Rattle.layout.specs.Values.{Values}
 use Rattle.layout.specs.Message.{readBlock, readDatas, readField}
@@ -17,11 +16,6 @@ use Rattle.wire.specs.declared.Walked.the-variants.{To, Refused}
 use Rattle.wire.proofs.Answers.{refused-on}
 use Rattle.walk.specs.Walks.{datasEnd, entryEnd, valuesEnd}
 use Rattle.walk.proofs.Ways.{reached, then-to}
-
-pub length-fields : (p : List ℕ) (n a : ℕ) → length (parseFields p n a) ≡ n
-unfolding parseFields
-length-fields p zero a = refl
-length-fields p (suc n) a = ap suc (length-fields p n (a + 6))
 
 -- The block of l octets at `at`: f reads its groups, and n is the surplus of its data.
 module _ (m : List ℕ) (v : ℕ) (s : Shape) (f : ℕ → Result (Values × ℕ)) (n l at : ℕ) where

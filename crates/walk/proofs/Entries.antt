@@ -14,16 +14,18 @@ use Rattle.layout.specs.Contracts.{refusal}
 use Rattle.layout.specs.Values.{Values, entry, measure, nil}
 use Rattle.layout.specs.Message.{Entry, readBlock, readDatas, readEntries, readField, readGroups, skipDatas, skipGroups}
 use Rattle.layout.specs.declared.Refusal.{Refusal}
+use Rattle.layout.proofs.Results.{none-left, one-less, some-left}
+use Rattle.prepared.specs.Names.{listsAt}
 use Rattle.prepared.specs.Positions.{IsBlock, manyDatas, datasFrom, manyFields, fieldsFrom, manyGroups, groupsFrom}
 use Rattle.prepared.specs.Positions.{innerAt, shapeAt}
+use Rattle.prepared.proofs.Accepted.{fields-length}
 use Rattle.prepared.proofs.Open.{no-datas-at, no-groups-at}
 use Rattle.wire.specs.Walks.{walked}
 use Rattle.wire.specs.declared.Walked.the-variants.{To, Refused}
 use Rattle.wire.proofs.Answers.{refused-on}
 use Rattle.walk.specs.Walks.{Bounded, datasEnd, entriesAt, entryEnd, valuesEnd}
 use Rattle.walk.proofs.Ways.{Answers, reached, then-to, told}
-use Rattle.walk.proofs.Blocks.{block-datas, block-groups, block-short, block-whole, length-fields}
-use Rattle.layout.proofs.Results.{none-left, one-less, some-left}
+use Rattle.walk.proofs.Blocks.{block-datas, block-groups, block-short, block-whole}
 
 -- ---- entries that f reads
 
@@ -113,7 +115,7 @@ plain-walked p depth a m v l k start fields follow b f w z h =
     let few : fields * k ≤ 64 * k = mul-le-mul-right k (omega (arith, f, b .fewFields)) in
     let s = shapeAt p a in
     let zero-plus : length (s .fields) * k ≡ 0 + length (s .fields) * k = omega arith in
-    let q : fields ≡ length (s .fields) = f ∙ sym (length-fields p (manyFields p a) (fieldsFrom p a)) in
+    let q : fields ≡ length (s .fields) = f ∙ sym (fields-length (listsAt p) p (manyFields p a) (fieldsFrom p a)) in
     let walk = plain-entries m v s l (innerAt p depth a)
     (no-groups-at p depth (manyGroups p a) (groupsFrom p a) (omega (arith, b .follow, w, z)))
     (no-datas-at p (manyDatas p a) (datasFrom p a) (omega (arith, b .follow, w, z))) k 0 start h in

@@ -14,7 +14,7 @@ use Rattle.layout.specs.Result.{done, if_then_else_, _and_}
 use Rattle.layout.specs.Octets.{null16, octetsOf}
 use Rattle.layout.specs.Types.{typeAt}
 use Rattle.layout.specs.Book.{Field, Groups, Shape, end, isArray, more, size}
-use Rattle.layout.specs.BookRules.{fieldAt, fieldsGood, lengthGood, parseFields, word}
+use Rattle.layout.specs.BookRules.{fieldsGood, lengthGood, parseFields, word}
 use Rattle.layout.specs.Writing.{fieldOctets, first, isGroup, isNumber, isThere, judgeData, judgeField}
 use Rattle.layout.specs.Writing.{numbers16, second, spanOf, third}
 use Rattle.layout.proofs.Results.{and-left, and-right, each-way, none-left, one-less, or-right, some-left}
@@ -23,12 +23,13 @@ use Rattle.layout.proofs.Said.{array-said, data-said, number-said}
 use Rattle.layout.proofs.Lengths.{field-long, span-long}
 use Rattle.layout.proofs.Stands.{length-octets}
 use Rattle.octets.proofs.Joined.{sets-append}
-use Rattle.prepared.specs.Positions.{Derived, IsBlock, manyFields, fieldsFrom, groupsAt, tableFrom}
+use Rattle.prepared.specs.Names.{listsAt}
+use Rattle.prepared.specs.Positions.{Derived, IsBlock, IsField, fieldAt, manyFields, fieldsFrom, groupsAt, tableFrom}
 use Rattle.prepared.proofs.Open.{no-groups-at}
 use Rattle.prints.specs.Prints.{Accepted, Printed, Room, Stored, andThen, endOf, got, not, numbersOf, prepend, printed}
 use Rattle.prints.proofs.Going.{Done, was-done}
 use Rattle.writer.proofs.Zeros.{part-put, partOf}
-use Rattle.writer.specs.Parts.{FieldAt, dataPart, datasPart, entriesPart, fieldsPart, groupsPart, numberOr}
+use Rattle.writer.specs.Parts.{dataPart, datasPart, entriesPart, fieldsPart, groupsPart, numberOr}
 use Rattle.writer.specs.Parts.{valuePart}
 
 -- ---- records
@@ -102,11 +103,11 @@ module _ (l pool : List ℕ) (f : Field) (i k : ℕ) (r : Room (valuePart l pool
 -- n good fields stand at f, from octet `at` of a block of len octets on, and at t what is worked out of them.
 pub record FieldsLeft (p : List ℕ) (len at n f t : ℕ) : Type 0 where
   pub short : length p ≤ 65535
-  pub fields : f + 6 * n ≤ length p
-  pub table : t + 5 * n ≤ length p
-  pub derived : (i : ℕ) → i < n → Derived p (t + 5 * i) (fieldAt p (f + 6 * i))
+  pub fields : f + 7 * n ≤ length p
+  pub table : t + 6 * n ≤ length p
+  pub derived : (i : ℕ) → i < n → Derived p (t + 6 * i) (fieldAt p (f + 7 * i))
   pub within : at ≤ len
-  pub good : fieldsGood len at (parseFields p n f) ≡ true
+  pub good : fieldsGood len at (parseFields (listsAt p) p n f) ≡ true
 
 pub fields-left : (p : List ℕ) (a : ℕ) → IsBlock p a
     → FieldsLeft p (word p (a + 2)) 0 (manyFields p a) (fieldsFrom p a) (tableFrom p a)
@@ -122,21 +123,21 @@ fields-left p a b =
 
 -- The first of them, and the others.
 pub record FieldNext (p : List ℕ) (len at n f t : ℕ) : Type 0 where
-  pub here : FieldAt p f t
+  pub here : IsField p f t
   pub placed : at ≤ word p (f + 3)
   pub whole : lengthGood (fieldAt p f) ≡ true
-  pub rest : FieldsLeft p len (end (fieldAt p f)) (n - 1) (f + 6) (t + 5)
+  pub rest : FieldsLeft p len (end (fieldAt p f)) (n - 1) (f + 7) (t + 6)
 
 pub field-next : (p : List ℕ) (len at n f t : ℕ) → 0 < n → FieldsLeft p len at n f t → FieldNext p len at n f t
 unfolding parseFields
 field-next p len at zero f t h w = absurd (omega arith)
 field-next p len at (suc n) f t h w =
     let q : suc n - 1 ≡ n = omega arith in
-    let a : t + 5 * 0 ≡ t = omega arith in
-    let b : f + 6 * 0 ≡ f = omega arith in
-    let g = field-good len at (fieldAt p f) (parseFields p n (f + 6)) (w .good) in
+    let a : t + 6 * 0 ≡ t = omega arith in
+    let b : f + 7 * 0 ≡ f = omega arith in
+    let g = field-good len at (fieldAt p f) (parseFields (listsAt p) p n (f + 7)) (w .good) in
     record {
-      here = record { field = omega arith; table = omega arith; derived = rw (a, b) at (w .derived 0 h) };
+      here = record { fits = omega arith; tableFits = omega arith; derived = rw (a, b) at (w .derived 0 h) };
       placed = g .placed;
       whole = g .length;
       rest = record {
@@ -144,8 +145,8 @@ field-next p len at (suc n) f t h w =
         fields = omega arith;
         table = omega arith;
         derived = λ i k.
-            let c : t + 5 + 5 * i ≡ t + 5 * (i + 1) = omega arith in
-            let e : f + 6 + 6 * i ≡ f + 6 * (i + 1) = omega arith in
+            let c : t + 6 + 6 * i ≡ t + 6 * (i + 1) = omega arith in
+            let e : f + 7 + 7 * i ≡ f + 7 * (i + 1) = omega arith in
             rw (c, e) (w .derived (i + 1) (omega arith));
         within = g .ended;
         good = rw q (g .rest);
@@ -154,14 +155,14 @@ field-next p len at (suc n) f t h w =
 
 module _ (l pool : List ℕ) where
   pub fields-step : (p : List ℕ) (len at n f i : ℕ) → 0 < n
-      → fieldsPart l pool len at (parseFields p n f) i
+      → fieldsPart l pool len at (parseFields (listsAt p) p n f) i
       ≡ prepend (replicate (word p (f + 3) - at) 0) (andThen (valuePart l pool (fieldAt p f) i)
-      (fieldsPart l pool len (end (fieldAt p f)) (parseFields p (n - 1) (f + 6))))
+      (fieldsPart l pool len (end (fieldAt p f)) (parseFields (listsAt p) p (n - 1) (f + 7))))
   unfolding parseFields fieldsPart
   fields-step p len at n f i h = rw (some-left h, one-less) refl
 
   pub fields-end : (p : List ℕ) (len at n f i : ℕ) → n ≤ 0
-      → fieldsPart l pool len at (parseFields p n f) i ≡ prepend (replicate (len - at) 0) (got i [])
+      → fieldsPart l pool len at (parseFields (listsAt p) p n f) i ≡ prepend (replicate (len - at) 0) (got i [])
   unfolding parseFields fieldsPart prepend
   fields-end p len at n f i h = rw (none-left h, append-nil) refl
 

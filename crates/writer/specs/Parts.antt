@@ -1,15 +1,14 @@
 -- What each part of a listing that was judged good writes: its octets, and the record after it. l is the listing.
 use mathlib.Core.List.{List, [], _++_, _∷_}
-use Prim.Native.Nat.{ℕ, zero, suc, _+_, _-_, _≤_}
+use Prim.Native.Nat.{ℕ, zero, suc, _+_, _-_}
 use lib.Dec.{eqb, ltb}
 use lib.ListN.{length, replicate}
 use Rattle.layout.specs.Result.{_and_, if_then_else_}
 use Rattle.layout.specs.Octets.{null16, octetsOf}
 use Rattle.layout.specs.Book.{Book, Field, Groups, Shape, Template, end, more, none}
-use Rattle.layout.specs.BookRules.{fieldAt}
 use Rattle.layout.specs.Writing.{fieldOctets, first, isGroup, judgeData, judgeField, judgeListing, messageOctets}
 use Rattle.layout.specs.Writing.{numbers16, second, spanOctets, spanOf}
-use Rattle.prepared.specs.Positions.{Derived, innerAt, shapeAt}
+use Rattle.prepared.specs.Positions.{innerAt, shapeAt}
 use Rattle.prints.specs.Prints.{Printed, andThen, got, not, prepend, printed}
 
 -- The number of record i, or x where it is null.
@@ -56,9 +55,3 @@ module _ (l pool : List ℕ) where
   -- The whole message.
   unfoldable pub messagePart : Book → Template → Printed
   messagePart b t = printed (λ r. 0) (messageOctets b t pool) (judgeListing l (length pool) t)
-
--- A field stands at f, and what is worked out of it at t.
-pub record FieldAt (p : List ℕ) (f t : ℕ) : Type 0 where
-  pub field : f + 6 ≤ length p
-  pub table : t + 5 ≤ length p
-  pub derived : Derived p t (fieldAt p f)

@@ -7,14 +7,14 @@ ghost use mathlib.Core.List.{[], _∷_};
 ghost use Prim.Native.Nat.{_+_, _*_, _/_, _^_, _<_, _≤_};
 ghost use lib.ListN.{length, take, drop, getD, replicate};
 ghost use lib.Seq.{sets};
-ghost use Rattle.layout.specs.BookRules.{fieldAt, word};
+ghost use Rattle.layout.specs.BookRules.{word};
 ghost use Rattle.layout.specs.Writing.{headerOf, numbers16};
 ghost use Rattle.prepared.specs.Books.{bookAt, templateAt};
-ghost use Rattle.prepared.specs.Positions.{BlockAt, IsBlock, manyDatas, innerAt, shapeAt};
+ghost use Rattle.prepared.specs.Positions.{BlockAt, IsBlock, IsField, fieldAt, manyDatas, innerAt, shapeAt};
 ghost use Rattle.prints.specs.Prints.{Printed, Room, Stored, numbersOf};
 ghost use Rattle.writer.specs.Heads.{IsHead};
 ghost use Rattle.writer.specs.Zeros.{Ready, ZerosFrom};
-ghost use Rattle.writer.specs.Parts.{FieldAt, dataPart, datasPart, entriesAt, fieldsPart, groupsPart};
+ghost use Rattle.writer.specs.Parts.{dataPart, datasPart, entriesAt, fieldsPart, groupsPart};
 ghost use Rattle.writer.specs.Parts.{messagePart, numberOr, valuePart};
 
 // Where the pass stands: the number of the next record, and how many octets of the room are taken.
@@ -78,7 +78,7 @@ pub fn put_zeros(room: &mut [u8], n: usize)
 
 // The number to store for record i: its own, or the null of the type at t.
 fn number_for(p: &[u64], t: usize, listing: &[u64], i: usize) -> u64
-    requires { ⌜ (t + 5 ≤ length (now p)) × (i < length (now listing) / 3) ⌝ }
+    requires { ⌜ (t + 6 ≤ length (now p)) × (i < length (now listing) / 3) ⌝ }
     ensures { λ r. ⌜ r ≡ numberOr (now (listing .entry)) i (word (now (p .entry)) (t + 3)) ⌝ }
 {
     if listing[3 * i] == 0 {
@@ -97,7 +97,7 @@ fn write_value(
     pool: &[u8],
     room: &mut [u8],
 )
-    requires { ⌜ FieldAt (now p) f t ⌝ }
+    requires { ⌜ IsField (now p) f t ⌝ }
     requires { ⌜ Room (valuePart (now listing) (now pool) (fieldAt (now p) f) i) 0 (length (now room)) ⌝ }
     ensures { λ _. ⌜ now (room .exit) ≡ sets (now (room .entry)) 0 (numbersOf (valuePart (now (listing .entry))
         (now (pool .entry)) (fieldAt (now (p .entry)) f) i)) ⌝ }
@@ -137,8 +137,8 @@ fn write_fields(
     while 0 < left {
         let at = start + number(p, f + 3);
         write_value(p, f, t, listing, i, pool, &mut room[at..]);
-        f = f + 6;
-        t = t + 5;
+        f = f + 7;
+        t = t + 6;
         i = i + 1;
         left = left - 1;
     }

@@ -8,7 +8,7 @@ use borrow.Fn.Kinds.{In, Out}
 use borrow.Fn.PlainCycle.{Measures, is, falls, and}
 use lib.ListN.{length}
 use Rattle.layout.specs.Octets.{wordsOf}
-use Rattle.layout.specs.BookRules.{parseGroups}
+use Rattle.layout.specs.BookRules.{listsOf, parseGroups}
 use Rattle.book.specs.Answers.{rowOf}
 use Rattle.book.proofs.Words.{length-words}
 use Rattle.book.proofs.Groups.{after, after-none, after-twice, block-within, row-within, row-end, row-deep}
@@ -22,47 +22,55 @@ use Rattle.book.proofs.+check_groups.Lts-check_groups as lts
 use Rattle.book.proofs.+check_groups.{statement}
 use Rattle.book.proofs.+check_groups.Tie.{close}
 
-abbrev μ : Measures 1 kinds.ps ℕ
-μ κs a = a .1 .1 .1 .0
+abbrev μ : Measures 2 kinds.ps ℕ
+μ κs a = a .1 .1 .1 .1 .0
 
 abbrev Inv-loop : lts.InvT-loop
-Inv-loop body from n depth version low high w₀ left₀ least₀ rules₀ w left least rules =
+Inv-loop book body from n depth version low high w₀ left₀ least₀ rules₀ w left least rules =
+    let ls = listsOf (wordsOf book) in
     let b = wordsOf body in
     (w ≤ length body / 2)
-    × (rowOf version low high (parseGroups b depth n from)
-    ≡ after rules (rowOf version least high (parseGroups b depth left w)))
+    × (rowOf version low high (parseGroups ls b depth n from)
+    ≡ after rules (rowOf version least high (parseGroups ls b depth left w)))
 
 abbrev μ-loop : lts.MeasureT-loop
-μ-loop body from n depth version low high w₀ left₀ least₀ rules₀ w left least rules = left
+μ-loop book body from n depth version low high w₀ left₀ least₀ rules₀ w left least rules = left
 
 module _ (t : ℕ) where
-  abbrev given : In 1 kinds.ps
-  given = and 1 kinds.ps (is 1 kinds.ps μ t) reads.Pre
+  abbrev given : In 2 kinds.ps
+  given = and 2 kinds.ps (is 2 kinds.ps μ t) reads.Pre
 
-  abbrev claims : lts.Claims
-  claims = (
-    word-reads.Asked,
-    word-reads.Learnt,
-    check-block-reads.Asked,
-    check-block-reads.Learnt,
-    and 1 kinds.ps (falls 1 kinds.ps _<_ μ t) reads.Pre,
-    reads.Post,
-    more-rules-reads.Asked,
-    more-rules-reads.Learnt,
-  )
+  abbrev below : In 2 kinds.ps
+  below = and 2 kinds.ps (falls 2 kinds.ps _<_ μ t) reads.Pre
 
-  abbrev Need : (lts.Claims → In 1 lts.ps → Out 1 lts.ps lts.r → lts.InvT-loop → lts.MeasureT-loop → Type 0) → Type 0
-  Need n = n claims given reads.Post Inv-loop μ-loop
+  abbrev Need : (lts.Claims → In 2 lts.ps → Out 2 lts.ps lts.r → lts.InvT-loop → lts.MeasureT-loop → Type 0) → Type 0
+  Need n =
+      n (
+        word-reads.Asked,
+        word-reads.Learnt,
+        check-block-reads.Asked,
+        check-block-reads.Learnt,
+        below,
+        reads.Post,
+        more-rules-reads.Asked,
+        more-rules-reads.Learnt,
+      )
+      given reads.Post Inv-loop μ-loop
+
+  loop-holds : Need lts.Need-loop-holds
+  loop-holds c = (c .before .before .pre .1 .1, sym (after-none _))
 
   returns : Need lts.Need-returns
-  returns c = row-breaks _ _ _ (c .before .before .loop .inv .1) (row-deep _ _ _ _ _ _ _ (omega arith) (c .if1 .taken))
+  returns c =
+      row-breaks _ _ _ (c .before .before .loop .inv .1)
+      (row-deep _ _ _ _ _ _ _ _ (omega arith) (c .if1 .taken))
 
   returns-2 : Need lts.Need-returns-2
   returns-2 c =
       let i = c .before .before in
       row-breaks _ _ _ (i .before .loop .inv .1)
-      (row-short _ _ _ _ _ _ _ (omega arith) (omega arith)
-      (omega (arith, length-words (i .before .before .before .args .body .now))))
+      (row-short _ _ _ _ _ _ _ _ (omega arith) (omega arith)
+      (omega (arith, length-words (i .before .before .before .before .args .body .now))))
 
   returns-3 : Need lts.Need-returns-3
   returns-3 c =
@@ -70,19 +78,17 @@ module _ (t : ℕ) where
       let i = read .before .before .before in
       let e = rw (read .word .ensures .value) at
       (sym (c .enum-told .given .1) ∙ c .before .before .check-block .ensures) in
-      row-breaks _ _ _ (i .before .loop .inv .1) (row-block _ _ _ _ _ _ _ (omega arith) (omega arith) e)
+      row-breaks _ _ _ (i .before .loop .inv .1) (row-block _ _ _ _ _ _ _ _ (omega arith) (omega arith) e)
 
   check-groups-requires : Need lts.Need-check-groups-requires
   check-groups-requires c κs =
       let block = c .before in
-      let start = block .before .before .before .before .before .before .before .before .before in
+      let start = block .before .before .before .before .before .before .before .before .before .before in
       let e = sym (block .block .given .1) ∙ block .before .before .check-block .ensures in (
         omega (arith, start .pre .0),
-        omega (
-          arith,
-          length-words
-              (start .args .body .now),
-          block-within _ _ _ _ _ _ _ _ _ e,
+        (
+          start .pre .1 .0,
+          omega (arith, length-words (start .args .body .now), block-within _ _ _ _ _ _ _ _ _ _ e),
         ),
       )
 
@@ -95,7 +101,7 @@ module _ (t : ℕ) where
       (sym (block .block .given .1) ∙ block .before .before .check-block .ensures) in
       let k = rw (read .word .ensures .value) at
       (sym (c .enum-told2 .given .1) ∙ c .before .before .check-groups .ensures) in
-      row-breaks _ _ _ (i .before .loop .inv .1) (row-inner _ _ _ _ _ _ _ (omega arith) (omega arith) _ _ _ e k)
+      row-breaks _ _ _ (i .before .loop .inv .1) (row-inner _ _ _ _ _ _ _ _ (omega arith) (omega arith) _ _ _ e k)
 
   loop-again : Need lts.Need-loop-again
   loop-again c =
@@ -103,7 +109,7 @@ module _ (t : ℕ) where
       let block = inner .before .before .before .before in
       let read = block .before .before .before in
       let i = read .before .before .before in
-      let start = i .before .before .before in
+      let start = i .before .before .before .before in
       let e = rw (read .word .ensures .value) at
       (sym (block .block .given .1) ∙ block .before .before .check-block .ensures) in
       let k = rw (read .word .ensures .value) at
@@ -111,23 +117,34 @@ module _ (t : ℕ) where
         omega (
           arith,
           length-words (start .args .body .now),
-          row-within _ _ _ _ _ _ _ _ _ k
-              (block-within _ _ _ _ _ _ _ _ _ e),
+          row-within _ _ _ _ _ _ _ _ _ _ k
+              (block-within _ _ _ _ _ _ _ _ _ _ e),
         ),
-        i .before .loop .inv .1 ∙ ap (after _) (row-next _ _ _ _ _ _ _ (omega arith) (omega arith) _ _ _ e _ _ k)
+        i .before .loop .inv .1 ∙ ap (after _) (row-next _ _ _ _ _ _ _ _ (omega arith) (omega arith) _ _ _ e _ _ k)
             ∙ after-twice _ _ _
             ∙ rw (c .more-rules .ensures, read .word .ensures .value) refl,
       )
+
+  returns-5 : Need lts.Need-returns-5
+  returns-5 c = row-stops _ _ _ _ (c .before .loop .inv .1) (row-end _ _ _ _ _ _ _ _ (omega arith))
 
 pub +check-groups-spec : {M : Type 1} → statement M
 +check-groups-spec =
     close μ
     (λ t.
-    lts.spec (claims t) (given t) reads.Post Inv-loop μ-loop (λ c. (c .before .pre .1, sym (after-none _))) (returns t)
-    (λ c. search needs) (returns-2 t)
+    lts.spec (
+      word-reads.Asked,
+      word-reads.Learnt,
+      check-block-reads.Asked,
+      check-block-reads.Learnt,
+      below t,
+      reads.Post,
+      more-rules-reads.Asked,
+      more-rules-reads.Learnt,
+    )
+    (given t) reads.Post Inv-loop μ-loop (loop-holds t) (returns t) (λ c. search needs) (returns-2 t)
     (λ c. search needs) (λ c κs. search needs)
-    (λ c. search needs) (λ c κs. omega arith) (λ c. search needs) (λ c. search needs) (returns-3 t)
-    (λ c. search needs)
+    (λ c. search needs) (λ c κs. search needs) (λ c. search needs) (λ c. search needs) (returns-3 t) (λ c. search needs)
     (check-groups-requires t) (λ c. search needs) (λ c. search needs) (returns-4 t) (λ c κs. search needs)
     (λ c. search needs) (λ c. search needs)
-    (loop-again t) (λ c. row-stops _ _ _ _ (c .before .loop .inv .1) (row-end _ _ _ _ _ _ _ (omega arith))))
+    (loop-again t) (returns-5 t))

@@ -1,4 +1,4 @@
--- What is left of the bodies is ruled, with the faults so far, as all of them are.
+-- What is left of the bodies is ruled, with the faults so far, as all of them are; then the lists answer.
 use mathlib.Core.Path.{_≡_, sym, _∙_, ap, refl}
 use Prim.Native.Nat.{_+_, _*_, _/_, _≤_}
 use native.Mathlib.Omega.{arith}
@@ -6,42 +6,31 @@ use borrow.Author.Needs.{needs}
 use lib.ListN.{length, take, drop}
 use Rattle.layout.specs.Result.{Result}
 use Rattle.layout.specs.Octets.{wordsOf}
-use Rattle.layout.specs.BookRules.{parseBodies, parseBody, parseContents, word}
+use Rattle.layout.specs.BookRules.{eachMust, headSize, listGood, listsOf, parseBodies, parseBody, parseContents, word}
 use Rattle.layout.specs.Contracts.{checked}
 use Rattle.book.specs.Answers.{bodiesOf, bodyOf, ruled}
-use Rattle.book.proofs.Words.{length-words, words-between}
-use Rattle.book.proofs.RuleLaws.{Head, head-says}
-use Rattle.book.proofs.Bodies.{Lies, lies-first, bodies-end, bodies-broken, bodies-next}
+use Rattle.book.proofs.Words.{words-between}
+use Rattle.book.proofs.Rows.{Head, body-lies, head-says}
+use Rattle.book.proofs.Bodies.{bodies-broken, bodies-end, bodies-next, bodies-stop}
 use Rattle.book.proofs.check_bodies.Statement.{statement}
 use Rattle.book.proofs.check_bodies.Tie as tie
 
 abbrev Inv-loop : tie.InvT-loop
 Inv-loop book version left₀ t₀ w₀ five₀ six₀ left t w five six =
     let b = wordsOf book in
-    (t + left ≤ 64) × (w + 3 * left ≤ length book / 2) × Lies b left w
-    × (checked (bodiesOf b) ≡ checked (ruled version t five six (parseBodies b t (parseContents b left w))))
+    (t + left ≡ word b 2) × (w ≡ headSize + 3 * t)
+    × (checked (bodiesOf b)
+    ≡ checked (ruled (eachMust listGood 4 (word b 2) (listsOf b)) version t five six
+    (parseBodies (listsOf b) b t (parseContents b left w))))
 
 abbrev μ-loop : tie.MeasureT-loop
 μ-loop book version left₀ t₀ w₀ five₀ six₀ left t w five six = left
 
 head : (c : tie.Start Inv-loop μ-loop) → Head (c .args .book .now)
-head c = head-says _ (c .pre .0)
+head c = head-says _ (c .pre .head)
 
 loop-holds : tie.Need-loop-holds Inv-loop μ-loop
-loop-holds c =
-    let start = c .before .before .before in
-    let h = head start in
-    rw (c .word2 .ensures .value, c .before .word .ensures .value) (
-      omega (arith, h .few),
-      h .fits,
-      record {
-        low = 0;
-        at = 4 + 3 * word (wordsOf (start .args .book .now)) 2;
-        good =
-            start .pre .1;
-      },
-      refl,
-    )
+loop-holds c = rw (c .word2 .ensures .value, c .before .word .ensures .value) (omega arith, omega arith, refl)
 
 -- The next body lies in the book.
 lies : (c : tie.After-word4 Inv-loop μ-loop)
@@ -49,15 +38,16 @@ lies : (c : tie.After-word4 Inv-loop μ-loop)
     c .before .word3 .result + c .word4 .result ≤ length book / 2
 lies c =
     let i = c .before .before in
-    let book = i .before .before .before .before .before .args .book .now in
-    rw (c .word4 .ensures .value, c .before .word3 .ensures .value, ← (length-words book))
-    (lies-first _ _ _ (i .loop-test .taken) (i .before .loop .inv .2) .0)
+    let start = i .before .before .before .before .before in
+    let at = i .before .loop .inv .1 in
+    rw (c .word4 .ensures .value, c .before .word3 .ensures .value, at)
+    (body-lies _ (start .pre) (i .before .loop .t) (omega arith))
 
 -- The words of the part that was lent are the body's.
 says : (c : tie.After-check-body Inv-loop μ-loop) → let read = c .before .before in let i = read .before .before in
     let b = wordsOf (i .before .before .before .before .before .args .book .now) in let w = i .before .loop .w in
     c .check-body .result ≡ bodyOf (i .before .before .before .word .result)
-    (parseBody (take (word b (w + 2)) (drop (word b (w + 1)) b)))
+    (parseBody (listsOf b) (take (word b (w + 2)) (drop (word b (w + 1)) b)))
 says c =
     let read = c .before .before in
     c .check-body .ensures ∙ rw (words-between _ _ _, read .word4 .ensures .value, read .before .word3 .ensures .value)
@@ -70,34 +60,53 @@ returns c =
     let body = told .before .before in
     let i = body .before .before .before .before in
     c .refuse .ensures
-    ∙ sym (i .before .loop .inv .3
+    ∙ sym (i .before .loop .inv .2
     ∙ ap (λ (x : Result (Unit {0})). checked x)
-    (bodies-broken _ _ _ _ _ _ _ (i .loop-test .taken) (sym (told .enum-told .given .1) ∙ says body)))
+    (bodies-broken _ _ _ _ _ _ _ _ _ (i .loop-test .taken) (sym (told .enum-told .given .1) ∙ says body)))
 
 loop-again : tie.Need-loop-again Inv-loop μ-loop
 loop-again c =
     let whole = c .before .before .before in
     let body = whole .before .before in
     let i = body .before .before .before .before in
-    let inv = i .before .loop .inv in
-    let taken = i .loop-test .taken in (
+    let start = i .before .before .before .before .before in
+    let inv = i .before .loop .inv in (
       omega arith,
       omega arith,
-      lies-first _ _ _ taken (inv .2) .1,
-      inv .3 ∙ ap (λ (x : Result (Unit {0})). checked x)
-          (bodies-next _ _ _ _ _ _ _ taken (omega arith) _ (sym (whole .body .given .1) ∙ says body))
+      inv .2 ∙ ap (λ (x : Result (Unit {0})). checked x)
+          (bodies-next _ _ _ _ _ _ _ _ _ (i .loop-test .taken) (omega (arith, head start .few)) _
+          (sym (whole .body .given .1) ∙ says body))
           ∙ rw (c .first-of2 .ensures, c .before .first-of .ensures) refl,
     )
+
+returns-2 : tie.Need-returns-2 Inv-loop μ-loop
+returns-2 c =
+    let lists = c .before .before .before in
+    let i = lists .before .before in
+    c .verdict .ensures ∙ sym (i .loop .inv .2 ∙ bodies-end _ _ _ _ _ _ _ _ _ (omega arith)
+    (sym (c .before .enum-told2 .given .1) ∙ lists .check-lists .ensures))
+
+returns-3 : tie.Need-returns-3 Inv-loop μ-loop
+returns-3 c =
+    let refusal = c .before in
+    let lists = refusal .before .before in
+    let i = lists .before .before in
+    sym (i .loop .inv .2 ∙ bodies-stop _ _ _ _ _ _ _ _ _ (omega arith) _
+    (sym (refusal .refusal .given .1) ∙ lists .check-lists .ensures))
 
 pub check-bodies-spec : {M : Type 1} → statement M
 check-bodies-spec =
     tie.close
     (tie.spec Inv-loop μ-loop (λ c κs. omega (arith, head (c .before) .fits))
-    (λ c κs. omega (arith, head (c .before .before) .fits)) loop-holds (λ c. omega arith) (λ c κs. omega arith)
-    (λ c. omega (arith, c .word3 .ensures .small)) (λ c. omega arith) (λ c κs. omega arith)
+    (λ c κs. omega (arith, head (c .before .before) .fits)) loop-holds
+    (λ c. omega arith) (λ c κs. omega (arith, head (c .before .before .before .before .before) .fits))
+    (λ c. omega (arith, c .word3 .ensures .small)) (λ c. omega arith)
+    (λ c κs. omega (arith, head (c .before .before .before .before .before .before) .fits))
     (λ c. omega (arith, c .word4 .ensures .small))
-    (λ c. omega (arith, c .word4 .ensures .small, c .before .word3 .ensures .small)) (λ c. omega arith)
-    (λ c. search (needs, lies c)) (λ c. search (needs, lies c)) (λ c κs. search needs) (λ c. search needs)
-    (λ c. search needs) (λ c κs. search needs) returns (λ c κs. search needs) (λ c κs. search needs)
-    (λ c. omega arith) (λ c. omega arith) (λ c. omega arith) (λ c. omega arith) loop-again (λ c κs. search needs)
-    (λ c. c .verdict .ensures ∙ sym (c .before .before .loop .inv .3 ∙ bodies-end _ _ _ _ _ _ _ (omega arith))))
+    (λ c. omega (arith, c .word4 .ensures .small, c .before .word3 .ensures .small))
+    (λ c. omega arith) (λ c. search (needs, lies c)) (λ c. search (needs, lies c)) (λ c κs. search needs)
+    (λ c. search needs) (λ c. search needs)
+    (λ c κs. search needs) returns (λ c κs. search needs) (λ c κs. search needs) (λ c. omega arith) (λ c. omega arith)
+    (λ c. omega arith)
+    (λ c. omega arith) loop-again (λ c κs. search needs) (λ c. search needs) (λ c. search needs) (λ c κs. search needs)
+    returns-2 returns-3)

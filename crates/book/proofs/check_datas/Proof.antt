@@ -37,9 +37,12 @@ returns c =
     let e = rw (read .word .ensures .value) at (sym (c .before .between .ensures) ∙ c .if1 .left) in
     sym (i .before .loop .inv .1 ∙ datas-fall _ _ _ _ _ (i .loop-test .taken) e)
 
+returns-2 : tie.Need-returns-2 Inv-loop μ-loop
+returns-2 c = sym (c .before .loop .inv .1 ∙ datas-end _ _ _ _ _ (omega arith))
+
 pub check-datas-spec : {M : Type 1} → statement M
 check-datas-spec =
     tie.close
     (tie.spec Inv-loop μ-loop (λ c. (c .before .pre, refl)) (λ c. omega arith) (λ c κs. omega arith)
-    (λ c κs. search needs) (λ c. omega arith) (λ c. omega arith) (λ c. omega arith) loop-again returns
-    (λ c. sym (c .before .loop .inv .1 ∙ datas-end _ _ _ _ _ (omega arith))))
+    (λ c κs. search needs)
+    (λ c. omega arith) (λ c. omega arith) (λ c. omega arith) loop-again returns returns-2)

@@ -1,29 +1,26 @@
 -- The head's words, and what rule 2 says of them.
 use borrow.Author.Needs.{needs}
-use mathlib.Core.Path.{refl}
+use mathlib.Core.Path.{sym}
+use native.Mathlib.Omega.{arith}
+use Rattle.layout.specs.Octets.{wordsOf}
 use Rattle.book.proofs.Words.{length-words}
+use Rattle.book.proofs.Rows.{head-short}
 use Rattle.book.proofs.head_good.Statement.{statement}
 use Rattle.book.proofs.head_good.Tie as tie
 
 returns : tie.Need-returns
 returns c =
-    let both = c .before .before .before .before .before .before .before in
-    rw (
-      c .both5 .ensures,
-      c .before .word4 .ensures .value,
-      c .before .before .both4 .ensures,
-      c .before .before .before .both3 .ensures,
-      c .before .before .before .before .word3 .ensures .value,
-      c .before .before .before .before .before .word2 .ensures .value,
-      c .before .before .before .before .before .before .both2 .ensures,
-      both .both .ensures,
-      both .before .word .ensures .value,
-      length-words _,
-    ) refl
+    let book = c .before .before .args .book .now in
+    sym (head-short (wordsOf book) (omega (arith, length-words book)))
+
+returns-2 : tie.Need-returns-2
+returns-2 c =
+    let n = c .before .before .before .before .before .before .before .before in
+    rw (length-words (n .before .before .before .before .args .book .now)) (cc)
 
 pub head-good-spec : {M : Type 1} → statement M
 head-good-spec =
     tie.close (tie.spec
-    (λ c κs. search needs) (λ c. search needs) (λ c. search needs) (λ c κs. search needs) (λ c κs. search needs)
+    returns (λ c κs. search needs) (λ c κs. search needs) (λ c. search needs) (λ c. search needs) (λ c. search needs)
     (λ c κs. search needs) (λ c κs. search needs) (λ c κs. search needs) (λ c κs. search needs)
-    (λ c κs. search needs) (λ c κs. search needs) returns)
+    (λ c κs. search needs) (λ c κs. search needs) (λ c κs. search needs) (λ c κs. search needs) returns-2)

@@ -1,57 +1,23 @@
--- The field's numbers and the tests on them are the definition's case.
-use mathlib.Core.Path.{sym}
-use Prim.Native.Nat.{_≤_}
+-- Where the field has no list, it is what it is without; else what it is without is seen beside the list.
+use mathlib.Core.Path.{_∙_, sym}
 use borrow.Author.Needs.{needs}
-use Rattle.layout.specs.Book.{Field}
-use Rattle.layout.specs.BookRules.{fieldAt}
-use Rattle.fields.proofs.Fields.{field-absent, field-number, field-octets, number-inside}
+use Rattle.fields.proofs.Fields.{field-beside, field-free}
 use Rattle.fields.proofs.read_field.Statement.{statement}
 use Rattle.fields.proofs.read_field.Tie as tie
 
-abbrev field : tie.Start → Field
-field c = fieldAt (c .args .p .now) (c .args .f)
-
--- After the first test the field is present, and after the second it is one number.
-present : (c : tie.Else1)
-    → field (c .before .before .before .before) .since ≤ c .before .before .before .before .args .v
-present c = rw (c .before .number .ensures) at (c .if1 .left)
-
-single : (c : tie.Else2) → field (c .before .before .before .before .before .before .before) .length ≤ 1
-single c = rw (c .before .before .number2 .ensures) at (c .if2 .left)
-
-add-start : tie.Need-add-start
-add-start c =
-    let since = c .before .before in
-    search (needs, since .before .before .before .before .pre .fits .inside (present since))
-
-returns-2 : tie.Need-returns-2
-returns-2 c =
-    let len = c .before .before in
-    rw (c .before .number3 .ensures, len .number2 .ensures)
-    (sym (field-octets _ _ _ _ (present (len .before)) (rw (len .number2 .ensures) at (c .if2 .taken))))
-
-read-requires : tie.Need-read-requires
-read-requires c κs =
-    let one = c .before .before in
-    let fits = one .before .before .before .before .before .before .before .pre .fits in
-    rw (c .number5 .ensures, one .before .number3 .ensures)
-    (number-inside _ _ _ _ (present (one .before .before .before)) (single one) fits)
-
-returns-3 : tie.Need-returns-3
-returns-3 c =
-    let one = c .before .before .before in
-    rw (
-      c .read .ensures,
-      c .before .number5 .ensures,
-      c .before .before .number4 .ensures,
-      one .before .number3 .ensures,
-    )
-    (sym (field-number _ _ _ _ (present (one .before .before .before)) (single one)))
+abbrev start : tie.After-number → tie.Start
+start c = c .before .before .before
 
 pub read-field-spec : {M : Type 1} → statement M
 read-field-spec =
     tie.close
     (tie.spec (λ c. search needs) (λ c κs. search needs)
-    (λ c. sym (field-absent _ _ _ _ (rw (c .before .number .ensures) at (c .if1 .taken)))) (λ c. search needs)
-    (λ c κs. search needs) (λ c. search needs) (λ c κs. search needs) add-start returns-2 (λ c. search needs)
-    (λ c κs. search needs) (λ c. search needs) (λ c κs. search needs) read-requires returns-3)
+    (λ c κs. let pre = start (c .before) .pre in (pre .field .fits, pre .fits))
+    (λ c. let list = c .before .before in
+    field-free _ _ _ _ _ _ _ (start list .pre .field) (c .read-plain .ensures)
+    (sym (list .number .ensures) ∙ c .before .if1 .taken))
+    (λ c κs. let pre = start (c .before) .pre in (pre .field .fits, pre .fits))
+    (λ c κs. let pre = start (c .before .before) .pre in (pre .field .tableFits, pre .field .derived .names .list))
+    (λ c. let read = c .before in
+    field-beside _ _ _ _ _ _ _ (start (read .before .before) .pre .field) (read .read-plain2 .ensures) _
+    (c .beside .ensures)))

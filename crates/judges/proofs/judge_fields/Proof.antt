@@ -5,18 +5,20 @@ use native.Mathlib.Omega.{arith}
 use borrow.Author.Needs.{needs}
 use Rattle.layout.specs.BookRules.{parseFields}
 use Rattle.layout.specs.Writing.{judgeFields}
+use Rattle.prepared.specs.Names.{listsAt}
 use Rattle.prepared.specs.Positions.{IsBlock, manyFields, fieldsFrom, shapeAt, tableFrom}
 use Rattle.judges.specs.Judges.{fieldsEnd, judged}
-use Rattle.judges.proofs.Judging.{field-here, fields-end, fields-next, fields-refused}
+use Rattle.judges.proofs.Judging.{fields-end, fields-next, fields-refused}
+use Rattle.prepared.proofs.Open.{field-here}
 use Rattle.judges.proofs.judge_fields.Statement.{statement}
 use Rattle.judges.proofs.judge_fields.Tie as tie
 
 abbrev Inv-loop : tie.InvT-loop
 Inv-loop p a listing size start left₀ f₀ t₀ i₀ left f t i =
-    IsBlock p a × (left ≤ manyFields p a) × (f + 6 * left ≡ fieldsFrom p a + 6 * manyFields p a)
-    × (t + 5 * left ≡ tableFrom p a + 5 * manyFields p a)
+    IsBlock p a × (left ≤ manyFields p a) × (f + 7 * left ≡ fieldsFrom p a + 7 * manyFields p a)
+    × (t + 6 * left ≡ tableFrom p a + 6 * manyFields p a)
     × (judged fieldsEnd (judgeFields listing size (shapeAt p a .fields) start)
-    ≡ judged fieldsEnd (judgeFields listing size (parseFields p left f) i))
+    ≡ judged fieldsEnd (judgeFields listing size (parseFields (listsAt p) p left f) i))
 
 abbrev μ-loop : tie.MeasureT-loop
 μ-loop p a listing size start left₀ f₀ t₀ i₀ left f t i = left

@@ -1,41 +1,27 @@
 -- One law for each kind of element.
 use mathlib.Core.Path.{sym, _∙_}
+use Prim.Native.Nat.{_<_}
 use native.Mathlib.Omega.{arith}
 use borrow.Author.Needs.{needs}
+use Rattle.prepared.specs.Positions.{manyFields}
 use Rattle.places.proofs.Elements.{data-less, element-data, element-field, element-group, entry-datas}
 use Rattle.places.proofs.Elements.{entry-fits}
 use Rattle.places.proofs.Elements.{entry-row, field-less, field-readable, group-less}
 use Rattle.places.proofs.element_at.Statement.{statement}
 use Rattle.places.proofs.element_at.Tie as tie
 
-add-field : tie.Need-add-read-field
-add-field c =
-    let pre = c .before .before .before .before .before .pre in
-    omega (arith, pre .0 .stands .block .fieldsFit, pre .0 .stands .block .short)
+-- A field that the block has.
+less : (c : tie.After-x)
+    → c .x .given .0 .0 < manyFields (c .before .before .before .before .args .p .now .now)
+    (c .before .before .before .before .args .a)
+less c = let pre = c .before .before .before .before .pre in field-less (pre .0) _ (pre .1) _ (c .x .given .1)
 
-mul-field : tie.Need-mul-read-field
-mul-field c =
-    let pre = c .before .before .before .before .before .pre in
-    omega (arith, field-less (pre .0) _ (pre .1) _ (c .before .x .given .1), pre .0 .stands .block .fewFields)
-
-add-field-2 : tie.Need-add-read-field-2
-add-field-2 c =
-    let pre = c .before .before .before .before .before .pre in
-    omega (
-      arith,
-      field-less (pre .0) _ (pre .1) _ (c .before .x .given .1),
-      pre .0 .stands .block .fieldsFit,
-      pre .0 .stands .block .short,
-    )
-
-read-field-requires : tie.Need-read-field-requires
-read-field-requires c κs =
-    let pre = c .before .before .before .before .before .pre in
-    let less = field-less (pre .0) _ (pre .1) _ (c .before .x .given .1) in
-    record {
-      whole = omega (arith, less, pre .0 .stands .block .fieldsFit);
-      fits = field-readable _ _ _ _ _ _ _ _ (pre .0 .stands) (pre .0 .enough) (entry-fits (pre .0)) less;
-    }
+read-one-requires : tie.Need-read-one-requires
+read-one-requires c κs =
+    let told = c .before .before in
+    let pre = told .before .before .before .before .pre .0 in
+    rw (c .number .ensures)
+    (field-readable _ _ _ _ _ _ _ _ (pre .stands) (pre .enough) (entry-fits pre) (less told))
 
 group-at-requires : tie.Need-group-at-requires
 group-at-requires c κs =
@@ -57,10 +43,9 @@ data-after-requires c κs =
 
 returns : tie.Need-returns
 returns c =
-    let told = c .before .before in
+    let told = c .before .before .before in
     let pre = told .before .before .before .before .pre in
-    rw (told .x .given .1)
-    (c .read-field .ensures ∙ sym (element-field (pre .0) _ (field-less (pre .0) _ (pre .1) _ (told .x .given .1))))
+    rw (told .x .given .1) (c .read-one .ensures ∙ sym (element-field (pre .0) _ (less told)))
 
 returns-2 : tie.Need-returns-2
 returns-2 c =
@@ -77,7 +62,10 @@ returns-3 c =
 pub element-at-spec : {M : Type 1} → statement M
 element-at-spec =
     tie.close
-    (tie.spec (λ c. search needs) add-field mul-field add-field-2 read-field-requires (λ c. search needs)
+    (tie.spec (λ c. search needs) (λ c. search needs) (λ c κs. search needs)
+    (λ c. omega (arith, less (c .before .before))) (λ c. omega (arith, less (c .before .before))) (λ c. search needs)
+    (λ c. omega (arith, less (c .before .before))) (λ c. omega (arith, less (c .before .before)))
+    read-one-requires (λ c. search needs)
     (λ c. let ok = c .before .before .before .before .before .pre .0 in omega (arith, entry-fits ok, ok .short))
     group-at-requires (λ c. search needs)
     (λ c. let ok = c .before .before .before .before .before .pre .0 in omega (arith, entry-fits ok, ok .short))

@@ -1,13 +1,14 @@
 -- Its elements are stored, then its groups one after the other, and its head when it is known where they end. The
 -- measure of a call is the depth left.
 use mathlib.Core.Path.{_≡_, ap}
-use Prim.Native.Nat.{ℕ, _<_}
+use Prim.Native.Nat.{ℕ, _+_, _<_}
 use native.Mathlib.Omega.{arith}
 use borrow.Fn.Kinds.{In, Out}
 use borrow.Fn.PlainCycle.{Measures, is, falls, and}
 use lib.ListN.{length}
 use lib.Seq.{length-sets}
 use Rattle.layout.specs.Book.{need as needOf}
+use Rattle.prepare.specs.Names.{GoodLists, fromIn, listsIn, versionOf}
 use Rattle.prepare.specs.Positions.{BlockAt, shapeAt}
 use Rattle.book.proofs.word.Reads as word-reads
 use Rattle.prepare.proofs.Rows.{Storing, end-is, first-fits, group-stored, groups-stored, next-is, storing-on}
@@ -23,20 +24,23 @@ use Rattle.prepare.proofs.+put_group.Lts-put_group as lts
 use Rattle.prepare.proofs.+put_group.{statement}
 use Rattle.prepare.proofs.+put_group.Tie.{close}
 
-abbrev μ : Measures 2 kinds.ps ℕ
-μ κs a = a .1 .1 .1 .1 .0
+abbrev μ : Measures 3 kinds.ps ℕ
+μ κs a = a .1 .1 .1 .1 .1 .0
 
 abbrev Inv-loop : lts.InvT-loop
-Inv-loop body w id since depth version room₀ at need to₀ x₀ left₀ room to x left =
-    BlockAt body depth w × (need ≡ needOf version (shapeAt body w))
-    × Storing body depth version w at room₀ room left x to
+Inv-loop book body w id since depth room₀ at need to₀ x₀ left₀ room to x left =
+    BlockAt body depth w × (need ≡ needOf (versionOf book) (shapeAt (listsIn book) body w))
+    × Storing (listsIn book) (fromIn book) (versionOf book) body depth w at room₀ room left x to × GoodLists book
 
 abbrev μ-loop : lts.MeasureT-loop
-μ-loop body w id since depth version room₀ at need to₀ x₀ left₀ room to x left = left
+μ-loop book body w id since depth room₀ at need to₀ x₀ left₀ room to x left = left
 
 module _ (t : ℕ) where
-  abbrev given : In 2 kinds.ps
-  given = and 2 kinds.ps (is 2 kinds.ps μ t) reads.Pre
+  abbrev given : In 3 kinds.ps
+  given = and 3 kinds.ps (is 3 kinds.ps μ t) reads.Pre
+
+  abbrev below : In 3 kinds.ps
+  below = and 3 kinds.ps (falls 3 kinds.ps _<_ μ t) reads.Pre
 
   abbrev claims : lts.Claims
   claims = (
@@ -50,13 +54,13 @@ module _ (t : ℕ) where
     word-reads.Learnt,
     open-row-reads.Asked,
     open-row-reads.Learnt,
-    and 2 kinds.ps (falls 2 kinds.ps _<_ μ t) reads.Pre,
+    below,
     reads.Post,
     put-head-reads.Asked,
     put-head-reads.Learnt,
   )
 
-  abbrev Need : (lts.Claims → In 2 lts.ps → Out 2 lts.ps lts.r → lts.InvT-loop → lts.MeasureT-loop → Type 0) → Type 0
+  abbrev Need : (lts.Claims → In 3 lts.ps → Out 3 lts.ps lts.r → lts.InvT-loop → lts.MeasureT-loop → Type 0) → Type 0
   Need n = n claims given reads.Post Inv-loop μ-loop
 
   loop-holds : Need lts.Need-loop-holds
@@ -64,21 +68,23 @@ module _ (t : ℕ) where
       let from = c .before in
       let own = from .before in
       let elements = own .before .before .before in
-      let start = elements .before .before .before .before in
+      let start = elements .before .before .before .before .before in
       let long = rw length-sets at (ap length (elements .put-elements .ensures .1)) in (
-        start .pre .1 .0,
+        start .pre .1 .1,
         elements .put-elements .ensures .0,
-        storing-starts _ _ _ _ _ _ _ _ _ (start .pre .1 .0) (omega (arith, long, start .pre .1 .1))
+        storing-starts _ _ _ _ _ _ _ _ _ _ _ (start .pre .1 .1) (omega (arith, long, start .pre .1 .2))
             (c .word .ensures .value) (from .groups-from .ensures) (omega (arith, own .size-block .ensures)),
+        start .pre .1 .0,
       )
 
   put-group-requires : Need lts.Need-put-group-requires
   put-group-requires c κs =
       let o = c .before .before .before in
       let l = o .before .before in
-      let start = l .before .before .before .before .before .before .before .before .before .before in
+      let start = l .before .before .before .before .before .before .before .before .before .before .before in
+      let inv = l .loop .inv in
       let opened = o .open-row .ensures in
-      (omega (arith, opened .deep, start .pre .0), (opened .block, first-fits (l .loop .inv .2) opened 0 0))
+      (omega (arith, opened .deep, start .pre .0), (inv .3, opened .block, first-fits _ _ _ (inv .2) opened 0 0))
 
   loop-again : Need lts.Need-loop-again
   loop-again c =
@@ -89,9 +95,10 @@ module _ (t : ℕ) where
       let inv = o .before .before .loop .inv in (
         inv .0,
         inv .1,
-        storing-on (inv .2) (o .open-row .ensures) _ _ (id .word2 .ensures .value) (since .word3 .ensures .value)
+        storing-on _ _ _ (inv .2) (o .open-row .ensures) _ _ (id .word2 .ensures .value) (since .word3 .ensures .value)
             (call .put-group .result) _ (call .put-group .ensures .0 .0) (call .put-group .ensures .0 .1)
             (call .put-group .ensures .1),
+        inv .3,
       )
 
   put-head-requires : Need lts.Need-put-head-requires
@@ -106,11 +113,11 @@ module _ (t : ℕ) where
       let l = none .before in
       let inv = l .loop .inv in
       let elements = l .before .before .before .before .before .before in
-      let start = elements .before .before .before .before in
-      let next = next-is (inv .2) (none .loop-test .left) in (
-        (end-is (inv .2) (none .loop-test .left), next),
-        group-stored _ _ _ (inv .0) _ _ _ _ _ _ (start .args .room .now) _ _ _ (inv .1) next
-            (elements .put-elements .ensures .1) (groups-stored (inv .2) (none .loop-test .left))
+      let start = elements .before .before .before .before .before in
+      let next = next-is _ _ _ (inv .2) (none .loop-test .left) in (
+        (end-is _ _ _ (inv .2) (none .loop-test .left), next),
+        group-stored _ _ _ _ _ _ (inv .0) _ _ _ _ _ (start .args .room .now) _ _ _ (inv .1) next
+            (elements .put-elements .ensures .1) (groups-stored _ _ _ (inv .2) (none .loop-test .left))
             (head .put-head .ensures),
       )
 
@@ -120,12 +127,16 @@ pub +put-group-spec : {M : Type 1} → statement M
     (λ t.
     lts.spec (claims t) (given t) reads.Post Inv-loop μ-loop
     (λ c. omega arith)
-    (λ c κs. let pre = c .before .before .before .pre .1 in (pre .0 .fits, omega (arith, pre .1)))
-    (λ c κs. c .before .before .before .before .before .before .pre .1 .0 .fits)
-    (λ c. omega (arith, c .size-block .ensures, c .before .before .before .before .before .before .before .pre .1 .1))
-    (λ c κs. c .before .before .before .before .before .before .before .pre .1 .0 .fits)
-    (λ c. omega (arith, c .before .before .before .before .before .before .before .before .pre .1 .0 .fits))
-    (λ c κs. omega (arith, c .before .before .before .before .before .before .before .before .pre .1 .0 .fits))
+    (λ c κs. let pre = c .before .before .before .before .pre .1 in (pre .0, pre .1 .fits, omega (arith, pre .2)))
+    (λ c κs. c .before .before .before .before .before .before .before .pre .1 .1 .fits)
+    (λ c. omega (
+      arith,
+      c .size-block .ensures,
+      c .before .before .before .before .before .before .before .before .pre .1 .2,
+    ))
+    (λ c κs. c .before .before .before .before .before .before .before .before .pre .1 .1 .fits)
+    (λ c. omega (arith, c .before .before .before .before .before .before .before .before .before .pre .1 .1 .fits))
+    (λ c κs. omega (arith, c .before .before .before .before .before .before .before .before .before .pre .1 .1 .fits))
     (loop-holds t)
     (λ c κs. (c .before .loop .inv .2 .row, c .loop-test .taken))
     (λ c κs. omega (arith, c .open-row .ensures .block .fits))

@@ -15,17 +15,18 @@ put-table-requires c κs =
     let is-f = d .before .word .ensures .value in
     let is-d = d .word2 .ensures .value in
     let long = rw length-sets at (ap length (copy .copy-words .ensures)) in
-    (omega (arith, is-f, is-d), omega (arith, is-f, is-d, long))
+    let lists = d .before .before .before .before .before .pre .0 in
+    (lists, omega (arith, is-f, is-d), omega (arith, is-f, is-d, long))
 
 returns : tie.Need-returns
 returns c =
     let table = c .before .before in
     let copy = table .before .before .before .before in
     let d = copy .before .before in
-    let start = d .before .before .before .before in
+    let start = d .before .before .before .before .before in
     let is-f = d .before .word .ensures .value in (
       table .put-table .ensures .0 ∙ rw is-f refl,
-      elements-stored _ _ _ _ _ (start .args .room .now) _ _ is-f
+      elements-stored _ _ _ _ _ _ _ (start .args .room .now) _ _ is-f
           (omega (arith, d .word2 .ensures .value)) (copy .copy-words .ensures) (table .put-table .ensures .1),
     )
 

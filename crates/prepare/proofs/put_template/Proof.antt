@@ -18,7 +18,8 @@ put-group-requires c κs =
     let start = n .before .before .before .before .before in
     let part = part-is (start .args .book .now) (start .args .w) _ _ (n .before .word2 .ensures .value)
     (n .word3 .ensures .value) in (
-      subst (λ (x : List ℕ). BlockAt x 4 0) (sym part) (start .pre .0 .body .block),
+      start .pre .0,
+      subst (λ (x : List ℕ). BlockAt x 4 0) (sym part) (start .pre .1 .body .block),
       simp length-set (omega (arith, start .pre, ap (λ (x : List ℕ). groupSize x 4 0) part)),
     )
 

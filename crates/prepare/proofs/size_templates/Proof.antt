@@ -13,8 +13,8 @@ use Rattle.prepare.proofs.size_templates.Tie as tie
 
 abbrev Inv-loop : tie.InvT-loop
 Inv-loop book n left₀ w₀ seen₀ left w seen =
-    AreTemplates book left w × (sizesOf (templatesAt book n 4) ≤ 65535)
-    × (sizesOf (templatesAt book n 4) ≡ seen + sizesOf (templatesAt book left w))
+    AreTemplates book left w × (sizesOf (templatesAt book n 5) ≤ 65535)
+    × (sizesOf (templatesAt book n 5) ≡ seen + sizesOf (templatesAt book left w))
 
 abbrev μ-loop : tie.MeasureT-loop
 μ-loop book n left₀ w₀ seen₀ left w seen = left

@@ -4,6 +4,7 @@ use Prim.Native.Nat.{_+_, _-_, _*_, _/_, _<_, _≤_}
 use native.Mathlib.Omega.{arith}
 use Rattle.layout.specs.Book.{need, needAfter}
 use Rattle.layout.specs.BookRules.{parseFields, word}
+use Rattle.prepared.specs.Names.{listsAt}
 use Rattle.prepared.specs.Positions.{IsBlock, manyFields, shapeAt}
 use Rattle.prepared.proofs.Needs.{need-cut}
 use Rattle.prepared.proofs.older_fields.Statement.{statement}
@@ -12,8 +13,8 @@ use Rattle.prepared.proofs.older_fields.Tie as tie
 abbrev Inv-loop : tie.InvT-loop
 Inv-loop p a v low₀ high₀ low high =
     IsBlock p a × (low ≤ high) × (high ≤ manyFields p a)
-    × (0 < low → word p (a + 12 + 6 * (low - 1) + 5) ≤ v)
-    × (need v (shapeAt p a) ≡ needAfter v 0 (parseFields p high (a + 12)))
+    × (0 < low → word p (a + 12 + 7 * (low - 1) + 5) ≤ v)
+    × (need v (shapeAt p a) ≡ needAfter v 0 (parseFields (listsAt p) p high (a + 12)))
 
 abbrev μ-loop : tie.MeasureT-loop
 μ-loop p a v low₀ high₀ low high = high - low
@@ -46,7 +47,7 @@ loop-again-2 c =
       omega arith,
       omega arith,
       inv .3,
-      rw q at (inv .4) ∙ need-cut _ _ mid (l .high - mid) _ _
+      rw q at (inv .4) ∙ need-cut _ _ _ mid (l .high - mid) _ _
           (λ i from to. omega (arith, inv .0 .rising mid i from (omega arith), absent)),
     )
 

@@ -1,16 +1,17 @@
 -- A row that has the id lies from `low` up to `high`.
-use mathlib.Core.Path.{_≡_, sym, _∙_}
-use Prim.Native.Nat.{ℕ, _-_, _≤_, _<_}
+use mathlib.Core.Path.{sym, _∙_}
+use Prim.Native.Nat.{_-_, _≤_}
 use native.Mathlib.Omega.{arith}
 use Rattle.layout.specs.BookRules.{word}
 use Rattle.prepared.specs.Books.{HoldsBook, idOf}
-use Rattle.prepared.proofs.Rows.{found-at, not-within, within-above, within-below}
+use Rattle.book.proofs.Search.{Within, within-above, within-below}
+use Rattle.prepared.proofs.Rows.{found-at, not-found-at}
 use Rattle.prepared.proofs.search.Statement.{statement}
 use Rattle.prepared.proofs.search.Tie as tie
 
 abbrev Inv-loop : tie.InvT-loop
 Inv-loop p id low₀ high₀ low high =
-    HoldsBook p × (high ≤ word p 2) × ((i : ℕ) → i < word p 2 → idOf p i ≡ id → (low ≤ i) × (i < high))
+    HoldsBook p × (high ≤ word p 2) × Within (idOf p) (word p 2) id low high
 
 abbrev μ-loop : tie.MeasureT-loop
 μ-loop p id low₀ high₀ low high = high - low
@@ -28,7 +29,7 @@ loop-again c =
     let inv = read .before .before .loop .inv in (
       inv .0,
       inv .1,
-      within-above _ (inv .0) _ _ _ (inv .2) _ (omega arith) (rw (read .number2 .ensures) at (c .if2 .taken)),
+      within-above _ _ (inv .0 .rising) _ _ _ (inv .2) _ (omega arith) (rw (read .number2 .ensures) at (c .if2 .taken)),
     )
 
 loop-again-2 : tie.Need-loop-again-2 Inv-loop μ-loop
@@ -39,7 +40,7 @@ loop-again-2 c =
     let other = rw (read .number2 .ensures) at (c .before .if1 .left) in (
       inv .0,
       omega arith,
-      within-below _ (inv .0) _ _ _ (inv .2) _ (omega arith) (omega (arith, above, other)),
+      within-below _ _ (inv .0 .rising) _ _ _ (inv .2) _ (omega arith) (omega (arith, above, other)),
     )
 
 pub search-spec : {M : Type 1} → statement M
@@ -50,4 +51,4 @@ search-spec =
     (λ c. omega arith) (λ c. omega arith) (λ c. omega arith)
     (λ c κs. omega arith) (λ c. omega arith) (λ c. omega arith) (λ c. omega arith) (λ c κs. omega arith) returns
     (λ c. omega arith) (λ c. omega arith) loop-again (λ c. omega arith) loop-again-2
-    (λ c. let inv = c .before .loop .inv in sym (not-within _ (inv .0) _ _ _ (inv .2) (omega arith))))
+    (λ c. let inv = c .before .loop .inv in sym (not-found-at _ (inv .0) _ _ _ (inv .2) (omega arith))))

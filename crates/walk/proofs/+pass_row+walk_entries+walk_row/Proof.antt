@@ -9,6 +9,7 @@ use borrow.Fn.Kinds.{In, Out}
 use borrow.Fn.PlainCycle.{Measures, is, falls, and}
 use lib.ListN.{length}
 use Rattle.prepared.specs.Positions.{BlockAt, IsRow, manyFields}
+use Rattle.prepared.proofs.Accepted.{fields-length}
 use Rattle.prepared.proofs.Open.{no-groups-at}
 use Rattle.prepared.proofs.number.Reads as number-reads
 use Rattle.prepared.proofs.need.Reads as need-reads
@@ -18,7 +19,6 @@ use Rattle.wire.proofs.Dimensions.{good}
 use Rattle.wire.proofs.refuse.Reads as refuse-reads
 use Rattle.wire.proofs.open_group.Reads as open-group-reads
 use Rattle.walk.specs.Walks.{entriesAt, rowAt, valuesEnd}
-use Rattle.walk.proofs.Blocks.{length-fields}
 use Rattle.walk.proofs.Entries.{entries-end, entry-datas, entry-next, entry-row, entry-short, plain-walked}
 use Rattle.walk.proofs.Rows.{groups-done, row-absent, row-dimension, row-entries, row-next}
 use Rattle.walk.proofs.Ways.{Way, leads, way-ends, way-on, way-refused, way-starts}
@@ -213,7 +213,7 @@ module _ (t : ℕ) where
         inv .4,
         way-on (inv .5) _ _ _
             (entry-next _ _ _ _ _ _ _ _ (i .loop-test .taken) (omega arith) _ _ (sym (told .row .given .1) ∙ row)
-            _ _ _ (sym (datas-told .datas .given .1) ∙ datas) (inv .4 ∙ sym (length-fields _ _ _)))
+            _ _ _ (sym (datas-told .datas .given .1) ∙ datas) (inv .4 ∙ sym (fields-length _ _ _ _)))
             (omega arith) (end .1) (omega arith),
       )
 

@@ -5,8 +5,9 @@ use native.Mathlib.Nat.{add-zero}
 use native.Mathlib.Omega.{arith}
 use borrow.Author.Needs.{needs}
 use Rattle.layout.specs.Book.{end, size}
-use Rattle.layout.specs.BookRules.{fieldAt, parseFields, word}
-use Rattle.prepared.specs.Positions.{shapeAt}
+use Rattle.layout.specs.BookRules.{parseFields, word}
+use Rattle.prepared.specs.Names.{listsAt}
+use Rattle.prepared.specs.Positions.{fieldAt, shapeAt}
 use Rattle.prints.specs.Prints.{andThen}
 use Rattle.prints.proofs.Going.{Going, going-call, going-end, going-first, going-none, stored-none}
 use Rattle.writer.specs.Zeros.{ZerosFrom}
@@ -23,7 +24,7 @@ Inv-loop p a h listing pool room₀ start left₀ f₀ t₀ i₀ room left f t i
     (h .length ≡ n)
     × ((at : ℕ) × FieldsLeft p n at left f t × ZerosFrom (start + at) room
     × Going (fieldsPart listing pool n 0 (shapeAt p a .fields) i₀)
-    (fieldsPart listing pool n at (parseFields p left f) i) start room₀ (start + at) room)
+    (fieldsPart listing pool n at (parseFields (listsAt p) p left f) i) start room₀ (start + at) room)
 
 abbrev μ-loop : tie.MeasureT-loop
 μ-loop p a h listing pool room₀ start left₀ f₀ t₀ i₀ room left f t i = left
@@ -50,7 +51,7 @@ padded : (c : tie.After-number Inv-loop μ-loop)
     let field = fieldAt p (l .f) in
     Going (fieldsPart (a .listing .now) (a .pool .now) n 0 (shapeAt p (a .a) .fields) (a .c .record))
     (andThen (valuePart (a .listing .now) (a .pool .now) field (l .i))
-    (fieldsPart (a .listing .now) (a .pool .now) n (end field) (parseFields p (l .left - 1) (l .f + 6))))
+    (fieldsPart (a .listing .now) (a .pool .now) n (end field) (parseFields (listsAt p) p (l .left - 1) (l .f + 7))))
     (a .c .at) (a .room .now) (a .c .at + c .number .result) (l .room)
 padded c =
     let i = c .before in

@@ -5,8 +5,9 @@ use native.Mathlib.Omega.{arith}
 use borrow.Author.Needs.{needs}
 use lib.ListN.{length}
 use Rattle.layout.specs.Octets.{octetsOf}
-use Rattle.layout.specs.BookRules.{fieldAt, word}
+use Rattle.layout.specs.BookRules.{word}
 use Rattle.number_types.proofs.Types.{is-width}
+use Rattle.prepared.specs.Positions.{fieldAt}
 use Rattle.prints.specs.Prints.{numbersOf}
 use Rattle.writer.specs.Parts.{numberOr}
 use Rattle.writer.proofs.Parts.{ValueOpen, array-open, array-within, number-open, value-there}

@@ -1,0 +1,58 @@
+-- The field's numbers and the tests on them are the definition's case.
+use mathlib.Core.Path.{sym}
+use Prim.Native.Nat.{_≤_}
+use borrow.Author.Needs.{needs}
+use Rattle.layout.specs.Book.{Field}
+use Rattle.prepared.specs.Positions.{fieldAt}
+use Rattle.fields.proofs.Fields.{field-absent, field-number, field-octets, number-inside}
+use Rattle.fields.proofs.read_plain.Statement.{statement}
+use Rattle.fields.proofs.read_plain.Tie as tie
+
+abbrev field : tie.Start → Field
+field c = fieldAt (c .args .p .now) (c .args .f)
+
+-- After the first test the field is present, and after the second it is one number.
+present : (c : tie.Else1)
+    → field (c .before .before .before .before) .since ≤ c .before .before .before .before .args .v
+present c = rw (c .before .number .ensures) at (c .if1 .left)
+
+single : (c : tie.Else2) → field (c .before .before .before .before .before .before .before) .length ≤ 1
+single c = rw (c .before .before .number2 .ensures) at (c .if2 .left)
+
+add-start : tie.Need-add-start
+add-start c =
+    let since = c .before .before in
+    search (needs, since .before .before .before .before .pre .1 .inside (present since))
+
+returns-2 : tie.Need-returns-2
+returns-2 c =
+    let len = c .before .before in
+    rw (c .before .number3 .ensures, len .number2 .ensures)
+    (sym (field-octets _ _ _ _ (present (len .before)) (rw (len .number2 .ensures) at (c .if2 .taken))))
+
+read-requires : tie.Need-read-requires
+read-requires c κs =
+    let one = c .before .before in
+    let fits = one .before .before .before .before .before .before .before .pre .1 in
+    rw (c .number5 .ensures, one .before .number3 .ensures)
+    (number-inside _ _ _ _ (present (one .before .before .before)) (single one) fits)
+
+returns-3 : tie.Need-returns-3
+returns-3 c =
+    let one = c .before .before .before in
+    rw (
+      c .read .ensures,
+      c .before .number5 .ensures,
+      c .before .before .number4 .ensures,
+      one .before .number3 .ensures,
+    )
+    (sym (field-number _ _ _ (field (one .before .before .before .before .before .before .before))
+    (present (one .before .before .before)) (single one)))
+
+pub read-plain-spec : {M : Type 1} → statement M
+read-plain-spec =
+    tie.close
+    (tie.spec (λ c. search needs) (λ c κs. search needs)
+    (λ c. sym (field-absent _ _ _ _ (rw (c .before .number .ensures) at (c .if1 .taken)))) (λ c. search needs)
+    (λ c κs. search needs) (λ c. search needs) (λ c κs. search needs) add-start returns-2 (λ c. search needs)
+    (λ c κs. search needs) (λ c. search needs) (λ c κs. search needs) read-requires returns-3)
