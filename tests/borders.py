@@ -15,10 +15,11 @@ import schema_book
 from schema_book import block, octets
 
 FOLDER = ROOT / "crates" / "check_books"
+HEAD, ROW, FIELD = 5, 3, 7  # words of a book's head, of a row of its contents, of a field
 
 
-def field(type="uint8", length=1, offset=0, presence="required", since=0):
-    return schema_book.field(1, type, offset, length, presence, since)
+def field(type="uint8", length=1, offset=0, presence="required", since=0, list=None):
+    return schema_book.field(1, type, offset, length, presence, since, list)
 
 
 def fields(n):
@@ -33,10 +34,22 @@ def group(fields=(field(),), groups=(), datas=(), since=0, length=8):
     return schema_book.group(3, block(length, fields, groups, datas), since)
 
 
-def book(*bodies, schema=7, version=0, ids=None, shift=0, more=0):
-    """A book of these bodies. `shift` is added to the last row's first word, `more` to the number of words."""
-    words = schema_book.words(schema, version, list(zip(ids or range(1, len(bodies) + 1), bodies)))
-    words[2 + 3 * len(bodies)] += shift
+def values(*numbers):
+    """A list: an enumeration, its numbers as they are given."""
+    return [0, *numbers]
+
+
+def bits(*numbers):
+    """A list: a set, its numbers as they are given."""
+    return [1, *numbers]
+
+
+def book(*bodies, lists=(), schema=7, version=0, ids=None, list_ids=None, shift=0, more=0):
+    """A book of these bodies and lists, their ids from 1 and from 4 on. `shift` is added to the last row's first word,
+    `more` to the number of words."""
+    templates = [*zip(ids or range(1, len(bodies) + 1), bodies)]
+    words = schema_book.words(schema, version, templates, [*zip(list_ids or range(4, len(lists) + 4), lists)])
+    words[HEAD + ROW * (len(bodies) + len(lists)) - 2] += shift
     words[3] += more
     return octets(words)
 
@@ -49,26 +62,44 @@ def deep(depth):
 
 
 def sized(n):
-    """A good book of n octets: as many bodies, of 7 to 423 words with their rows, as its words need."""
-    words = n // 2 - 4
-    bodies = []
-    left = 10 + words % 2
-    while left:
-        more = (words - 7 * left) // left // 2 * 2 if left > 1 else words - 7
-        count = min(64, more // 6)
-        bodies.append(block(64, fields(count), (), [data()] * ((more - 6 * count) // 2)))
-        words, left = words - 3 - len(bodies[-1]), left - 1
-    return book(*bodies)
+    """A good book of n octets: bodies of 64 fields, and a last one of fewer with some data."""
+    words, bodies = n // 2 - HEAD, []
+    while words > ROW + len(FULL):
+        bodies.append(FULL)
+        words -= ROW + len(FULL)
+    left = words - ROW - len(EMPTY)
+    count = left // FIELD
+    count -= (count + left) % 2
+    return book(*bodies, block(64, fields(count), (), [data()] * ((left - FIELD * count) // 2)))
+
+
+def named(names, type="uint8", length=1):
+    """A book of one field, and the list that it names."""
+    return book(block(8, [field(type, length, list=4)]), lists=[names])
+
+
+def naming(id):
+    """A book of lists 4 and 9, and a field that names this one."""
+    return book(block(8, [field(list=id)]), lists=[values(1), bits(1)], list_ids=[4, 9])
+
+
+def of_lists(*lists, **more):
+    """A book of these lists, which nothing uses."""
+    return book(ONE, lists=lists, **more)
 
 
 EMPTY = block(0)
 ONE = block(8, [field()])
+FULL = block(64, fields(64))
 FIVE = block(8, [field(type=9)])
 SIX = block(8, [field(since=1)])
+MISSING = block(8, [field(list=0)])
 
 BORDERS = [
     ("6 octets", octets([7, 0, 1]), "refused 1 0"),
     ("8 octets, no template", octets([7, 0, 0, 4]), "refused 2 0"),
+    ("8 octets, the head without its fifth word", octets([7, 0, 1, 4]), "refused 2 0"),
+    ("10 octets, the head and no contents", octets([7, 0, 1, 5, 0]), "refused 2 0"),
     ("odd octets", book(ONE) + b"\0", "refused 1 0"),
     ("8,192 octets", sized(8192), "accepted"),
     ("8,194 octets", sized(8194), "refused 1 0"),
@@ -79,19 +110,33 @@ BORDERS = [
     ("version 65535", book(ONE, version=65535), "refused 2 0"),
     ("64 templates", book(*[EMPTY] * 64), "accepted"),
     ("65 templates", book(*[EMPTY] * 65), "refused 2 0"),
-    ("contents that do not fit", octets([7, 0, 2, 9, 1, 10, 0, 2, 10]), "refused 2 0"),
+    ("contents that just fit", octets([7, 0, 2, 11, 0, 1, 11, 0, 2, 11, 0]), "refused 4 0"),
+    ("contents that do not fit", octets([7, 0, 2, 10, 0, 1, 11, 0, 2, 11]), "refused 2 0"),
+    ("contents of a list that just fit", octets([7, 0, 1, 11, 1, 1, 11, 0, 4, 11, 0]), "refused 4 0"),
+    ("contents of a list that do not fit", octets([7, 0, 1, 10, 1, 1, 11, 0, 4, 11]), "refused 2 0"),
+    ("65,535 lists", octets([7, 0, 1, 12, 65535, 1, 8, 4] + EMPTY), "refused 2 0"),
     ("template id 65534", book(ONE, ids=[65534]), "accepted"),
     ("template id 65535", book(ONE, ids=[65535]), "refused 3 0"),
     ("ids that rise", book(ONE, ONE, ids=[4, 5]), "accepted"),
     ("ids that stay", book(ONE, ONE, ids=[4, 4]), "refused 3 0"),
     ("a body one word on", book(ONE, shift=1), "refused 3 0"),
-    ("a word after the last body", octets([7, 0, 1, 12, 1, 7, 4] + EMPTY + [0]), "refused 3 0"),
+    ("a word after the last body", octets([7, 0, 1, 13, 0, 1, 8, 4] + EMPTY + [0]), "refused 3 0"),
+    ("list id 65534", of_lists(bits(1), list_ids=[65534]), "accepted"),
+    ("list id 65535", of_lists(bits(1), list_ids=[65535]), "refused 3 0"),
+    ("list ids that rise", of_lists(bits(1), bits(1), list_ids=[4, 5]), "accepted"),
+    ("list ids that stay", of_lists(bits(1), bits(1), list_ids=[4, 4]), "refused 3 0"),
+    ("a list id that is a template's", of_lists(bits(1), list_ids=[1]), "accepted"),
+    ("a list one word on", of_lists(bits(1), shift=1), "refused 3 0"),
+    ("a list one word before", of_lists(bits(1), shift=-1), "refused 3 0"),
+    ("a list", octets([7, 0, 1, 17, 1, 1, 11, 4, 4, 15, 2] + EMPTY + [0, 65]), "accepted"),
+    ("a word after the last list", octets([7, 0, 1, 18, 1, 1, 11, 4, 4, 15, 2] + EMPTY + [0, 65, 66]), "refused 3 0"),
+    ("a list before a template", octets([7, 0, 1, 17, 1, 1, 13, 4, 4, 11, 2] + [0, 65] + EMPTY), "refused 3 0"),
     ("a body of no words", book(EMPTY, []), "refused 4 1"),
     ("a body of three words", book([0, 0, 0]), "refused 4 0"),
     ("a body of four words", book(EMPTY), "accepted"),
     ("a word left over", book(ONE + [0]), "refused 4 0"),
     ("a field cut short", book(ONE[:-1]), "refused 4 0"),
-    ("64 fields", book(block(64, fields(64))), "accepted"),
+    ("64 fields", book(FULL), "accepted"),
     ("65 fields", book(block(65, fields(65))), "refused 4 0"),
     ("16 groups", book(block(0, (), [group()] * 16)), "accepted"),
     ("17 groups", book(block(0, (), [group()] * 17)), "refused 4 0"),
@@ -100,6 +145,17 @@ BORDERS = [
     ("depth 4", book(deep(4)), "accepted"),
     ("depth 5", book(deep(5)), "refused 4 0"),
     ("a group without fields", book(block(0, (), [group(fields=())])), "refused 4 0"),
+    ("a list of no words", of_lists([]), "refused 4 1"),
+    ("an enumeration of no numbers", of_lists(values()), "refused 4 1"),
+    ("a set of no numbers", of_lists(bits()), "refused 4 1"),
+    ("an enumeration of one number", of_lists(values(0)), "accepted"),
+    ("a set of one number", of_lists(bits(0)), "accepted"),
+    ("a list of kind 2", of_lists([2, 0]), "refused 4 1"),
+    ("a list of 64 numbers", of_lists(values(*range(64))), "accepted"),
+    ("a list of 65 numbers", of_lists(values(*range(65))), "refused 4 1"),
+    ("a list whose numbers rise by one", of_lists(bits(6, 7)), "accepted"),
+    ("a list whose numbers stay", of_lists(bits(7, 7)), "refused 4 1"),
+    ("a list whose numbers fall", of_lists(bits(7, 6)), "refused 4 1"),
     ("block length 65534", book(block(65534)), "accepted"),
     ("block length 65535", book(block(65535)), "refused 5 0"),
     ("a group's block length 65535", book(block(0, (), [group(length=65535)])), "refused 5 0"),
@@ -119,6 +175,35 @@ BORDERS = [
     ("an offset above the previous one and under its end",
      book(block(40, [field(type="int64"), field(offset=1)])), "refused 5 0"),
     ("an offset whose end passes 65,535", book(block(65534, [field(type="uint64", offset=65534)])), "refused 5 0"),
+    ("a field that names a list where there is none", book(MISSING), "refused 5 0"),
+    ("a field that names list 4 of 4 and 9", naming(4), "accepted"),
+    ("a field that names list 9 of 4 and 9", naming(9), "accepted"),
+    ("a field that names list 0, of 4 and 9", naming(0), "refused 5 0"),
+    ("a field that names list 1, of 4 and 9", naming(1), "refused 5 0"),
+    ("a field that names list 8, of 4 and 9", naming(8), "refused 5 0"),
+    ("a field that names list 10, of 4 and 9", naming(10), "refused 5 0"),
+    ("an enumeration over char", named(values(65), "char"), "accepted"),
+    ("an enumeration over int8", named(values(65), "int8"), "refused 5 0"),
+    ("an enumeration over uint8", named(values(65), "uint8"), "accepted"),
+    ("an enumeration over int16", named(values(65), "int16"), "refused 5 0"),
+    ("an enumeration over uint16", named(values(65), "uint16"), "accepted"),
+    ("an enumeration over uint32", named(values(65), "uint32"), "refused 5 0"),
+    ("an enumeration over uint64", named(values(65), "uint64"), "refused 5 0"),
+    ("an enumeration of values that its char cannot hold", named(values(0, 31, 127, 65535), "char"), "accepted"),
+    ("an enumeration over an array", named(values(65), "char", 2), "refused 5 0"),
+    ("a set over char", named(bits(0), "char"), "refused 5 0"),
+    ("a set over int8", named(bits(0), "int8"), "refused 5 0"),
+    ("a set over int64", named(bits(0), "int64"), "refused 5 0"),
+    ("a set over an array", named(bits(0), "uint8", 2), "refused 5 0"),
+    ("bit 7 of a uint8", named(bits(0, 7), "uint8"), "accepted"),
+    ("bit 8 of a uint8", named(bits(0, 8), "uint8"), "refused 5 0"),
+    ("bit 15 of a uint16", named(bits(0, 15), "uint16"), "accepted"),
+    ("bit 16 of a uint16", named(bits(0, 16), "uint16"), "refused 5 0"),
+    ("bit 31 of a uint32", named(bits(0, 31), "uint32"), "accepted"),
+    ("bit 32 of a uint32", named(bits(0, 32), "uint32"), "refused 5 0"),
+    ("bit 63 of a uint64", named(bits(*range(64)), "uint64"), "accepted"),
+    ("bit 64 of a uint64", named(bits(0, 64), "uint64"), "refused 5 0"),
+    ("bit 64 in a set that nothing uses", of_lists(bits(0, 64)), "accepted"),
     ("since at the version", book(block(8, [field(since=1)]), version=1), "accepted"),
     ("since above the version", book(block(8, [field(since=2)]), version=1), "refused 6 0"),
     ("since of fields that falls", book(block(8, [field(since=1), field(offset=1)]), version=1), "refused 6 0"),
@@ -134,7 +219,11 @@ BORDERS = [
     ("a group in a group older than it",
      book(block(8, (), [group([field(since=1)], [group()], since=1)]), version=1), "refused 6 0"),
     ("4 in the last template hides 5 in the first", book(FIVE, ONE, [0]), "refused 4 2"),
+    ("4 in the last template hides 4 in a list", book(ONE, [0], lists=[values()]), "refused 4 1"),
+    ("4 in the last list hides 5 in the first template", book(MISSING, ONE, lists=[bits(1), values()]), "refused 4 3"),
+    ("4 at the first list that has it", book(ONE, lists=[bits(1), values(), values()]), "refused 4 2"),
     ("5 in the last template hides 6 in the first", book(SIX, ONE, FIVE), "refused 5 2"),
+    ("5 of a missing list hides 6 in the first template", book(SIX, ONE, MISSING, lists=[bits(1)]), "refused 5 2"),
     ("5 at the first template that has it", book(ONE, FIVE, FIVE), "refused 5 1"),
     ("6 at the first template that has it", book(ONE, SIX, SIX), "refused 6 1"),
 ]

@@ -1,7 +1,7 @@
 #!/usr/bin/env python3
 """wrapper.py: tries examples/python/siphonbard.py over the shared object that SIPHONBARD_SO names: listings of none to
-many records, a place, a message that is written back, a book whose octets are gone, the largest book, and refusals with
-their words.
+many records, a place, a message that is written back, a number that its list lacks, a book whose octets are gone, the
+largest book, and refusals with their words.
 
 Prints what is wrong. The last line is 'wrapper: N passed, 0 failed'."""
 import struct
@@ -11,11 +11,13 @@ from pathlib import Path
 ROOT = Path(__file__).resolve().parent.parent
 sys.path[:0] = [str(ROOT / "examples"), str(ROOT / "examples" / "python")]
 
-from schema_book import block, book, field, group
+from schema_book import block, book, enumeration, field, group
 from siphonbard import FIRST, Book, Element, Kind, Refused
 
 EMPTY = book(7, 0, {1: block(0)})
 ENTRIES = book(7, 0, {1: block(0, groups=[group(1, block(2, [field(2, "uint16", offset=0)]))])})
+LISTED = book(7, 0, {1: block(1, [field(1, "uint8", offset=0, list=4)])}, {4: enumeration([1])})
+NO_NAMES = book(7, 0, {1: block(0)}, {4: enumeration([])})
 
 
 def of_records(count):
@@ -43,6 +45,27 @@ def writes_back():
     return by.write(1, records, message), message
 
 
+def of_listed(code):
+    """The message by LISTED whose field has the code."""
+    return struct.pack("<6HB", 1, 1, 7, 0, 0, 0, code)
+
+
+def tells_unlisted():
+    by = Book(LISTED)
+    return [by.list(of_listed(code)) for code in (1, 2)], [[(Kind.NUMBER, 1, 0)], [(Kind.UNLISTED, 2, 0)]]
+
+
+def writes_listed():
+    return Book(LISTED).write(1, [(Kind.NUMBER, 1, 0)], b""), of_listed(1)
+
+
+def refuses_unlisted():
+    """The number of the refusal: as what it was read as, and as a number."""
+    write = Book(LISTED).write
+    kinds = Kind.UNLISTED, Kind.NUMBER
+    return [refuses(write, 1, [(kind, 2, 0)], b"")[0] for kind in kinds], [51, 52]
+
+
 def outlives_its_octets():
     """The octets are altered once the book is there."""
     octets, (_, message, records) = bytearray(ENTRIES), of_records(9)
@@ -52,11 +75,11 @@ def outlives_its_octets():
 
 
 def prepares_the_largest():
-    """8,192 octets: ten templates of 64 fields, one of 28 and one of none."""
-    templates = {id: block(64, octet_fields(64)) for id in range(10)}
-    octets = book(7, 0, {**templates, 10: block(28, octet_fields(28)), 11: block(0)})
-    message = struct.pack("<6H", 28, 10, 7, 0, 0, 0) + bytes(range(28))
-    return (len(octets), Book(octets).list(message)), (8192, [(Kind.NUMBER, value, 0) for value in range(28)])
+    """8,192 octets: eight templates of 64 fields, one of 61 and one of none, and a list of six numbers."""
+    templates = {id: block(64, octet_fields(64)) for id in range(8)}
+    octets = book(7, 0, {**templates, 8: block(61, octet_fields(61)), 9: block(0)}, {4: enumeration(range(6))})
+    message = struct.pack("<6H", 61, 8, 7, 0, 0, 0) + bytes(range(61))
+    return (len(octets), Book(octets).list(message)), (8192, [(Kind.NUMBER, value, 0) for value in range(61)])
 
 
 def octet_fields(count):
@@ -77,8 +100,14 @@ def refuses_a_book():
 
 def refuses_a_template():
     octets = book(7, 0, {1: block(0), 2: block(0, octet_fields(1))})
-    words = "refused 5 in template 1: a block length, type, length, presence or offset breaks its rule"
-    return refuses(Book, octets), (5, 1, words)
+    words = "a block length, or a field's type, length, presence, offset or list, breaks its rule"
+    return refuses(Book, octets), (5, 1, "refused 5 in template 1: " + words)
+
+
+def refuses_a_list():
+    """The words before those of the rule, too: the body is counted on behind the templates'."""
+    number, place, words = refuses(Book, NO_NAMES)
+    return (number, place, words.split(":")[0]), (4, 1, "refused 4 in body 1")
 
 
 def refuses_a_message():
@@ -93,8 +122,9 @@ def refuses_a_room():
 
 COUNTS = [0, 1, FIRST - 1, FIRST, FIRST + 1, 2 * FIRST, 5000]
 TESTS = [(lists, count) for count in COUNTS] + [
-    (places,), (writes_back,), (outlives_its_octets,), (prepares_the_largest,), (refuses_a_book,),
-    (refuses_a_template,), (refuses_a_message,), (refuses_a_room,),
+    (places,), (writes_back,), (tells_unlisted,), (writes_listed,), (refuses_unlisted,), (outlives_its_octets,),
+    (prepares_the_largest,), (refuses_a_book,), (refuses_a_template,), (refuses_a_list,), (refuses_a_message,),
+    (refuses_a_room,),
 ]
 
 

@@ -96,7 +96,7 @@ fn compare(&(name, what, make): &Entry, rounds: usize) -> Compared {
     let lean = lean::Book::compiled(&plain);
     agree::agree(&library, &plain, workload);
     agree::agree(&library, &lean, workload);
-    let rounds = if workload.counts().messages == 1 { rounds } else { fewer(rounds) };
+    let rounds = if workload.is_stream() { fewer(rounds) } else { rounds };
     let mut rooms = workload.rooms();
     let time = |operation| {
         let mut contenders = [

@@ -29,7 +29,7 @@ pub fn time(&(name, _, make): &Entry, rounds: usize) -> Prepared {
     let (workload, mut rooms) = (&make(), Rooms { numbers: vec![0; PREPARED_MOST], octets: Vec::new() });
     let octets = &workload.book[..];
     let book = Book::checked(octets).expect("a book");
-    let rounds = if workload.counts().messages == 1 { rounds } else { fewer(rounds) };
+    let rounds = if workload.is_stream() { fewer(rounds) } else { rounds };
     let mut contenders = [
         Contender::new(vec![octets], |octets, rooms| prepare(octets, &mut rooms.numbers)),
         Contender::new(workload.samples(), |sample, _| siphonbard::check(octets, sample.octets)),

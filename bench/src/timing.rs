@@ -24,7 +24,7 @@ type Run<'a> = dyn FnMut(Range<usize>, usize, &mut Rooms) + 'a;
 const LAP: Duration = Duration::from_micros(200);
 
 /// How many messages of a stream make a lap.
-const LAP_MESSAGES: usize = 250;
+pub const LAP_MESSAGES: usize = 250;
 
 /// As `std::hint::black_box`, which older compilers lack: the compiler takes the value to be used, and to be any.
 #[inline(always)]

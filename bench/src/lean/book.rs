@@ -49,27 +49,27 @@ impl Book {
         let mut book =
             Book { schema: tree.schema, version: tree.version, ids, blocks, fields: Vec::new(), data: Vec::new() };
         for (number, template) in tree.templates.iter().enumerate() {
-            book.compile(number, &template.block, 0);
+            book.compile(tree, number, &template.block, 0);
         }
         book
     }
 
-    fn compile(&mut self, number: usize, tree: &plain::Block, since: u16) {
+    fn compile(&mut self, tree: &plain::Book, number: usize, block: &plain::Block, since: u16) {
         let (fields, data, groups) = (self.fields.len(), self.data.len(), self.blocks.len());
-        self.fields.extend(tree.fields.iter().map(Field::compiled));
-        self.data.extend(tree.data.iter().map(|data| data.since));
-        self.blocks.resize(groups + tree.groups.len(), Block::default());
+        self.fields.extend(block.fields.iter().map(|field| Field::compiled(field, tree.list_of(field))));
+        self.data.extend(block.data.iter().map(|data| data.since));
+        self.blocks.resize(groups + block.groups.len(), Block::default());
         self.blocks[number] = Block {
-            length: tree.length.into(),
+            length: block.length.into(),
             since,
-            leaf: tree.groups.is_empty() && tree.data.is_empty(),
-            need: tree.fields.last().map_or(0, plain::Field::end),
+            leaf: block.groups.is_empty() && block.data.is_empty(),
+            need: block.fields.last().map_or(0, plain::Field::end),
             fields: Span { first: fields, end: self.fields.len() },
             groups: Span { first: groups, end: self.blocks.len() },
             data: Span { first: data, end: self.data.len() },
         };
-        for (at, group) in tree.groups.iter().enumerate() {
-            self.compile(groups + at, &group.block, group.since);
+        for (at, group) in block.groups.iter().enumerate() {
+            self.compile(tree, groups + at, &group.block, group.since);
         }
     }
 

@@ -5,6 +5,7 @@
 mod book;
 mod check;
 mod list;
+mod names;
 mod numbers;
 mod place;
 mod write;
@@ -32,6 +33,7 @@ const OCTETS: u64 = 2;
 const ABSENT: u64 = 3;
 const GROUP: u64 = 4;
 const OUT_OF_RANGE: u64 = 5;
+const UNLISTED: u64 = 6;
 
 const NULL16: u16 = 65535;
 const LONGEST: usize = 65535;

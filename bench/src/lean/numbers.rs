@@ -1,8 +1,9 @@
 //! Fields, and their numbers in octets: eight octets are read or stored at once, whatever the width.
 
-use super::{Record, NULL, NUMBER, OCTETS, OUT_OF_RANGE};
+use super::names::Names;
+use super::{Record, NULL, NUMBER, OCTETS, OUT_OF_RANGE, UNLISTED};
+use plain::NameList;
 
-#[derive(Clone, Copy)]
 pub struct Field {
     pub since: u16,
     pub array: bool,
@@ -16,10 +17,11 @@ pub struct Field {
     least: u64,
     span: u64,
     null: u64,
+    names: Names,
 }
 
 impl Field {
-    pub fn compiled(field: &plain::Field) -> Field {
+    pub fn compiled(field: &plain::Field, list: Option<&NameList>) -> Field {
         let kind = field.kind();
         Field {
             since: field.since,
@@ -32,6 +34,7 @@ impl Field {
             least: kind.least as u64,
             span: (kind.greatest - kind.least) as u64,
             null: kind.null as u64,
+            names: Names::compiled(list, kind.octets),
         }
     }
 
@@ -40,7 +43,7 @@ impl Field {
     }
 
     /// The record of the field in a block that starts at `start`, in a message that is long enough.
-    #[inline]
+    #[inline(always)]
     pub fn read(&self, message: &[u8], start: usize) -> Record {
         let at = start + self.offset;
         if self.array {
@@ -49,7 +52,8 @@ impl Field {
         let top = eight(message, at) << self.shift;
         let value = if self.signed { ((top as i64) >> self.shift) as u64 } else { top >> self.shift };
         let null = self.optional && value == self.null;
-        let kind = if self.holds(value) { NUMBER } else { OUT_OF_RANGE };
+        let listed = if self.names.have(value) { NUMBER } else { UNLISTED };
+        let kind = if self.holds(value) { listed } else { OUT_OF_RANGE };
         [if null { NULL } else { kind }, if null { 0 } else { value }, 0]
     }
 
@@ -66,7 +70,7 @@ impl Field {
             let within = second.checked_add(third).map_or(false, |end| end <= pool.len() as u64);
             return kind == OCTETS && third == self.octets as u64 && within;
         }
-        let number = kind == NUMBER && self.holds(second);
+        let number = kind == NUMBER && self.holds(second) && self.names.have(second);
         let null = kind == NULL && self.optional && second == 0;
         (number || null) && third == 0
     }

@@ -1,6 +1,7 @@
 //! The books of the workloads.
 
-use plain::{Block, Book, Data, Field, Group, Template};
+use plain::lists::{ENUMERATION, SET};
+use plain::{Block, Book, Data, Field, Group, NameList, Template};
 
 const CHAR: u16 = 0;
 const UINT8: u16 = 2;
@@ -18,7 +19,7 @@ const SCHEMA: u16 = 7;
 
 /// A required field.
 const fn one(kind: u16) -> Field {
-    Field { id: 1, kind, length: 1, offset: 0, presence: 0, since: 0 }
+    Field { id: 1, kind, length: 1, offset: 0, presence: 0, since: 0, list: 0 }
 }
 
 const fn optional(kind: u16) -> Field {
@@ -27,6 +28,11 @@ const fn optional(kind: u16) -> Field {
 
 const fn array(length: u16) -> Field {
     Field { length, ..one(CHAR) }
+}
+
+/// A required field with the list of this id.
+const fn named(kind: u16, list: u16) -> Field {
+    Field { list: list + 1, ..one(kind) }
 }
 
 const fn newer(field: Field) -> Field {
@@ -53,7 +59,8 @@ const DATA: Data = Data { id: 3, since: 0 };
 
 fn book(blocks: Vec<Block>) -> Book {
     let template = |(number, block)| Template { id: number as u16 + 1, block };
-    Book { schema: SCHEMA, version: VERSION, templates: blocks.into_iter().enumerate().map(template).collect() }
+    let templates = blocks.into_iter().enumerate().map(template).collect();
+    Book { schema: SCHEMA, version: VERSION, templates, lists: Vec::new() }
 }
 
 /// Book A of the rules: a uint32, an optional int16, a group with a uint8, and a data.
@@ -84,6 +91,39 @@ pub fn market() -> Book {
         [one(INT64), one(UINT64), one(UINT32), one(UINT32), one(UINT16), optional(UINT8), one(UINT8), one(CHAR)];
     let root = block(&[one(UINT64), one(UINT32), one(UINT8)], 3);
     book(vec![Block { groups: vec![group(block(&price, 3))], ..root }])
+}
+
+/// An order with its fills. Of a fill side, capacity and liquidity are codes; its conditions and what it is part of are
+/// flags.
+pub fn listed() -> Book {
+    const SIDES: u16 = 54;
+    const CAPACITIES: u16 = 528;
+    const LIQUIDITIES: u16 = 851;
+    const CONDITIONS: u16 = 277;
+    const PARTS: u16 = 442;
+    let list = |id, kind, numbers: &[u16]| NameList { id, kind, numbers: numbers.to_vec() };
+    let codes = |id, codes: &[u8]| list(id, ENUMERATION, &codes.iter().map(|&code| code.into()).collect::<Vec<_>>());
+    let fill = [
+        one(INT64),
+        one(UINT32),
+        named(CHAR, SIDES),
+        named(CHAR, CAPACITIES),
+        named(UINT8, LIQUIDITIES),
+        optional(UINT8),
+        named(UINT16, CONDITIONS),
+        named(UINT64, PARTS),
+    ];
+    let root = block(&[one(UINT64), array(12), named(CHAR, SIDES), one(UINT32)], 3);
+    Book {
+        lists: vec![
+            codes(SIDES, b"1256"),
+            list(CONDITIONS, SET, &[0, 1, 2, 3, 4, 8, 9, 12]),
+            list(PARTS, SET, &[0, 1, 2, 3, 16, 17, 18, 32, 33, 48, 60, 63]),
+            codes(CAPACITIES, b"AGIPRW"),
+            list(LIQUIDITIES, ENUMERATION, &[0, 1, 2, 3, 4, 5, 10, 20, 40, 41]),
+        ],
+        ..book(vec![Block { groups: vec![group(block(&fill, 2))], ..root }])
+    }
 }
 
 /// Of one uint8.

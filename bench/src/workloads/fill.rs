@@ -1,6 +1,6 @@
 //! Random listings of a template: the same seed gives the same ones everywhere.
 
-use plain::{writer, Block, Book, Draft, Field, Rng, Template};
+use plain::{lists::ENUMERATION, writer, Block, Book, Draft, Field, NameList, Rng, Template};
 use std::ops::RangeInclusive;
 
 pub struct Fill {
@@ -17,19 +17,19 @@ impl Fill {
     /// A message of the template, as the book's writer has it.
     pub fn message(&mut self, book: &Book, template: &Template) -> Vec<u8> {
         let mut draft = Draft { template: template.id, listing: Vec::new(), pool: Vec::new() };
-        self.block(&template.block, &mut draft);
-        writer::message(book, &draft).expect("every value is in range")
+        self.block(book, &template.block, &mut draft);
+        writer::message(book, &draft).expect("every value is in range and listed")
     }
 
-    fn block(&mut self, block: &Block, draft: &mut Draft) {
+    fn block(&mut self, book: &Book, block: &Block, draft: &mut Draft) {
         for field in &block.fields {
-            self.field(field, draft);
+            self.field(field, book.list_of(field), draft);
         }
         for group in &block.groups {
             let entries = self.between(self.entries.clone());
             draft.listing.extend([4, entries as u64, 0]);
             for _ in 0..entries {
-                self.block(&group.block, draft);
+                self.block(book, &group.block, draft);
             }
         }
         for _ in &block.data {
@@ -38,7 +38,7 @@ impl Fill {
         }
     }
 
-    fn field(&mut self, field: &Field, draft: &mut Draft) {
+    fn field(&mut self, field: &Field, list: Option<&NameList>, draft: &mut Draft) {
         if field.is_array() {
             return self.octets(field.octets(), draft);
         }
@@ -46,8 +46,12 @@ impl Fill {
         if field.is_optional() && self.rng.chance(NULLS_PERCENT) {
             return draft.listing.extend([1, 0, 0]);
         }
-        let value = kind.least + i128::from(self.rng.draw()) % (kind.greatest - kind.least + 1);
-        draft.listing.extend([0, value as u64, 0]);
+        let value = match list {
+            None => (kind.least + i128::from(self.rng.draw()) % (kind.greatest - kind.least + 1)) as u64,
+            Some(list) if list.kind == ENUMERATION => self.rng.pick(&list.numbers).into(),
+            Some(list) => self.rng.draw() & list.numbers.iter().fold(0, |bits, &bit| bits | 1 << bit),
+        };
+        draft.listing.extend([0, value, 0]);
     }
 
     fn octets(&mut self, count: usize, draft: &mut Draft) {

@@ -2,11 +2,12 @@
 
 mod books;
 mod fill;
+mod listed;
 mod sized;
 mod stream;
 
 use crate::rivals::Asked;
-use crate::timing::Rooms;
+use crate::timing::{Rooms, LAP_MESSAGES};
 use fill::Fill;
 use plain::{Book, Draft, Message, Rng};
 use siphonbard::Element;
@@ -17,24 +18,26 @@ pub use sized::SIZED;
 pub type Entry = (&'static str, &'static str, fn() -> Workload);
 
 /// All but those of the growth and of the book's size.
-pub const ALL: [Entry; 7] = [
+pub const ALL: [Entry; 8] = [
     ("m", "message M under book A", m),
     ("flat", "an order of ten fields", flat),
     ("entries", "M's shape with 400 entries", || m_with(400)),
     ("deep", "groups in groups, to depth four", deep),
     ("long", "M's shape, as long as it may be", || of_size(64)),
     ("market", "price levels of eight fields, as many as fit", market),
+    ("lists", "40 fills, of whose eight fields five have lists; and the same with some unlisted codes", listed::fills),
     ("stream", "eight templates in a random mix; one message in 100 is damaged", stream::stream),
 ];
 
 /// The same, the stream by its first messages, and the large books: what is called once to be counted.
-pub const COUNTED: [Entry; 9] = [
+pub const COUNTED: [Entry; 10] = [
     ALL[0],
     ALL[1],
     ALL[2],
     ALL[3],
     ALL[4],
     ALL[5],
+    ALL[6],
     ("stream", "its first messages", || stream::first(STREAM_START)),
     SIZED[0][1],
     SIZED[1][1],
@@ -162,8 +165,8 @@ impl Workload {
         };
         self.records += records.len();
         self.most_records = self.most_records.max(records.len());
-        // A listing with an absent element or a number out of range is none to write.
-        if records.iter().all(|record| record[0] != 3 && record[0] != 5) {
+        // A listing with an absent element, or a number that is out of range or unlisted, is none to write.
+        if records.iter().all(|record| ![3, 5, 6].contains(&record[0])) {
             let template = u16::from_le_bytes([message[2], message[3]]);
             self.drafted_records += records.len();
             self.drafts.push(Draft { template, listing: records.concat(), pool: message.to_vec() });
@@ -173,6 +176,11 @@ impl Workload {
     pub fn samples(&self) -> Vec<Sample<'_>> {
         let octets = |span: &Span| &self.octets[span.start..span.end];
         self.spans.iter().map(|span| Sample { octets: octets(span), asked: &self.asked[span.asked] }).collect()
+    }
+
+    /// So many messages that a round of them is long by itself.
+    pub fn is_stream(&self) -> bool {
+        self.spans.len() > LAP_MESSAGES
     }
 
     pub fn counts(&self) -> Counts {

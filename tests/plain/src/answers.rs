@@ -9,6 +9,7 @@ const OCTETS: u64 = 2;
 const ABSENT: u64 = 3;
 const GROUP: u64 = 4;
 pub const OUT_OF_RANGE: u64 = 5;
+pub const UNLISTED: u64 = 6;
 
 /// Steps (group, entry), then the kind of an element (0 field, 1 group, 2 data) and its number. All may be anything.
 #[derive(Clone, Debug, PartialEq, Eq)]
@@ -62,7 +63,7 @@ impl Message<'_> {
         }
         let value = field.kind().value(&self.octets[start..start + field.octets()]);
         if field.kind().holds(value) {
-            [NUMBER, value as u64, 0]
+            [if self.book.is_listed(field, value) { NUMBER } else { UNLISTED }, value as u64, 0]
         } else if value == field.kind().null && field.is_optional() {
             [NULL, 0, 0]
         } else {

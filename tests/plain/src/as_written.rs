@@ -1,16 +1,16 @@
 //! Which messages are as the book's own writer has them: read and written back, they are the same octets.
 
-use crate::answers::OUT_OF_RANGE;
+use crate::answers::{OUT_OF_RANGE, UNLISTED};
 use crate::message::Part;
 use crate::{word, Block, Book, Message};
 
 impl Message<'_> {
-    /// The book's own version and block lengths, zero padding, and no value out of range.
+    /// The book's own version and block lengths, zero padding, and no value out of range or unlisted.
     pub fn is_as_written(&self, book: &Book) -> bool {
         self.version == book.version
             && word(self.octets, 0) == self.block.length
             && self.has_own_blocks(self.block, &self.root)
-            && self.list().iter().all(|record| record[0] != OUT_OF_RANGE)
+            && self.list().iter().all(|record| record[0] != OUT_OF_RANGE && record[0] != UNLISTED)
     }
 
     /// A part whose block has its declared length: zero padding, and the same of its groups.

@@ -1,12 +1,13 @@
 //! The schema book as a tree, read from its octets: refusals 1 to 4. `rules` has 5 and 6.
 
-use crate::{refusal, rules, word, Refusal, NULL16};
+use crate::{refusal, rules, word, NameList, Refusal, NULL16};
 
 #[derive(Clone, Debug, PartialEq, Eq)]
 pub struct Book {
     pub schema: u16,
     pub version: u16,
     pub templates: Vec<Template>,
+    pub lists: Vec<NameList>,
 }
 
 #[derive(Clone, Debug, PartialEq, Eq)]
@@ -31,6 +32,8 @@ pub struct Field {
     pub offset: u16,
     pub presence: u16,
     pub since: u16,
+    /// 0, or the id of the field's list plus one.
+    pub list: u16,
 }
 
 #[derive(Clone, Copy, Debug, PartialEq, Eq)]
@@ -46,25 +49,29 @@ pub struct Group {
     pub block: Block,
 }
 
-const HEAD_WORDS: usize = 4;
+const HEAD_WORDS: usize = 5;
 const ROW_WORDS: usize = 3;
 const DEPTH: usize = 4;
 
 impl Book {
-    /// The book that the octets are, or the lowest number found in any template, and the first template that has it.
+    /// The book that the octets are, or the lowest number found in any template or list, and the first that has it.
     pub fn read(octets: &[u8]) -> Result<Book, Refusal> {
         if octets.len() % 2 != 0 || octets.len() < 8 || octets.len() > 8192 {
             return Err(refusal(1, 0));
         }
         let words: Vec<u16> = (0..octets.len() / 2).map(|i| word(octets, 2 * i)).collect();
-        let rows = contents(&words)?;
+        let contents = Contents::read(&words)?;
         let mut templates = Vec::new();
-        for (number, &(id, first, count)) in rows.iter().enumerate() {
-            let block = body(&words[first..first + count]).ok_or(refusal(4, number))?;
-            templates.push(Template { id, block });
+        for (number, row) in contents.templates.iter().enumerate() {
+            let block = body(row.words).ok_or(refusal(4, number))?;
+            templates.push(Template { id: row.id, block });
         }
-        let book = Book { schema: words[0], version: words[1], templates };
-        book.each(5, rules::shape_holds)?;
+        let mut lists = Vec::new();
+        for (number, row) in contents.lists.iter().enumerate() {
+            lists.push(NameList::read(row.id, row.words).ok_or(refusal(4, templates.len() + number))?);
+        }
+        let book = Book { schema: words[0], version: words[1], templates, lists };
+        book.each(5, |block| rules::shape_holds(block, &book))?;
         book.each(6, |block| rules::sinces_hold(block, book.version, None))?;
         Ok(book)
     }
@@ -82,40 +89,62 @@ impl Book {
 
     /// The octets that the book is, good or not: counts, word numbers and all follow the tree.
     pub fn octets(&self) -> Vec<u8> {
-        let bodies: Vec<Vec<u16>> = self.templates.iter().map(|template| template.block.words()).collect();
-        let mut first = HEAD_WORDS + ROW_WORDS * self.templates.len();
-        let total = first + bodies.iter().map(Vec::len).sum::<usize>();
-        let mut words = vec![self.schema, self.version, self.templates.len() as u16, total as u16];
-        for (template, body) in self.templates.iter().zip(&bodies) {
-            words.extend([template.id, first as u16, body.len() as u16]);
+        let templates = self.templates.iter().map(|template| (template.id, template.block.words()));
+        let lists = self.lists.iter().map(|list| (list.id, list.words()));
+        let bodies: Vec<(u16, Vec<u16>)> = templates.chain(lists).collect();
+        let mut first = HEAD_WORDS + ROW_WORDS * bodies.len();
+        let total = first + bodies.iter().map(|(_, body)| body.len()).sum::<usize>();
+        let (templates, lists) = (self.templates.len() as u16, self.lists.len() as u16);
+        let mut words = vec![self.schema, self.version, templates, total as u16, lists];
+        for (id, body) in &bodies {
+            words.extend([*id, first as u16, body.len() as u16]);
             first += body.len();
         }
-        words.extend(bodies.concat());
+        words.extend(bodies.iter().flat_map(|(_, body)| body));
         words.iter().flat_map(|word| word.to_le_bytes()).collect()
     }
 }
 
-/// Template id, first word and words of each body: refusals 2 and 3.
-fn contents(words: &[u16]) -> Result<Vec<(u16, usize, usize)>, Refusal> {
-    let templates = usize::from(words[2]);
-    let start = HEAD_WORDS + ROW_WORDS * templates;
-    let head_holds = usize::from(words[3]) == words.len() && words[0] != NULL16 && words[1] != NULL16;
-    if !head_holds || !(1..=64).contains(&templates) || start > words.len() {
-        return Err(refusal(2, 0));
-    }
-    let rows = words[HEAD_WORDS..start].chunks(ROW_WORDS);
-    let rows: Vec<_> = rows.map(|row| (row[0], usize::from(row[1]), usize::from(row[2]))).collect();
-    let mut next = start;
-    for &(id, first, count) in &rows {
-        if id == NULL16 || first != next || first + count > words.len() {
+/// A row of the contents: an id, and the words of its body.
+struct Row<'a> {
+    id: u16,
+    words: &'a [u16],
+}
+
+struct Contents<'a> {
+    templates: Vec<Row<'a>>,
+    lists: Vec<Row<'a>>,
+}
+
+impl<'a> Contents<'a> {
+    /// Refusals 2 and 3. Lists come after templates, their rows as their bodies.
+    fn read(words: &'a [u16]) -> Result<Contents<'a>, Refusal> {
+        if words.len() < HEAD_WORDS {
+            return Err(refusal(2, 0));
+        }
+        let (templates, lists) = (usize::from(words[2]), usize::from(words[4]));
+        let start = HEAD_WORDS + ROW_WORDS * (templates + lists);
+        let head_holds = usize::from(words[3]) == words.len() && words[0] != NULL16 && words[1] != NULL16;
+        if !head_holds || !(1..=64).contains(&templates) || start > words.len() {
+            return Err(refusal(2, 0));
+        }
+        let mut next = start;
+        let mut rows = Vec::new();
+        for row in words[HEAD_WORDS..start].chunks(ROW_WORDS) {
+            let (id, first, end) = (row[0], usize::from(row[1]), usize::from(row[1]) + usize::from(row[2]));
+            if id == NULL16 || first != next || end > words.len() {
+                return Err(refusal(3, 0));
+            }
+            next = end;
+            rows.push(Row { id, words: &words[first..end] });
+        }
+        let lists = rows.split_off(templates);
+        let rise = |rows: &[Row]| rows.windows(2).all(|pair| pair[0].id < pair[1].id);
+        if next != words.len() || !rise(&rows) || !rise(&lists) {
             return Err(refusal(3, 0));
         }
-        next = first + count;
+        Ok(Contents { templates: rows, lists })
     }
-    if next != words.len() || rows.windows(2).any(|pair| pair[0].0 >= pair[1].0) {
-        return Err(refusal(3, 0));
-    }
-    Ok(rows)
 }
 
 type Words<'a> = std::iter::Copied<std::slice::Iter<'a, u16>>;
@@ -145,7 +174,8 @@ impl Block {
         let mut words = vec![self.length];
         words.extend(counts.map(|count| count as u16));
         for field in &self.fields {
-            words.extend([field.id, field.kind, field.length, field.offset, field.presence, field.since]);
+            words.extend([field.id, field.kind, field.length, field.offset]);
+            words.extend([field.presence, field.since, field.list]);
         }
         for data in &self.data {
             words.extend([data.id, data.since]);
@@ -162,7 +192,7 @@ impl Field {
     fn read(words: &mut Words) -> Option<Field> {
         let (id, kind, length) = (words.next()?, words.next()?, words.next()?);
         let (offset, presence, since) = (words.next()?, words.next()?, words.next()?);
-        Some(Field { id, kind, length, offset, presence, since })
+        Some(Field { id, kind, length, offset, presence, since, list: words.next()? })
     }
 }
 

@@ -6,6 +6,7 @@ mod answers;
 mod as_written;
 mod book;
 pub mod extension;
+pub mod lists;
 pub mod message;
 mod rng;
 mod rules;
@@ -14,6 +15,7 @@ pub mod writer;
 
 pub use answers::Place;
 pub use book::{Block, Book, Data, Field, Group, Template};
+pub use lists::NameList;
 pub use message::Message;
 pub use rng::Rng;
 pub use writer::Draft;

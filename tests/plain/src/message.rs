@@ -6,6 +6,7 @@ use crate::{refusal, word, Block, Book, Refusal, LONGEST, NULL16};
 pub struct Message<'a> {
     pub octets: &'a [u8],
     pub version: u16,
+    pub book: &'a Book,
     pub block: &'a Block,
     pub root: Part,
 }
@@ -40,7 +41,7 @@ impl<'a> Message<'a> {
         if walk.at < octets.len() {
             return Err(refusal(20, walk.at));
         }
-        Ok(Message { octets, version, block, root })
+        Ok(Message { octets, version, book, block, root })
     }
 }
 

@@ -1,7 +1,7 @@
 //! The rules of a block that has been read: refusals 5 and 6, and the need of a block.
 
 use crate::types::{Type, TYPES};
-use crate::{Block, Field, NULL16};
+use crate::{Block, Book, Field, NULL16};
 
 impl Field {
     /// Of a field whose type is known.
@@ -45,18 +45,23 @@ impl Block {
     }
 }
 
-/// Block length, type, length, presence and offset, here and in every group.
-pub fn shape_holds(block: &Block) -> bool {
+/// Block length, type, length, presence, offset and list, here and in every group.
+pub fn shape_holds(block: &Block, book: &Book) -> bool {
     let mut end = 0;
     for field in &block.fields {
-        if !field.words_hold() || usize::from(field.offset) < end {
+        if !field.words_hold() || usize::from(field.offset) < end || !list_holds(field, book) {
             return false;
         }
         end = field.end();
     }
     block.length != NULL16
         && end <= usize::from(block.length)
-        && block.groups.iter().all(|group| shape_holds(&group.block))
+        && block.groups.iter().all(|group| shape_holds(&group.block, book))
+}
+
+/// The field names no list, or one that the book has and that can stand over it.
+fn list_holds(field: &Field, book: &Book) -> bool {
+    field.list == 0 || book.list_of(field).map_or(false, |list| list.fits(field))
 }
 
 /// Sinces of a block, here and in every group. `own` is the since of the group whose block it is; the root has none.

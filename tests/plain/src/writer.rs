@@ -25,7 +25,7 @@ pub fn message(book: &Book, draft: &Draft) -> Result<Vec<u8>, Refusal> {
     let block = &book.template(*template).ok_or(refusal(50, 0))?.block;
     let header =
         [block.length, *template, book.schema, book.version, block.groups.len() as u16, block.data.len() as u16];
-    let mut writer = Writer { listing, pool, record: 0, length: 0, message: Vec::new() };
+    let mut writer = Writer { book, listing, pool, record: 0, length: 0, message: Vec::new() };
     for number in header {
         writer.put(&number.to_le_bytes());
     }
@@ -40,6 +40,7 @@ pub fn message(book: &Book, draft: &Draft) -> Result<Vec<u8>, Refusal> {
 }
 
 struct Writer<'a> {
+    book: &'a Book,
     listing: &'a [u64],
     pool: &'a [u8],
     /// The next record's number.
@@ -95,7 +96,7 @@ impl<'a> Writer<'a> {
         match self.next()? {
             ([0, second, 0], number) => {
                 let value = if kind.signed { i128::from(second as i64) } else { i128::from(second) };
-                let holds = kind.holds(value);
+                let holds = kind.holds(value) && self.book.is_listed(field, value);
                 holds.then(|| kind.octets_of(value)).ok_or(refusal(52, number))
             }
             ([1, 0, 0], _) if field.is_optional() => Ok(kind.octets_of(kind.null)),

@@ -43,7 +43,7 @@ fn asked<B>(
     let record = [found.first, found.second, found.third];
     if found.number == 0 {
         assert_eq!(found.place, 0);
-        return Ok(Answer::from_record(record).expect("a kind of 0 to 5"));
+        return Ok(Answer::from_record(record).expect("a kind of 0 to 6"));
     }
     assert_eq!(record, [0; 3]);
     Err(Refusal { number: found.number as u8, place: found.place as usize })

@@ -15,8 +15,8 @@ use crate::readers::{lent, Free, Plain, Reader, Stream};
 use crate::report::{hex, same, Report};
 use plain::{refusal, word, Draft, Place, Record, Refusal};
 
-const CASES: &[u8] = include_bytes!("../../cases/onecall.cases");
-const EXPECTED: &str = include_str!("../../cases/onecall.expected");
+const CASES: &[u8] = include_bytes!("../../cases/lists.cases");
+const EXPECTED: &str = include_str!("../../cases/lists.expected");
 
 const LIST: u8 = 0;
 pub const PLACE: u8 = 2;

@@ -1,36 +1,54 @@
 //! Books with a name, and the verdict on each.
 
 use super::{Case, Expected};
-use plain::{refusal, Block, Book, Data, Field, Group, Refusal, Template};
+use plain::{lists, refusal, Block, Book, Data, Field, Group, NameList, Refusal, Template};
 
 /// Book A of the rules, word by word.
 pub fn a() -> Vec<u8> {
-    let head = [7, 0, 1, 37, 1, 7, 30, 8, 2, 1, 1];
-    let root = [38, 6, 1, 0, 0, 0, 44, 3, 1, 4, 1, 0, 58, 0];
-    let group = [453, 0, 2, 1, 0, 0, 452, 2, 1, 0, 0, 0];
+    let head = [7, 0, 1, 41, 0, 1, 8, 33, 8, 2, 1, 1];
+    let root = [38, 6, 1, 0, 0, 0, 0, 44, 3, 1, 4, 1, 0, 0, 58, 0];
+    let group = [453, 0, 2, 1, 0, 0, 452, 2, 1, 0, 0, 0, 0];
     words(&[&head[..], &root, &group].concat())
 }
 
 /// Book B of the rules: A at version 1, with a root field uint8 at offset 6 and a second root group, both since 1.
 pub fn b() -> Vec<u8> {
-    let head = [7, 1, 1, 55, 1, 7, 48, 8, 3, 2, 1];
-    let root = [38, 6, 1, 0, 0, 0, 44, 3, 1, 4, 1, 0, 32, 2, 1, 6, 0, 1, 58, 0];
-    let groups = [453, 0, 2, 1, 0, 0, 452, 2, 1, 0, 0, 0, 454, 1, 4, 1, 0, 0, 455, 6, 1, 0, 0, 1];
+    let head = [7, 1, 1, 61, 0, 1, 8, 53, 8, 3, 2, 1];
+    let root = [38, 6, 1, 0, 0, 0, 0, 44, 3, 1, 4, 1, 0, 0, 32, 2, 1, 6, 0, 1, 0, 58, 0];
+    let groups = [453, 0, 2, 1, 0, 0, 452, 2, 1, 0, 0, 0, 0, 454, 1, 4, 1, 0, 0, 455, 6, 1, 0, 0, 1, 0];
     words(&[&head[..], &root, &groups].concat())
 }
 
-fn words(words: &[u16]) -> Vec<u8> {
+pub fn words(words: &[u16]) -> Vec<u8> {
     words.iter().flat_map(|word| word.to_le_bytes()).collect()
+}
+
+/// A book of schema 7 without lists.
+pub fn book(version: u16, templates: Vec<Template>) -> Book {
+    Book { schema: 7, version, templates, lists: Vec::new() }
 }
 
 /// A book of schema 7 at version 0 with one template, 1.
 pub fn of(block: Block) -> Vec<u8> {
-    Book { schema: 7, version: 0, templates: vec![Template { id: 1, block }] }.octets()
+    book(0, vec![Template { id: 1, block }]).octets()
 }
 
-/// A field of one value, since 0.
+/// The same with these lists.
+pub fn with_lists(lists: &[NameList], block: Block) -> Vec<u8> {
+    Book { lists: lists.to_vec(), ..book(0, vec![Template { id: 1, block }]) }.octets()
+}
+
+/// A field of one value, since 0 and without list.
 pub fn field(kind: u16, offset: u16, presence: u16) -> Field {
-    Field { id: 1, kind, length: 1, offset, presence, since: 0 }
+    Field { id: 1, kind, length: 1, offset, presence, since: 0, list: 0 }
+}
+
+pub fn enumeration(id: u16, values: &[u16]) -> NameList {
+    NameList { id, kind: lists::ENUMERATION, numbers: values.to_vec() }
+}
+
+pub fn set(id: u16, bits: &[u16]) -> NameList {
+    NameList { id, kind: lists::SET, numbers: bits.to_vec() }
 }
 
 pub fn fields(length: u16, fields: Vec<Field>) -> Block {
@@ -54,14 +72,15 @@ fn after_int64(next: u16) -> Vec<u8> {
     of(fields(40, vec![field(7, 25, 0), field(OCTET, next, 0)]))
 }
 
-/// 8,192 octets: ten templates of 64 fields, one of 28 and one of none.
+/// 8,192 octets: eight templates of 64 fields, one of 61 and one of none, and a list of six numbers.
 fn largest() -> Book {
-    let counts = [64, 64, 64, 64, 64, 64, 64, 64, 64, 64, 28, 0];
+    let counts = [64, 64, 64, 64, 64, 64, 64, 64, 61, 0];
     let template = |(id, &count): (usize, &u16)| {
         let octet_fields = (0..count).map(|offset| field(OCTET, offset, 0)).collect();
         Template { id: id as u16, block: fields(count, octet_fields) }
     };
-    Book { schema: 7, version: 0, templates: counts.iter().enumerate().map(template).collect() }
+    let templates = counts.iter().enumerate().map(template).collect();
+    Book { lists: vec![enumeration(9, &[1, 2, 3, 4, 5, 6])], ..book(0, templates) }
 }
 
 /// The largest book and one word more: a book that breaks this rule alone has no place for a single word, so it is

@@ -1,9 +1,9 @@
 //! Books and messages at the last number that a rule allows, and at the next.
 
-use super::books::{a, field, fields, of, OCTET};
+use super::books::{self, a, field, fields, of, OCTET};
 use super::messages::m;
 use super::{with_word, Case, Expected};
-use plain::{refusal, Block, Book, Field, Place, Refusal, Template};
+use plain::{refusal, Block, Field, Place, Refusal, Template};
 
 pub fn cases() -> Vec<Case> {
     [head_cases(), field_cases(), template_cases(), message_cases(), cut_cases()].into_iter().flatten().collect()
@@ -41,7 +41,7 @@ fn field_cases() -> Vec<Case> {
 fn of_ids(ids: impl Iterator<Item = u16>, last: Block) -> Vec<u8> {
     let mut templates: Vec<Template> = ids.map(|id| Template { id, block: Block::default() }).collect();
     templates.last_mut().expect("a template").block = last;
-    Book { schema: 7, version: 0, templates }.octets()
+    books::book(0, templates).octets()
 }
 
 fn template_cases() -> Vec<Case> {

@@ -40,15 +40,18 @@ fn example() -> Result<(), String> {
 }
 
 fn records() -> Result<(), String> {
-    let listing = [0, 9, 0, 1, 0, 0, 2, 30, 2, 3, 0, 0, 4, 2, 0, 5, 7, 0];
+    let listing = [0, 9, 0, 1, 0, 0, 2, 30, 2, 3, 0, 0, 4, 2, 0, 5, 7, 0, 6, 8, 0];
     let all: Vec<Answer> = answers(&listing).collect();
     let octets = Answer::Octets { start: 30, len: 2 };
-    let expected = [Answer::Number(9), Answer::Null, octets, Answer::Absent, Answer::Group(2), Answer::OutOfRange(7)];
+    let (number, group, out, unlisted) =
+        (Answer::Number(9), Answer::Group(2), Answer::OutOfRange(7), Answer::Unlisted(8));
+    let expected = [number, Answer::Null, octets, Answer::Absent, group, out, unlisted];
     same("answers", &all[..], &expected)?;
     same("back", all.iter().flat_map(|answer| answer.record()).collect(), listing.to_vec())?;
-    same("a kind over 5", Answer::from_record([6, 0, 0]), None)?;
+    same("a kind over 6", Answer::from_record([7, 0, 0]), None)?;
     same("octets past the message", octets.octets(&[0; 31]), None)?;
-    same("a null has no value", (Answer::Null.signed(), Answer::OutOfRange(7).unsigned()), (None, None))
+    let values: Vec<Option<u64>> = all.iter().map(Answer::unsigned).collect();
+    same("only a number has a value", values, vec![Some(9), None, None, None, None, None, None])
 }
 
 /// The example of `Listing`.
@@ -75,10 +78,10 @@ fn listing_example() -> Result<(), String> {
 fn unwritable() -> Result<(), String> {
     let (octets, message) = (books::a(), messages::m());
     let book = Book::checked(&octets).map_err(|refused| refused.to_string())?;
-    let (past, none) = (Answer::Octets { start: 31, len: 2 }, Answer::Octets { start: 33, len: 0 });
-    let wrapping = Answer::Octets { start: usize::MAX, len: 2 };
-    let answers = [(Answer::Absent, 51), (Answer::OutOfRange(7), 51), (past, 53), (none, 53), (wrapping, 53)];
-    for (answer, number) in answers {
+    let octets = |start, len| Answer::Octets { start, len };
+    let (past, none, wrapping) = (octets(31, 2), octets(33, 0), octets(usize::MAX, 2));
+    let (absent, out, unlisted) = (Answer::Absent, Answer::OutOfRange(7), Answer::Unlisted(7));
+    for (answer, number) in [(absent, 51), (out, 51), (unlisted, 51), (past, 53), (none, 53), (wrapping, 53)] {
         let mut listing = Listing::new();
         listing.number(1000).null().group(0).record(answer, &message);
         same("write_listing", book.write_listing(1, &listing), Err(Refusal { number, place: 3 }))?;
@@ -95,6 +98,9 @@ fn words() -> Result<(), String> {
     let room =
         "refused 40 for 6 records: the room is below three numbers per record, or below a prepared book's numbers";
     same("40", said.as_str(), room)?;
+    let said = [4, 5].map(|number| Refusal { number, place: 1 }.to_string());
+    let starts = ["refused 4 in body 1: ", "refused 5 in template 1: "];
+    same("4 and 5", said.iter().zip(starts).all(|(said, start)| said.starts_with(start)), true)?;
     let said = Refusal { number: 54, place: 2 }.to_string();
     same("54", said.as_str(), "refused 54 at record 2: a group has over 65,534 entries")?;
     let said = Refusal { number: 55, place: 0 }.to_string();

@@ -1,10 +1,10 @@
 //! The longest message, with entries of one octet and 63 younger fields each: over 4,000,000 records.
 
-use super::books::{fields, OCTET};
+use super::books::{self, field, fields, OCTET};
 use super::calls::Call;
 use crate::readers::{Free, Plain, Reader, Stream};
 use crate::report::same;
-use plain::{refusal, Block, Book, Field, Group, Place, Template, LONGEST};
+use plain::{refusal, Block, Field, Group, Place, Template, LONGEST};
 
 pub fn calls() -> [(&'static str, Call); 3] {
     [
@@ -15,10 +15,10 @@ pub fn calls() -> [(&'static str, Call); 3] {
 }
 
 fn book() -> Vec<u8> {
-    let octet = |offset| Field { id: 1, kind: OCTET, length: 1, offset, presence: 0, since: u16::from(offset > 0) };
+    let octet = |offset| Field { since: u16::from(offset > 0), ..field(OCTET, offset, 0) };
     let group = Group { id: 1, since: 0, block: fields(64, (0..64).map(octet).collect()) };
     let block = Block { groups: vec![group], ..Block::default() };
-    Book { schema: 7, version: 1, templates: vec![Template { id: 1, block }] }.octets()
+    books::book(1, vec![Template { id: 1, block }]).octets()
 }
 
 const ENTRIES: u16 = 65519;

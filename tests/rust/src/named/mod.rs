@@ -6,8 +6,12 @@ mod borders;
 mod calls;
 mod counted;
 mod largest;
+mod listed;
+mod listed_writing;
+mod lists;
 mod longest;
 mod messages;
+mod named_lists;
 mod prepared;
 mod readings;
 mod types;
@@ -39,7 +43,8 @@ pub enum Expected {
 pub fn run(report: &mut Report) {
     let read = [books::cases(), borders::cases(), messages::cases(), readings::cases(), counted::cases()];
     let written = [writing::cases(), unwritten::cases()];
-    for case in read.iter().chain(&written).flatten() {
+    let by_lists = [lists::cases(), named_lists::cases(), listed::cases(), listed_writing::cases()];
+    for case in read.iter().chain(&written).chain(&by_lists).flatten() {
         if case.run(report) {
             println!("ok {}", case.name);
         }

@@ -1,19 +1,19 @@
 //! Books that are prepared: every room, the largest books, those that are refused, and null pointers.
 
-use super::books::{a, b, field, fields, nested, of, DATA, OCTET};
+use super::books::{a, b, enumeration, field, fields, nested, of, set, with_lists, DATA, OCTET};
 use super::calls::Call;
-use super::{books, borders, Case};
+use super::{books, borders, lists, named_lists, Case};
 use crate::raw;
 use crate::readers::own;
 use crate::report::same;
 use crate::rooms;
-use plain::{refusal, Block, Book, Group, Refusal, Template};
+use plain::{refusal, Block, Book, Field, Group, NameList, Refusal, Template};
 use siphonbard::ffi::PREPARED_MOST;
 
 pub fn calls() -> [(&'static str, Call); 5] {
     [
         ("prepare: into every room from none to enough; where it is too small, 40 at the need", every_room),
-        ("prepare: the largest books, within 8,259 numbers", largest),
+        ("prepare: the largest books, within 8,260 numbers", largest),
         ("prepare: the same numbers each time", same_numbers),
         ("prepare: books that are refused by 1 to 6, as by check_book", refused),
         ("C: prepare with null pointers", null_pointers),
@@ -34,7 +34,9 @@ fn prepares(book: &[u8], sizes: impl IntoIterator<Item = usize>) -> Result<(), S
 
 fn every_room() -> Result<(), String> {
     let of_data = of(Block { data: vec![DATA; DATAS], ..Block::default() });
-    for book in [a(), b(), of(Block::default()), of(nested(4)), of_data] {
+    let listed = Field { list: 3, ..field(OCTET, 0, 0) };
+    let of_lists = with_lists(&[set(2, &[0, 7]), enumeration(9, &[65, 66])], fields(1, vec![listed]));
+    for book in [a(), b(), of(Block::default()), of(nested(4)), of_data, of_lists] {
         let need = numbers(&book).map_err(|refused| format!("{refused:?}"))?.len();
         prepares(&book, 0..=need + 4)?;
         same("a null room", raw::counted(raw::prepare_nowhere(&book)), Err(refusal(40, need)))?;
@@ -50,7 +52,9 @@ const GROUPS: usize = 16;
 const DATAS: usize = 16;
 
 /// Octets of a book's head.
-const HEAD: usize = 8;
+const HEAD: usize = 10;
+/// Words of a list besides its numbers: its row in the contents, and its kind.
+const LIST: usize = 4;
 
 /// The templates of a book, and the octets that are left for more.
 struct Filling {
@@ -80,15 +84,33 @@ impl Filling {
 }
 
 /// As many templates of this block as there may be in a book; then as many groups of one field in them, templates
-/// without elements, fields and data.
+/// without elements, fields and data; and a list of what is left.
 fn full(block: &Block) -> Vec<u8> {
-    let mut filling = Filling { templates: Vec::new(), left: OCTETS - HEAD };
+    let mut filling = Filling { templates: Vec::new(), left: OCTETS - HEAD - 2 * (LIST + 1) };
     filling.templates(block);
-    filling.elements(24, GROUPS, |block| block.groups.len(), |block| block.groups.push(group(nested(0))));
+    filling.elements(26, GROUPS, |block| block.groups.len(), |block| block.groups.push(group(nested(0))));
     filling.templates(&Block::default());
-    filling.elements(12, FIELDS, |block| block.fields.len(), push_field);
+    filling.elements(14, FIELDS, |block| block.fields.len(), push_field);
     filling.elements(4, DATAS, |block| block.data.len(), |block| block.data.push(DATA));
-    Book { schema: 7, version: 0, templates: filling.templates }.octets()
+    Book { lists: vec![numbered(0, 1 + filling.left / 2)], ..books::book(0, filling.templates) }.octets()
+}
+
+/// A list of so many numbers.
+fn numbered(id: usize, numbers: usize) -> NameList {
+    enumeration(id as u16, &(0..numbers as u16).collect::<Vec<_>>())
+}
+
+/// A template without elements, and for the rest lists of so many numbers; what is left is the last one's, or is added
+/// to the first.
+fn full_of_lists(numbers: usize) -> Vec<u8> {
+    let words = (OCTETS - of(Block::default()).len()) / 2;
+    let mut sizes = vec![numbers; words / (LIST + numbers)];
+    match words % (LIST + numbers) {
+        left if left > LIST => sizes.push(left - LIST),
+        left => sizes[0] += left,
+    }
+    let lists: Vec<NameList> = sizes.into_iter().enumerate().map(|(id, size)| numbered(id, size)).collect();
+    with_lists(&lists, Block::default())
 }
 
 fn push_field(block: &mut Block) {
@@ -115,20 +137,24 @@ fn largest() -> Result<(), String> {
         grouped(16, grouped(16, nested(0))),
         grouped(4, grouped(4, grouped(4, grouped(2, nested(0))))),
     ];
-    for block in &blocks {
-        let book = full(block);
+    for book in blocks.iter().map(full).chain([1, 63].map(full_of_lists)) {
         let need = numbers(&book).map_err(|refused| format!("{refused:?}"))?.len();
-        same("octets", (OCTETS - 2..=OCTETS).contains(&book.len()), true)?;
+        same("octets", book.len(), OCTETS)?;
         same("numbers", need <= PREPARED_MOST, true)?;
         prepares(&book, (0..need).step_by(499).chain([need - 1, need, need + 1, PREPARED_MOST]))?;
     }
     Ok(())
 }
 
+/// The named books, good and bad.
+fn book_cases() -> impl Iterator<Item = Case> {
+    [books::cases(), borders::cases(), lists::cases(), named_lists::cases()].into_iter().flatten()
+}
+
 fn same_numbers() -> Result<(), String> {
-    for Case { name, book, .. } in [books::cases(), borders::cases()].iter().flatten() {
-        same(name, numbers(book), numbers(book))?;
-        if let Ok(prepared) = siphonbard::Book::checked(book) {
+    for Case { name, book, .. } in book_cases() {
+        same(name, numbers(&book), numbers(&book))?;
+        if let Ok(prepared) = siphonbard::Book::checked(&book) {
             same(name, prepared.clone().numbers(), prepared.numbers())?;
         }
     }
@@ -138,11 +164,11 @@ fn same_numbers() -> Result<(), String> {
 /// Whatever the room.
 fn refused() -> Result<(), String> {
     let mut seen = Vec::new();
-    for Case { name, book, .. } in [books::cases(), borders::cases()].iter().flatten() {
-        if let Err(refused) = siphonbard::check_book(book).map_err(own) {
+    for Case { name, book, .. } in book_cases() {
+        if let Err(refused) = siphonbard::check_book(&book).map_err(own) {
             seen.push(refused.number);
-            same(name, numbers(book), Err(refused))?;
-            prepares(book, [0, 1, book.len(), PREPARED_MOST])?;
+            same(name, numbers(&book), Err(refused))?;
+            prepares(&book, [0, 1, book.len(), PREPARED_MOST])?;
         }
     }
     same("refusals", (1..=6).filter(|number| !seen.contains(number)).collect(), Vec::new())

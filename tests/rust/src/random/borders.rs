@@ -1,18 +1,25 @@
 //! Books brought to a border of one rule, or just past it.
 
 use super::books::{add_field, data_of};
-use plain::{Block, Book, Field, Group, Rng, Template};
+use super::lists::{add_list, MOST};
+use plain::{lists::SET, types::TYPES, Block, Book, Field, Group, Rng, Template};
 
-/// The book with one count, depth, number or since at its limit or one beyond.
+/// The book with one count, depth, number, since or list at its limit or one beyond.
 pub fn book(rng: &mut Rng, mut book: Book) -> Book {
-    if rng.chance(15) {
-        templates(rng, &mut book);
-        return book;
+    match rng.below(20) {
+        0..=2 => templates(rng, &mut book),
+        3..=4 => lists(rng, &mut book),
+        5..=6 => names(rng, &mut book),
+        _ => one_block(rng, &mut book),
     }
+    book
+}
+
+fn one_block(rng: &mut Rng, book: &mut Book) {
     let number = rng.below(book.templates.len());
     let (block, depth) = some_block(rng, &mut book.templates[number].block, 0);
     match rng.below(8) {
-        0 => fill(rng, block, 64, |block| block.fields.len(), add_field),
+        0 => fill(rng, block, 64, |block| block.fields.len(), |rng, block, since| add_field(rng, &[], block, since)),
         1 => fill(rng, block, 16, |block| block.groups.len(), |rng, block, since| block.groups.push(small(rng, since))),
         2 => fill(rng, block, 16, |block| block.data.len(), |rng, block, since| block.data.push(data_of(rng, since))),
         3 => deepen(rng, block, depth),
@@ -21,7 +28,6 @@ pub fn book(rng: &mut Rng, mut book: Book) -> Book {
         6 => field(rng, block),
         _ => sinces(rng, block),
     }
-    book
 }
 
 /// A block of the tree, and its depth.
@@ -35,7 +41,7 @@ fn some_block<'b>(rng: &mut Rng, block: &'b mut Block, depth: usize) -> (&'b mut
 
 fn small(rng: &mut Rng, since: u16) -> Group {
     let mut block = Block::default();
-    add_field(rng, &mut block, since);
+    add_field(rng, &[], &mut block, since);
     Group { id: 1, since, block }
 }
 
@@ -118,4 +124,45 @@ fn sinces(rng: &mut Rng, block: &mut Block) {
         let since = &mut *all[number];
         *since = if rng.chance(50) { since.saturating_add(1) } else { since.saturating_sub(1) };
     }
+}
+
+/// A list of the book, which has one then.
+fn some_list(rng: &mut Rng, book: &mut Book) -> usize {
+    if book.lists.is_empty() {
+        add_list(rng, &mut book.lists);
+    }
+    rng.below(book.lists.len())
+}
+
+/// 64 numbers or 65, one or none, kind 1 or 2, a number that comes again or is one more, or an id that is so.
+fn lists(rng: &mut Rng, book: &mut Book) {
+    let number = some_list(rng, book);
+    let before = number.checked_sub(1).map(|before| book.lists[before].id);
+    let list = &mut book.lists[number];
+    match rng.below(5) {
+        0 => list.numbers = (0..(MOST + rng.below(2)) as u16).collect(),
+        1 => list.numbers.truncate(rng.below(2)),
+        2 => list.kind = rng.word(SET, SET + 1),
+        3 => {
+            let last = list.numbers[list.numbers.len() - 1];
+            list.numbers.push(last.saturating_add(rng.word(0, 1)));
+        }
+        _ => list.id = before.unwrap_or(65534) + rng.word(0, 1),
+    }
+}
+
+/// One more field, which names a list that it can have or only just cannot: by its type, by being an array, by the
+/// highest bit of a set, or because the book lacks that list.
+fn names(rng: &mut Rng, book: &mut Book) {
+    let (number, kind) = (some_list(rng, book), rng.below(TYPES.len()) as u16);
+    let list = &mut book.lists[number];
+    if list.kind == SET {
+        list.numbers = vec![8 * TYPES[usize::from(kind)].octets as u16 - rng.word(0, 1)];
+    }
+    let (list, length) = (list.id.saturating_add(rng.pick(&[0, 1, 1, 1, 1, 2])), rng.pick(&[1, 1, 1, 1, 2]));
+    let number = rng.below(book.templates.len());
+    let (block, _) = some_block(rng, &mut book.templates[number].block, 0);
+    let (offset, since) = block.fields.last().map_or((0, 0), |last| (last.end() as u16, last.since));
+    block.fields.push(Field { id: 1, kind, length, offset, presence: 0, since, list });
+    block.length = block.length.max(offset + 8);
 }

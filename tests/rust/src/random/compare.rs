@@ -6,7 +6,7 @@ use super::written;
 use crate::readers::{own, stream_place, Free, Reader};
 use crate::report::same;
 use crate::rooms::{self, prepared, Listing};
-use plain::{Book, Message, Place, Refusal, Rng};
+use plain::{word, Book, Message, Place, Refusal, Rng};
 use siphonbard::ffi::PREPARED_MOST;
 use siphonbard::Answer;
 
@@ -23,10 +23,17 @@ impl<'a> BothBooks<'a> {
         BothBooks { octets, plain: Book::read(octets), library }
     }
 
+    /// By 4, whose place is past the templates.
+    fn is_refused_for_a_list(&self) -> bool {
+        let four = |refused: &Refusal| refused.number == 4 && refused.place >= word(self.octets, 4).into();
+        self.library.as_ref().err().map_or(false, four)
+    }
+
     /// The verdict on the book, and its numbers in rooms that are exact, too small by one number, half so large, empty,
     /// and larger.
     pub fn compare(&self, seen: &mut Seen) -> Result<(), String> {
         seen.outcome(&self.library);
+        seen.lists += u64::from(self.is_refused_for_a_list());
         let verdict = self.plain.as_ref().map(drop).map_err(|no| *no);
         same("check_book", Free.check_book(self.octets), verdict)?;
         same("Book::checked", self.library.as_ref().map(drop).map_err(|no| *no), verdict)?;

@@ -1,10 +1,12 @@
 //! Faults of a listing: records that their element cannot have or only just can, and records lost and gained.
 
-use plain::{types::Type, Record, Rng};
+use super::listings;
+use super::lists;
+use plain::{types::Type, NameList, Record, Rng};
 
 /// Another kind, or a number where none is used.
 pub fn shape(rng: &mut Rng, [first, second, third]: Record) -> Record {
-    let (kind, wild) = (rng.below(7) as u64, rng.pick(&[1, 2, 1 << 32, 1 << 63, u64::MAX]));
+    let (kind, wild) = (rng.below(8) as u64, rng.pick(&[1, 2, 1 << 32, 1 << 63, u64::MAX]));
     match rng.below(6) {
         0 => [kind, second, third],
         1 => [kind, 0, 0],
@@ -15,10 +17,11 @@ pub fn shape(rng: &mut Rng, [first, second, third]: Record) -> Record {
     }
 }
 
-/// A null, and numbers at the type's borders and just past them, or alike in the octets that the type has.
-pub fn number(rng: &mut Rng, kind: &Type) -> Record {
+/// A null, and numbers at the type's borders and just past them, or alike in the octets that the type has; numbers that
+/// the list lacks; and kind 6.
+pub fn number(rng: &mut Rng, kind: &Type, list: Option<&NameList>) -> Record {
     let modulus = 1 << (8 * kind.octets);
-    let value = match rng.below(9) {
+    let value = match rng.below(14) {
         0 | 1 => return [1, 0, 0],
         2 => kind.null,
         3 => kind.least - 1,
@@ -26,6 +29,9 @@ pub fn number(rng: &mut Rng, kind: &Type) -> Record {
         5 => kind.least + modulus,
         6 => kind.greatest - modulus,
         7 => kind.greatest,
+        8 | 9 => lists::beside(rng, kind, list),
+        10 | 11 => listings::number(rng, kind),
+        12 => return [6, listings::number(rng, kind) as u64, 0],
         _ => rng.draw().into(),
     };
     [0, value as u64, 0]
@@ -69,7 +75,7 @@ pub fn numbers(rng: &mut Rng, listing: &mut Vec<u64>) {
     match rng.below(8) {
         0 | 1 => listing.truncate(rng.below(listing.len() + 1)),
         2 => listing.extend(vec![0; rng.between(1, 4)]),
-        3 => listing.extend([rng.below(6) as u64, 0, 0]),
+        3 => listing.extend([rng.below(7) as u64, 0, 0]),
         4 => drop(listing.splice(one..one, [0, rng.below(100) as u64, 0])),
         _ if records == 0 => listing.push(2),
         5 => drop(listing.drain(one..one + 3)),

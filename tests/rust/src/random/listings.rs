@@ -1,6 +1,6 @@
 //! Random listings: whole ones, ones with faults in their records, and ones that have lost or gained some.
 
-use super::faults;
+use super::{faults, lists};
 use plain::{types::Type, Block, Book, Draft, Field, Record, Rng, Template};
 
 /// Something to write with the book, at fault nearly as often as not.
@@ -8,7 +8,7 @@ pub fn draft(rng: &mut Rng, book: &Book) -> Draft {
     let template = &book.templates[rng.below(book.templates.len())];
     let pool = if rng.below(250) == 0 { LARGE } else { POOL };
     let until_fault = if rng.chance(30) { rng.below(8) } else { NEVER };
-    let mut draft = made(rng, template, pool, until_fault);
+    let (mut draft, _) = made(rng, book, template, pool, until_fault);
     match rng.below(30) {
         0 => draft.template = rng.pick(&[draft.template.wrapping_add(1), draft.template.wrapping_sub(1), 65535]),
         1 => draft.pool.truncate(rng.below(60)),
@@ -18,9 +18,10 @@ pub fn draft(rng: &mut Rng, book: &Book) -> Draft {
     draft
 }
 
-/// A listing that the template's message can be written from.
-pub fn whole(rng: &mut Rng, template: &Template) -> Draft {
-    made(rng, template, POOL, NEVER)
+/// A listing that the template's message can be written from; nothing where a field comes that takes no number.
+pub fn whole(rng: &mut Rng, book: &Book, template: &Template) -> Option<Draft> {
+    let (draft, is_whole) = made(rng, book, template, POOL, NEVER);
+    is_whole.then_some(draft)
 }
 
 /// Octets of a pool.
@@ -29,20 +30,23 @@ const POOL: u64 = 1100;
 const LARGE: u64 = 65600;
 const NEVER: usize = usize::MAX;
 
-fn made(rng: &mut Rng, template: &Template, pool: u64, until_fault: usize) -> Draft {
+/// A listing, and whether every field in it has got a number that it takes.
+fn made(rng: &mut Rng, book: &Book, template: &Template, pool: u64, until_fault: usize) -> (Draft, bool) {
     let octets = rng.octets(pool as usize);
-    let mut lister = Lister { rng, pool, until_fault, listing: Vec::new() };
+    let mut lister = Lister { rng, book, pool, until_fault, listing: Vec::new(), is_whole: true };
     lister.block(&template.block);
-    Draft { template: template.id, listing: lister.listing, pool: octets }
+    (Draft { template: template.id, listing: lister.listing, pool: octets }, lister.is_whole)
 }
 
 struct Lister<'a> {
     rng: &'a mut Rng,
+    book: &'a Book,
     /// The pool's length.
     pool: u64,
     /// Records before the next fault.
     until_fault: usize,
     listing: Vec<u64>,
+    is_whole: bool,
 }
 
 impl Lister<'_> {
@@ -95,11 +99,13 @@ impl Lister<'_> {
     }
 
     fn number(&mut self, field: &Field) {
-        let record = match field.is_optional() && self.rng.chance(30) {
-            true => [1, 0, 0],
-            false => [0, number(self.rng, field.kind()) as u64, 0],
+        let (kind, list) = (field.kind(), self.book.list_of(field));
+        let record = match lists::listed(self.rng, kind, list) {
+            Some(value) if !field.is_optional() || self.rng.chance(70) => [0, value as u64, 0],
+            _ => [1, 0, 0],
         };
-        self.put(record, |rng, _| faults::number(rng, field.kind()));
+        self.is_whole &= record[0] == 0 || field.is_optional();
+        self.put(record, |rng, _| faults::number(rng, kind, list));
     }
 }
 

@@ -1,6 +1,7 @@
 //! Random messages: some by the plain writer from random listings, some with all the freedom that the wire has.
 
 use super::listings::{self, entries, number};
+use super::lists;
 use plain::{writer, Block, Book, Field, Rng, Template};
 
 /// A whole message for one of the book's templates.
@@ -14,27 +15,28 @@ pub fn message(rng: &mut Rng, book: &Book) -> Vec<u8> {
         4..=7 => rng.word(0, book.version),
         _ => rng.word(book.version, book.version.saturating_add(4).min(65534)),
     };
-    let mut wire = Wire { clean: rng.chance(40), rng, version, message: Vec::new() };
-    wire.root(book, template);
+    let mut wire = Wire { clean: rng.chance(40), rng, book, version, message: Vec::new() };
+    wire.root(template);
     wire.message
 }
 
 /// Longer ones take the time of many.
 const LONG: usize = 8192;
 
-/// By the plain writer, from a random listing; nothing where it would be long.
+/// By the plain writer, from a random listing; nothing where it would be long, or where none can be written.
 fn written(rng: &mut Rng, book: &Book, template: &Template) -> Vec<u8> {
-    match writer::message(book, &listings::whole(rng, template)) {
-        Ok(message) if message.len() <= LONG => message,
-        Err(refused) if refused.number != 55 => panic!("the listing holds, and is refused by {refused:?}"),
+    match listings::whole(rng, book, template).map(|draft| writer::message(book, &draft)) {
+        Some(Ok(message)) if message.len() <= LONG => message,
+        Some(Err(refused)) if refused.number != 55 => panic!("the listing holds, and is refused by {refused:?}"),
         _ => Vec::new(),
     }
 }
 
-/// A message of any version: longer blocks than declared, padding that is not zero, values out of range, and groups
-/// and data beyond the book's.
+/// A message of any version: longer blocks than declared, padding that is not zero, values that are unlisted or out of
+/// range, and groups and data beyond the book's.
 struct Wire<'a> {
     rng: &'a mut Rng,
+    book: &'a Book,
     version: u16,
     clean: bool,
     message: Vec<u8>,
@@ -45,13 +47,13 @@ impl Wire<'_> {
         self.message.extend((number as u16).to_le_bytes());
     }
 
-    fn root(&mut self, book: &Book, template: &Template) {
+    fn root(&mut self, template: &Template) {
         let block = &template.block;
         let length = self.length(block);
         let known = block.present(self.version);
-        let later = self.version > book.version;
+        let later = self.version > self.book.version;
         let surplus = if later { (self.rng.below(3), self.rng.below(3)) } else { (0, 0) };
-        for number in [length, template.id.into(), book.schema.into(), self.version.into()] {
+        for number in [length, template.id.into(), self.book.schema.into(), self.version.into()] {
             self.put(number);
         }
         self.put(known.0 + surplus.0);
@@ -110,7 +112,7 @@ impl Wire<'_> {
         let mut octets = if self.clean { vec![0; length] } else { self.rng.octets(length) };
         for field in block.fields.iter().filter(|field| field.since <= self.version) {
             if self.clean || self.rng.chance(60) {
-                let value = value(self.rng, field);
+                let value = value(self.rng, self.book, field);
                 octets[usize::from(field.offset)..field.end()].copy_from_slice(&value);
             }
         }
@@ -118,9 +120,9 @@ impl Wire<'_> {
     }
 }
 
-/// Octets for a field: in range, null, or just beside.
-fn value(rng: &mut Rng, field: &Field) -> Vec<u8> {
-    let kind = field.kind();
+/// Octets for a field: in range and listed or not, null, or just beside.
+fn value(rng: &mut Rng, book: &Book, field: &Field) -> Vec<u8> {
+    let (kind, list) = (field.kind(), book.list_of(field));
     if field.is_array() {
         return rng.octets(field.octets());
     }
@@ -128,7 +130,9 @@ fn value(rng: &mut Rng, field: &Field) -> Vec<u8> {
         0 | 1 => kind.null,
         2 => kind.least - 1,
         3 => kind.greatest + 1,
-        _ => number(rng, kind),
+        4 => number(rng, kind),
+        5 => lists::beside(rng, kind, list),
+        _ => lists::listed(rng, kind, list).unwrap_or(kind.null),
     };
     kind.octets_of(value)
 }

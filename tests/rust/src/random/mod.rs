@@ -6,6 +6,7 @@ mod compare;
 pub mod damage;
 pub mod faults;
 pub mod listings;
+mod lists;
 pub mod messages;
 pub mod places;
 mod seen;
@@ -35,11 +36,10 @@ pub fn run(report: &mut Report, seed: u64, messages: u64) {
     let Run { seen, agreed, compared, drafts, report, .. } = run;
     println!("random: seed {seed}, {compared} messages and {drafts} listings compared; the library answered");
     seen.print();
-    println!("two books: {} messages, {} accepted, {} not later", agreed.messages, agreed.accepted, agreed.not_later);
+    println!("two books: {agreed}");
     if messages >= ENOUGH {
         seen.report(report);
-        let spoken_of = agreed.accepted > 0 && agreed.not_later > 0;
-        report.check(same("messages of both halves", spoken_of, true), || "two books".into());
+        report.check(same("all came", agreed.all_came(), true), || format!("two books: {agreed}"));
     } else {
         println!("fewer than {ENOUGH} messages: what never came is no failure");
     }

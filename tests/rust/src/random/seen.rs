@@ -10,11 +10,13 @@ const REFUSALS: [(&str, &[usize]); 5] = [
     ("rooms", &[40]),
     ("writing", &[50, 51, 52, 53, 54, 55]),
 ];
-const KINDS: [&str; 6] = ["number", "null", "octets", "absent", "group", "out of range"];
+const KINDS: [&str; 7] = ["number", "null", "octets", "absent", "group", "out of range", "unlisted"];
 
 pub struct Seen {
     refusals: [u64; 56],
-    kinds: [u64; 6],
+    /// Books that are refused by 4 for one of their lists.
+    pub lists: u64,
+    kinds: [u64; 7],
     /// Messages that were listed into every room from none to enough.
     pub every_room: u64,
     pub trips: Trips,
@@ -31,7 +33,7 @@ pub struct Trips {
 
 impl Seen {
     pub fn nothing() -> Seen {
-        Seen { refusals: [0; 56], kinds: [0; 6], every_room: 0, trips: Trips::default() }
+        Seen { refusals: [0; 56], lists: 0, kinds: [0; 7], every_room: 0, trips: Trips::default() }
     }
 
     /// Counts a refusal by its number.
@@ -74,7 +76,13 @@ impl Seen {
         let trips = [("written and read back", read_back), ("read and written back", written_back), ("not so", not_so)];
         let trips = trips.iter().map(|&(name, count)| (name.to_string(), count));
         let rooms = vec![("listed into every room".into(), self.every_room)];
-        let others = [("answers", kinds.collect()), ("messages", rooms), ("round trips", trips.collect())];
+        let lists = vec![("4".into(), self.lists)];
+        let others = [
+            ("refusals of lists", lists),
+            ("answers", kinds.collect()),
+            ("messages", rooms),
+            ("round trips", trips.collect()),
+        ];
         refusals.chain(others.map(|(of, counts)| (of.into(), counts))).collect()
     }
 }

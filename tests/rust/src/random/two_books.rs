@@ -4,8 +4,8 @@
 use super::compare::BothBooks;
 use crate::readers::stream_place;
 use crate::report::same;
-use plain::{extension::extends, message::Part, word, Block, Book, Message, Place};
-use siphonbard::Answer;
+use plain::{extension::extends, message::Part, word, Block, Book, Field, Message, Place, Record};
+use std::fmt;
 
 /// An older book and one that legally extends it, both accepted.
 pub struct Pair<'a> {
@@ -15,13 +15,34 @@ pub struct Pair<'a> {
     new: &'a siphonbard::Book,
 }
 
-/// How many messages had their template in both books, and of how many of these each half of the demand speaks.
+/// How many messages had their template in both books, of how many of these each half of the demand speaks, and how
+/// many values the older book's lists alone lacked.
 #[derive(Default)]
 pub struct Agreed {
-    pub messages: u64,
-    pub accepted: u64,
-    pub not_later: u64,
+    messages: u64,
+    accepted: u64,
+    not_later: u64,
+    older_lack: u64,
 }
+
+impl Agreed {
+    pub fn all_came(&self) -> bool {
+        self.accepted > 0 && self.not_later > 0 && self.older_lack > 0
+    }
+}
+
+impl fmt::Display for Agreed {
+    fn fmt(&self, out: &mut fmt::Formatter) -> fmt::Result {
+        let Agreed { messages, accepted, not_later, older_lack } = self;
+        write!(out, "{messages} messages, {accepted} accepted, {not_later} not later, ")?;
+        write!(out, "{older_lack} values that only the older book's lists lack")
+    }
+}
+
+/// First numbers of records.
+const NUMBER: u64 = 0;
+const GROUP: u64 = 4;
+const UNLISTED: u64 = 6;
 
 /// One message in so many is asked at every place besides; the others' answers are compared by their listings.
 const ASKED_BY_PLACE: u64 = 4;
@@ -34,9 +55,10 @@ impl<'a> Pair<'a> {
         extends(new_tree, old_tree).then_some(pair)
     }
 
-    /// What the newer accepts, the older accepts, with the same answer for every element that the older has. At a
-    /// version no later than the older's, both accept or both refuse, with the same number and place. Nothing is said
-    /// of a message whose template is not in both.
+    /// What the newer accepts, the older accepts, with the same answer for every element that the older has, but for
+    /// kind 6 with the same number where only the older's list lacks it. At a version no later than the older's, both
+    /// accept or both refuse, with the same number and place. Nothing is said of a message whose template is not in
+    /// both.
     pub fn agree(&self, octets: &[u8], agreed: &mut Agreed) -> Option<Result<(), String>> {
         let id = word(octets.get(..12)?, 2);
         let blocks = (&self.old_tree.template(id)?.block, &self.new_tree.template(id)?.block);
@@ -45,15 +67,19 @@ impl<'a> Pair<'a> {
     }
 
     fn answers_agree(&self, octets: &[u8], blocks: (&Block, &Block), agreed: &mut Agreed) -> Result<(), String> {
-        let (old, new) = (self.old.list_all(octets), self.new.list_all(octets));
+        let records = |book: &siphonbard::Book| {
+            book.list_all(octets).map(|all| all.iter().map(|answer| answer.record()).collect::<Vec<Record>>())
+        };
+        let (old, new) = (records(self.old), records(self.new));
         if word(octets, 6) <= self.old_tree.version {
             agreed.not_later += 1;
             same("verdict of two books", old.as_ref().err(), new.as_ref().err())?;
         }
         if let Ok(new) = new {
             agreed.accepted += 1;
-            let mut projection = Projection { answers: new.into_iter(), known: Vec::new() };
+            let mut projection = Projection::of(self.old_tree, new);
             projection.block(Some(blocks.0), blocks.1);
+            agreed.older_lack += projection.lacking;
             same("answers of two books", old, Ok(projection.known))?;
             if agreed.accepted % ASKED_BY_PLACE == 0 {
                 self.places_agree(octets)?;
@@ -62,59 +88,88 @@ impl<'a> Pair<'a> {
         Ok(())
     }
 
-    /// The same answer by either book at every place of the message that the older has.
+    /// The same answer by either book at every place of the message that the older has, but for its list.
     fn places_agree(&self, octets: &[u8]) -> Result<(), String> {
         let message =
             Message::read(self.old_tree, octets).map_err(|refused| format!("{refused:?} by the plain reader"))?;
         let mut places = Vec::new();
         collect(message.block, &message.root, &mut Vec::new(), &mut places);
-        for place in &places {
+        for (place, field) in &places {
             let old = stream_place(self.old, octets, place);
             let new = stream_place(self.new, octets, place);
-            same("place of two books", new, old).map_err(|failure| format!("{place:?}, {failure}"))?;
+            let seen = new.map(|record| seen_by(self.old_tree, *field, record));
+            same("place of two books", old, seen).map_err(|failure| format!("{place:?}, {failure}"))?;
         }
         Ok(())
     }
 }
 
-/// The newer book's answers, and of those that were passed the ones for elements that the older has.
-struct Projection {
-    answers: std::vec::IntoIter<Answer>,
-    known: Vec<Answer>,
+/// The newer book's record as the older has it; of a field, the older's: a number that its list lacks is of kind 6.
+fn seen_by(older: &Book, field: Option<&Field>, record: Record) -> Record {
+    let unlisted = |field| record[0] == NUMBER && !older.is_listed(field, record[1].into());
+    match field {
+        Some(field) if unlisted(field) => [UNLISTED, record[1], 0],
+        _ => record,
+    }
 }
 
-impl Projection {
-    fn pass(&mut self, known: bool) -> Answer {
-        let answer = self.answers.next().expect("a record for every element");
+/// The newer book's records, and of those that were passed the ones for elements that the older has, as it has them.
+struct Projection<'a> {
+    older: &'a Book,
+    records: std::vec::IntoIter<Record>,
+    known: Vec<Record>,
+    /// Values that only the older book's lists lack.
+    lacking: u64,
+}
+
+impl<'a> Projection<'a> {
+    fn of(older: &'a Book, newer: Vec<Record>) -> Projection<'a> {
+        Projection { older, records: newer.into_iter(), known: Vec::new(), lacking: 0 }
+    }
+
+    /// Passes the record of an element that the older book knows or not; of a field, the older's.
+    fn pass(&mut self, known: bool, field: Option<&Field>) -> Record {
+        let record = self.records.next().expect("a record for every element");
+        let seen = seen_by(self.older, field, record);
+        self.lacking += u64::from(seen != record);
         if known {
-            self.known.push(answer);
+            self.known.push(seen);
         }
-        answer
+        record
     }
 
     /// Passes a block; the older book may have no such block.
     fn block(&mut self, older: Option<&Block>, newer: &Block) {
         for number in 0..newer.fields.len() {
-            self.pass(older.map_or(false, |block| number < block.fields.len()));
+            let field = older.and_then(|block| block.fields.get(number));
+            self.pass(field.is_some(), field);
         }
         for (number, group) in newer.groups.iter().enumerate() {
             let inner = older.and_then(|block| block.groups.get(number)).map(|group| &group.block);
-            let entries = self.pass(inner.is_some()).entries().unwrap_or(0);
-            for _ in 0..entries {
+            let [first, entries, _] = self.pass(inner.is_some(), None);
+            for _ in 0..if first == GROUP { entries } else { 0 } {
                 self.block(inner, &group.block);
             }
         }
         for number in 0..newer.data.len() {
-            self.pass(older.map_or(false, |block| number < block.data.len()));
+            self.pass(older.map_or(false, |block| number < block.data.len()), None);
         }
     }
 }
 
-fn collect(block: &Block, part: &Part, steps: &mut Vec<(u64, u64)>, places: &mut Vec<Place>) {
+/// Every place of a part, and the field that is there.
+fn collect<'a>(
+    block: &'a Block,
+    part: &Part,
+    steps: &mut Vec<(u64, u64)>,
+    places: &mut Vec<(Place, Option<&'a Field>)>,
+) {
     let counts = [block.fields.len(), block.groups.len(), block.data.len()];
     for (kind, &count) in counts.iter().enumerate() {
-        let elements = (0..count as u64).map(|element| Place { steps: steps.clone(), kind: kind as u64, element });
-        places.extend(elements);
+        for number in 0..count {
+            let place = Place { steps: steps.clone(), kind: kind as u64, element: number as u64 };
+            places.push((place, block.fields.get(number).filter(|_| kind == 0)));
+        }
     }
     for (number, group) in block.groups.iter().enumerate() {
         for (entry, part) in part.entries(number).iter().enumerate() {
