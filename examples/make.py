@@ -1,22 +1,26 @@
 #!/usr/bin/env python3
 """make.py: makes the books and messages of this folder from a description in words. `make.py FOLDER` makes them there.
 
-For a book of your own, copy it and schema_book.py, and write your templates where the fill stands."""
+For a book of your own, copy it and schema_book.py, and write your templates where the fill stands, and your lists of
+codes where its side and its conditions stand."""
 import os
 import struct
 import sys
 
-from schema_book import block, book, data, field, group
+from schema_book import block, book, data, enumeration, field, flags, group
 
-# ---- The books: a fill, and the fill with a quantity where there was padding ----
+# ---- The books: a fill, and the fill with a quantity where there was padding, and with one condition more ----
 
 SCHEMA, FILL = 7, 1
 BLOCK = 20  # octets of a fill's block, in both books
+SIDES, CONDITIONS = 54, 277  # ids of lists
 
 FIELDS = [
     field(37, "char", offset=0, length=8),  # the order: eight characters
     field(44, "int32", offset=8),  # the price: cents a tonne over the exchange's, or under it
     field(64, "uint8", offset=12, presence="optional"),  # the week of delivery; null while none is agreed
+    field(54, "char", offset=13, list=SIDES),  # the side: a code
+    field(277, "uint16", offset=14, list=CONDITIONS),  # the conditions: a flag for each
 ]
 QUANTITY = field(32, "uint32", offset=16, since=1)  # the filled quantity, in tonnes
 
@@ -26,12 +30,23 @@ MILLS = group(78, block(4, [
 ]))
 NOTE = data(58)
 
-OLDER = book(SCHEMA, 0, {FILL: block(BLOCK, FIELDS, [MILLS], [NOTE])})
-NEWER = book(SCHEMA, 1, {FILL: block(BLOCK, FIELDS + [QUANTITY], [MILLS], [NOTE])})
+# Codes of the side, as FIX has them, and bits of the conditions. Only the newer book lists the last bit.
+BUY, SELL = b"1", b"2"
+IN_PART, BY_WEIGHT_AT_MILL, PRICE_TO_BE_FIXED = 0, 1, 4
+
+OLDER = book(SCHEMA, 0, {FILL: block(BLOCK, FIELDS, [MILLS], [NOTE])}, {
+    SIDES: enumeration(BUY + SELL),
+    CONDITIONS: flags([IN_PART, BY_WEIGHT_AT_MILL]),
+})
+NEWER = book(SCHEMA, 1, {FILL: block(BLOCK, FIELDS + [QUANTITY], [MILLS], [NOTE])}, {
+    SIDES: enumeration(BUY + SELL),
+    CONDITIONS: flags([IN_PART, BY_WEIGHT_AT_MILL, PRICE_TO_BE_FIXED]),
+})
 
 # ---- The messages: numbers are least significant octet first, and x is an octet of padding ----
 
 NO_WEEK = 255  # null for a uint8
+SELL_SHORT = b"5"  # a side that neither book lists
 
 
 def message(version, root, mills, note):
@@ -42,11 +57,19 @@ def message(version, root, mills, note):
     return header + root + struct.pack("<2H", 4, len(mills)) + entries + struct.pack("<H", len(note)) + note
 
 
-OLDER_FILL = message(0, struct.pack("<8siB7x", b"B7-10423", -125, NO_WEEK), [(12, 60), (31, 40)], b"May delivery")
-NEWER_FILL = message(1, struct.pack("<8siB3xI", b"C2-00917", 340, 23, 500), [(12, 100)], b"300 t to come")
+def root(order, price, week, side, conditions, quantity=0):
+    """The root block. In a message of version 0 its last four octets are padding, and zeros."""
+    return struct.pack("<8siBcHI", order, price, week, side, sum(1 << bit for bit in conditions), quantity)
+
+
+OLDER_FILL = message(0, root(b"B7-10423", -125, NO_WEEK, BUY, []), [(12, 60), (31, 40)], b"May delivery")
+NEWER_FILL = message(1, root(b"C2-00917", 340, 23, BUY, [IN_PART], 500), [(12, 100)], b"300 t to come")
 
 ALL_MILLS = [(mill, 2 + mill % 2) for mill in range(1, 41)]
-FORTY_MILLS = message(1, struct.pack("<8siB3xI", b"C2-00918", 335, 24, 2000), ALL_MILLS, b"all mills")
+FORTY_MILLS = message(1, root(b"C2-00918", 335, 24, BUY, [BY_WEIGHT_AT_MILL], 2000), ALL_MILLS, b"all mills")
+
+TWO_CONDITIONS = [IN_PART, PRICE_TO_BE_FIXED]
+UNLISTED_FILL = message(1, root(b"C2-00919", 338, 25, SELL_SHORT, TWO_CONDITIONS, 250), [(31, 100)], b"price on Friday")
 
 FILES = {
     "books/older.book": OLDER,
@@ -54,6 +77,7 @@ FILES = {
     "messages/older_fill.sbe": OLDER_FILL,
     "messages/newer_fill.sbe": NEWER_FILL,
     "messages/forty_mills.sbe": FORTY_MILLS,
+    "messages/unlisted_fill.sbe": UNLISTED_FILL,
     "messages/cut_fill.sbe": NEWER_FILL[:-1],  # its last octet was lost on the way
 }
 

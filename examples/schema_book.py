@@ -7,9 +7,11 @@ TYPES = ["char", "int8", "uint8", "int16", "uint16", "int32", "uint32", "int64",
 PRESENCES = ["required", "optional"]
 
 
-def field(id, type, offset, length=1, presence="required", since=0):
-    """Six words. A char or uint8 of a length over 1 is an array: plain octets. The id is a label, such as a FIX tag."""
-    return [id, number(type, TYPES), length, offset, number(presence, PRESENCES), since]
+def field(id, type, offset, length=1, presence="required", since=0, list=None):
+    """Seven words. A char or uint8 of a length over 1 is an array: plain octets. The id is a label, such as a FIX tag.
+    The list is the id of one in the book."""
+    names = 0 if list is None else list + 1
+    return [id, number(type, TYPES), length, offset, number(presence, PRESENCES), since, names]
 
 
 def data(id, since=0):
@@ -29,20 +31,31 @@ def group(id, block, since=0):
     return [id, since] + block
 
 
-def book(schema, version, templates):
-    """The octets of a book with a block for each template id."""
-    return octets(words(schema, version, sorted(templates.items())))
+def enumeration(values):
+    """A list of codes, for a char, uint8 or uint16: numbers, or the characters of bytes."""
+    return [0, *sorted(values)]
 
 
-def words(schema, version, templates):
-    """The head: schema id, version, number of templates, number of words. The contents, a row for each template, ids
-    rising: its id, the first word of its body, the words in its body. Then the bodies, back to back, each one block."""
-    first = 4 + 3 * len(templates)
+def flags(bits):
+    """A list of bits by their numbers, the least significant being 0, for an unsigned type."""
+    return [1, *sorted(bits)]
+
+
+def book(schema, version, templates, lists={}):
+    """The octets of a book with a block for each template id, and an enumeration or flags for each list id."""
+    return octets(words(schema, version, sorted(templates.items()), sorted(lists.items())))
+
+
+def words(schema, version, templates, lists=()):
+    """The head: schema id, version, number of templates, number of words, number of lists. The contents, a row for each
+    template and then one for each list, ids rising: its id, the first word of its body, the words in its body. Then the
+    bodies, back to back: of a template one block, of a list its kind and its numbers."""
+    first = 5 + 3 * (len(templates) + len(lists))
     contents, bodies = [], []
-    for id, body in templates:
+    for id, body in [*templates, *lists]:
         contents += [id, first + len(bodies), len(body)]
         bodies += body
-    return [schema, version, len(templates), first + len(bodies)] + contents + bodies
+    return [schema, version, len(templates), first + len(bodies), len(lists)] + contents + bodies
 
 
 def octets(words):

@@ -25,27 +25,31 @@ extern "C" {
 /*
  * ---- Refusals: the `number` of a reply, when it is given, and what its `place` is ----
  *
- * Places of 10 to 20 are offsets in the message; templates and records count from 0. The book is judged first, then
- * the message in the order of the wire, then the call's own arguments; one refusal is given. Of writing's own, 50
- * comes first, then 51 to 54 at the first record at fault (51 first within it), then 51 for what is left over, and 55
- * last.
+ * Places of 10 to 20 are offsets in the message; templates, lists and records count from 0. The book is judged first,
+ * then the message in the order of the wire, then the call's own arguments; one refusal is given. Of a book's own, the
+ * lowest number is, 4 of a template before 4 of a list. Of writing's own, 50 comes first, then 51 to 54 at the first
+ * record at fault (51 first within it), then 51 for what is left over, and 55 last.
  */
 
 /* When the book's octets are odd, under 8 or over 8,192. Place: 0. */
 #define SIPHONBARD_REFUSED_BOOK_SIZE 1
 /*
- * When the book's word count is wrong, its schema id or version is 65535, it has no template or over 64, or its
- * contents don't fit. Place: 0.
+ * When the book's head is cut short, its word count is wrong, its schema id or version is 65535, it has no template or
+ * over 64, or its contents don't fit. Place: 0.
  */
 #define SIPHONBARD_REFUSED_BOOK_HEAD 2
-/* When the book's contents break a rule, or a template id is 65535. Place: 0. */
+/* When the book's contents break a rule, or a template or list id is 65535. Place: 0. */
 #define SIPHONBARD_REFUSED_BOOK_CONTENTS 3
 /*
- * When a block runs past its body, body words are left over, a count or the depth is too high, or a group has no
- * field. Place: the template's number.
+ * When a block runs past its body, body words are left over, a count or the depth is too high, a group has no field, or
+ * a list is empty, too long, not rising or of no known kind. Place: the template's number, or the number of templates
+ * plus the list's position.
  */
 #define SIPHONBARD_REFUSED_BOOK_BLOCK 4
-/* When a block length, type, length, presence or offset breaks its rule. Place: the template's number. */
+/*
+ * When a block length, or a field's type, length, presence, offset or list, breaks its rule. Place: the template's
+ * number.
+ */
 #define SIPHONBARD_REFUSED_BOOK_LAYOUT 5
 /* When a since breaks its rule. Place: the template's number. */
 #define SIPHONBARD_REFUSED_BOOK_SINCE 6
@@ -91,7 +95,7 @@ extern "C" {
  * record's number.
  */
 #define SIPHONBARD_REFUSED_RECORD_WRONG 51
-/* When a number is null or out of range, or null stands for a required field. Place: the record's number. */
+/* When a number is null, out of range or unlisted, or null stands for a required field. Place: the record's number. */
 #define SIPHONBARD_REFUSED_VALUE_WRONG 52
 /*
  * When octets run past the pool's end, are not as many as the field's, or are data over 65,534. Place: the record's
@@ -107,7 +111,9 @@ extern "C" {
  * ---- Records: three numbers each, of which the first is the kind ----
  *
  * A negative value x stands as 2^64 + x. Absent is what is younger than the message, even where its block has octets
- * there. Out of range is a number outside its type's range, or null where the field is required.
+ * there. Out of range is a number outside its type's range, or null where the field is required. Unlisted is a number
+ * in its type's range that the field's name list lacks, or that has a bit 1 which the list lacks: a code or flags of
+ * which the book does not say what they mean.
  *
  *                                      Second number                      Third number
  */
@@ -117,6 +123,7 @@ extern "C" {
 #define SIPHONBARD_IS_ABSENT 3       /* 0                                  0 */
 #define SIPHONBARD_IS_GROUP 4        /* its number of entries              0 */
 #define SIPHONBARD_IS_OUT_OF_RANGE 5 /* its value                          0 */
+#define SIPHONBARD_IS_UNLISTED 6     /* its value                          0 */
 
 /* What a place asks for: not to be compared with the kind of a record. */
 #define SIPHONBARD_ASK_FIELD 0
@@ -124,7 +131,7 @@ extern "C" {
 #define SIPHONBARD_ASK_DATA 2
 
 /* Room for any prepared book: none has more numbers. */
-#define SIPHONBARD_PREPARED_MOST 8259
+#define SIPHONBARD_PREPARED_MOST 8260
 
 /* The verdict of a check. `number` is 0: accepted, and `place` is 0. Else the refusal's number and its place. */
 typedef struct {
@@ -150,7 +157,7 @@ typedef struct {
 /*
  * ---- Calls that take any octets whatever ----
  *
- * All but the first check and prepare the book at each call, in 66 kB of the stack (8,259 numbers).
+ * All but the first check and prepare the book at each call, in 66 kB of the stack (8,260 numbers).
  */
 
 /* Whether the octets are a schema book: accepted, or 1 to 6. */
@@ -190,8 +197,8 @@ siphonbard_found siphonbard_place(const uint8_t *book, size_t book_len, const ui
 /*
  * Writes a message of the template from the listing, at the room's start, and gives how many octets it has, or 1 to 6
  * or 50 to 55. The listing has a record per element, in the order of siphonbard_list; its starts count from the
- * pool's first octet, and SIPHONBARD_IS_ABSENT and SIPHONBARD_IS_OUT_OF_RANGE are answered 51. The listing of a message
- * is written back with that message as the pool.
+ * pool's first octet, and SIPHONBARD_IS_ABSENT, SIPHONBARD_IS_OUT_OF_RANGE and SIPHONBARD_IS_UNLISTED are answered 51.
+ * The listing of a message is written back with that message as the pool.
  *
  * The message has the book's version, its declared block lengths and its counts, and zeros where a block has no
  * field. Octets of the room past it are left as they were; after a refusal all of them are. `listing_len` counts

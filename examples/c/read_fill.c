@@ -12,11 +12,11 @@
 
 /* The template of a fill, and its elements in the order of a listing: fields, the group of mills, a note. */
 #define FILL 1
-static const char *const FIELDS[] = {"order", "price", "delivery week", "filled quantity"};
+static const char *const FIELDS[] = {"order", "price", "delivery week", "side", "conditions", "filled quantity"};
 static const char *const MILL[] = {"  mill", "  share"};
 
 /* The filled quantity is this field of the root block. Only the newer book has it. */
-#define QUANTITY 3
+#define QUANTITY 5
 
 /* One octet more than a message may have, so that the library sees one that is too long. A book has fewer. */
 #define LONGEST 65536
@@ -39,13 +39,14 @@ typedef struct {
 static const char *const MEANING[] = {
     [SIPHONBARD_REFUSED_BOOK_SIZE] = "the book's octets are odd, under 8 or over 8,192",
     [SIPHONBARD_REFUSED_BOOK_HEAD] =
-        "the book's word count is wrong, its schema id or version is 65535, it has no template or over 64, or its "
-        "contents don't fit",
-    [SIPHONBARD_REFUSED_BOOK_CONTENTS] = "the book's contents break a rule, or a template id is 65535",
+        "the book's head is cut short, its word count is wrong, its schema id or version is 65535, it has no template "
+        "or over 64, or its contents don't fit",
+    [SIPHONBARD_REFUSED_BOOK_CONTENTS] = "the book's contents break a rule, or a template or list id is 65535",
     [SIPHONBARD_REFUSED_BOOK_BLOCK] =
-        "a block runs past its body, body words are left over, a count or the depth is too high, or a group has no "
-        "field",
-    [SIPHONBARD_REFUSED_BOOK_LAYOUT] = "a block length, type, length, presence or offset breaks its rule",
+        "a block runs past its body, body words are left over, a count or the depth is too high, a group has no field, "
+        "or a list is empty, too long, not rising or of no known kind",
+    [SIPHONBARD_REFUSED_BOOK_LAYOUT] =
+        "a block length, or a field's type, length, presence, offset or list, breaks its rule",
     [SIPHONBARD_REFUSED_BOOK_SINCE] = "a since breaks its rule",
     [SIPHONBARD_REFUSED_MESSAGE_SIZE] = "the message is under 12 or over 65,535 octets",
     [SIPHONBARD_REFUSED_HEADER_NULL] = "a header number is 65535",
@@ -65,7 +66,8 @@ static const char *const MEANING[] = {
     [SIPHONBARD_REFUSED_WRITE_TEMPLATE_UNKNOWN] = "the book has no such template to write",
     [SIPHONBARD_REFUSED_RECORD_WRONG] =
         "a record is missing, left over, partial or of the wrong kind, or an unused number is not 0",
-    [SIPHONBARD_REFUSED_VALUE_WRONG] = "a number is null or out of range, or null stands for a required field",
+    [SIPHONBARD_REFUSED_VALUE_WRONG] =
+        "a number is null, out of range or unlisted, or null stands for a required field",
     [SIPHONBARD_REFUSED_OCTETS_WRONG] =
         "octets run past the pool's end, are not as many as the field's, or are data over 65,534",
     [SIPHONBARD_REFUSED_ENTRIES_TOO_MANY] = "a group has over 65,534 entries",
@@ -75,7 +77,9 @@ static const char *const MEANING[] = {
 /* The place of a refusal, by what it counts; nothing where it is always 0. */
 static void show_place(uint64_t number, uint64_t place)
 {
-    if (number >= SIPHONBARD_REFUSED_BOOK_BLOCK && number <= SIPHONBARD_REFUSED_BOOK_SINCE)
+    if (number == SIPHONBARD_REFUSED_BOOK_BLOCK)
+        printf(" in body %" PRIu64, place);
+    if (number >= SIPHONBARD_REFUSED_BOOK_LAYOUT && number <= SIPHONBARD_REFUSED_BOOK_SINCE)
         printf(" in template %" PRIu64, place);
     if (number >= SIPHONBARD_REFUSED_MESSAGE_SIZE && number <= SIPHONBARD_REFUSED_OCTETS_LEFT_OVER)
         printf(" at octet %" PRIu64, place);
@@ -111,6 +115,7 @@ static void show_answer(uint64_t first, uint64_t second, uint64_t third, const f
     case SIPHONBARD_IS_ABSENT: printf("absent: it is younger than the message\n"); break;
     case SIPHONBARD_IS_GROUP: printf("group of %" PRIu64 "\n", second); break;
     case SIPHONBARD_IS_OUT_OF_RANGE: printf("out of range: %" PRId64 "\n", (int64_t)second); break;
+    case SIPHONBARD_IS_UNLISTED: printf("unlisted: %" PRIu64 "\n", second); break;
     }
 }
 

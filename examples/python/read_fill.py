@@ -8,11 +8,11 @@ from siphonbard import Book, Element, Kind, Refusal, Refused
 
 # The template of a fill, and its elements in the order of a listing: fields, the group of mills, a note.
 FILL = 1
-FIELDS = ["order", "price", "delivery week", "filled quantity"]
+FIELDS = ["order", "price", "delivery week", "side", "conditions", "filled quantity"]
 MILL = ["  mill", "  share"]
 
 # The filled quantity is this field of the root block. Only the newer book has it.
-QUANTITY = 3
+QUANTITY = 5
 
 
 def main():
@@ -60,7 +60,9 @@ def words(record, message):
         return "absent: it is younger than the message"
     if first == Kind.GROUP:
         return "group of %d" % second
-    return "out of range: %d" % signed(second)
+    if first == Kind.OUT_OF_RANGE:
+        return "out of range: %d" % signed(second)
+    return "unlisted: %d" % second
 
 
 def signed(number):

@@ -20,6 +20,7 @@ class Kind(enum.IntEnum):
     ABSENT = 3
     GROUP = 4
     OUT_OF_RANGE = 5
+    UNLISTED = 6
 
 
 class Element(enum.IntEnum):
@@ -94,18 +95,22 @@ class Refusal(enum.IntEnum):
     BOOK_SIZE = 1, "the book's octets are odd, under 8 or over 8,192", "0"
     BOOK_HEAD = (
         2,
-        "the book's word count is wrong, its schema id or version is 65535, it has no template or over 64, or "
-        "its contents don't fit",
+        "the book's head is cut short, its word count is wrong, its schema id or version is 65535, it has no template "
+        "or over 64, or its contents don't fit",
         "0",
     )
-    BOOK_CONTENTS = 3, "the book's contents break a rule, or a template id is 65535", "0"
+    BOOK_CONTENTS = 3, "the book's contents break a rule, or a template or list id is 65535", "0"
     BOOK_BLOCK = (
         4,
-        "a block runs past its body, body words are left over, a count or the depth is too high, or a group "
-        "has no field",
+        "a block runs past its body, body words are left over, a count or the depth is too high, a group has no field, "
+        "or a list is empty, too long, not rising or of no known kind",
+        "the template's number, or the number of templates plus the list's position",
+    )
+    BOOK_LAYOUT = (
+        5,
+        "a block length, or a field's type, length, presence, offset or list, breaks its rule",
         "the template's number",
     )
-    BOOK_LAYOUT = 5, "a block length, type, length, presence or offset breaks its rule", "the template's number"
     BOOK_SINCE = 6, "a since breaks its rule", "the template's number"
     MESSAGE_SIZE = 10, "the message is under 12 or over 65,535 octets", "0"
     HEADER_NULL = 11, "a header number is 65535", "the first such number's offset"
@@ -131,7 +136,11 @@ class Refusal(enum.IntEnum):
         "a record is missing, left over, partial or of the wrong kind, or an unused number is not 0",
         "the record's number",
     )
-    VALUE_WRONG = 52, "a number is null or out of range, or null stands for a required field", "the record's number"
+    VALUE_WRONG = (
+        52,
+        "a number is null, out of range or unlisted, or null stands for a required field",
+        "the record's number",
+    )
     OCTETS_WRONG = (
         53,
         "octets run past the pool's end, are not as many as the field's, or are data over 65,534",
@@ -141,10 +150,11 @@ class Refusal(enum.IntEnum):
     MESSAGE_TOO_LONG = 55, "the message is longer than the room or than 65,535 octets", "0"
 
 
-# The first and the last of the refusals whose place counts templates, octets or records. There is always room for a
-# prepared book, so that 40 is a listing's.
+# The first and the last of the refusals whose place counts bodies, templates, octets or records. The bodies of a book
+# are its templates' and then its lists'. There is always room for a prepared book, so that 40 is a listing's.
 COUNTED = [
-    (Refusal.BOOK_BLOCK, Refusal.BOOK_SINCE, " in template %d"),
+    (Refusal.BOOK_BLOCK, Refusal.BOOK_BLOCK, " in body %d"),
+    (Refusal.BOOK_LAYOUT, Refusal.BOOK_SINCE, " in template %d"),
     (Refusal.MESSAGE_SIZE, Refusal.OCTETS_LEFT_OVER, " at octet %d"),
     (Refusal.ROOM_TOO_SMALL, Refusal.ROOM_TOO_SMALL, " for %d records"),
     (Refusal.RECORD_WRONG, Refusal.ENTRIES_TOO_MANY, " at record %d"),
@@ -153,7 +163,7 @@ COUNTED = [
 # ---- The calls themselves ----
 
 LONGEST = 65535  # octets of a message
-PREPARED_MOST = 8259  # numbers of a prepared book: no book has more
+PREPARED_MOST = 8260  # numbers of a prepared book: no book has more
 FIRST = 64  # records that a listing has room for at first: more than most messages have
 
 Number = ctypes.c_uint64

@@ -1,9 +1,26 @@
 /// What stands at one place of a message.
 ///
-/// An element that is younger than the message is `Absent`, even where its block has octets there.
+/// An element that is younger than the message is `Absent`, even where its block has octets there. A code that the
+/// field's list lacks is `Unlisted`, whatever it is: it is not hidden, and no listed one.
+///
+/// ```
+/// use siphonbard::{Answer, Book, Element};
+///
+/// // One template: a side, which is a char. One list, 54, which its last word names: '1' to buy and '2' to sell.
+/// let words: [u16; 25] =
+///     [7, 0, 1, 25, 1, 1, 11, 11, 54, 22, 3, 1, 1, 0, 0, 54, 0, 1, 0, 0, 0, 55, 0, b'1' as u16, b'2' as u16];
+/// let octets: Vec<u8> = words.iter().flat_map(|word| word.to_le_bytes()).collect();
+/// let book = Book::checked(&octets)?;
+///
+/// let side = |code| book.place(&[1, 0, 1, 0, 7, 0, 0, 0, 0, 0, 0, 0, code], &[], Element::Field(0));
+/// assert_eq!(side(b'1')?, Answer::Number(49));
+/// assert_eq!(side(b'5')?, Answer::Unlisted(53));
+/// # Ok::<(), siphonbard::Refusal>(())
+/// ```
 #[derive(Clone, Copy, Debug, PartialEq, Eq, Hash)]
 pub enum Answer {
-    /// A value in its type's range. Negative ones are 2^64 + value: see [`Answer::signed`].
+    /// A value in its type's range, and in the field's list if it has one. Negative ones are 2^64 + value: see
+    /// [`Answer::signed`].
     Number(u64),
     /// An optional field that holds its type's null.
     Null,
@@ -20,6 +37,9 @@ pub enum Answer {
     Group(u64),
     /// A required field that holds null, or a char outside 32 to 126. The number is as for `Number`.
     OutOfRange(u64),
+    /// A value in its type's range that the field's list lacks, or that has a bit 1 which the list lacks. The number is
+    /// as for `Number`.
+    Unlisted(u64),
 }
 
 /// The kinds of records: the first of a record's three numbers.
@@ -36,6 +56,8 @@ impl Answer {
     pub const GROUP: u64 = 4;
     /// The kind of an `OutOfRange`. The record's second number is its value.
     pub const OUT_OF_RANGE: u64 = 5;
+    /// The kind of an `Unlisted`. The record's second number is its value.
+    pub const UNLISTED: u64 = 6;
 }
 
 impl Answer {
@@ -48,6 +70,7 @@ impl Answer {
             Answer::ABSENT => Answer::Absent,
             Answer::GROUP => Answer::Group(record[1]),
             Answer::OUT_OF_RANGE => Answer::OutOfRange(record[1]),
+            Answer::UNLISTED => Answer::Unlisted(record[1]),
             _ => return None,
         })
     }
@@ -61,10 +84,11 @@ impl Answer {
             Answer::Absent => [Answer::ABSENT, 0, 0],
             Answer::Group(entries) => [Answer::GROUP, entries, 0],
             Answer::OutOfRange(value) => [Answer::OUT_OF_RANGE, value, 0],
+            Answer::Unlisted(value) => [Answer::UNLISTED, value, 0],
         }
     }
 
-    /// The value of a `Number` of an unsigned type or a char.
+    /// The value of a `Number` of an unsigned type or a char. An `Unlisted` is none, as an `OutOfRange` is none.
     pub fn unsigned(&self) -> Option<u64> {
         match *self {
             Answer::Number(value) => Some(value),

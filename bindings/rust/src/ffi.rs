@@ -17,7 +17,7 @@ pub(crate) use safe::{check, check_book, list, place, prepare, write};
 pub(crate) use safe::{stream_check, stream_list, stream_place, stream_write};
 
 /// Room for any prepared book: none has more numbers.
-pub const PREPARED_MOST: usize = 8259;
+pub const PREPARED_MOST: usize = 8260;
 
 /// The verdict of a check.
 #[repr(C)]

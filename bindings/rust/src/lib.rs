@@ -2,15 +2,16 @@
 //! are taken as they come, and every answer and every message is the one that the layout has.
 //!
 //! An element is present by the message's version and by nothing else. A field that is younger than the message is
-//! [`Answer::Absent`], also where the message's block has zeros for it.
+//! [`Answer::Absent`], also where the message's block has zeros for it. A code that the book does not list is
+//! [`Answer::Unlisted`].
 //!
 //! ```
 //! use siphonbard::{Answer, Book, Element, Step};
 //!
 //! // One template: a uint32, an optional int16, a group with a uint8, and a data.
-//! let words: [u16; 37] = [
-//!     7, 0, 1, 37, 1, 7, 30, 8, 2, 1, 1, 38, 6, 1, 0, 0, 0, 44, 3, 1, 4, 1, 0, 58, 0, 453, 0, 2, 1, 0, 0, 452, 2, 1,
-//!     0, 0, 0,
+//! let words: [u16; 41] = [
+//!     7, 0, 1, 41, 0, 1, 8, 33, 8, 2, 1, 1, 38, 6, 1, 0, 0, 0, 0, 44, 3, 1, 4, 1, 0, 0, 58, 0, 453, 0, 2, 1, 0, 0,
+//!     452, 2, 1, 0, 0, 0, 0,
 //! ];
 //! let octets: Vec<u8> = words.iter().flat_map(|word| word.to_le_bytes()).collect();
 //! let book = Book::checked(&octets)?;
@@ -66,9 +67,9 @@ pub fn check(book: &[u8], message: &[u8]) -> Result<(), Refusal> {
 /// ```
 /// use siphonbard::{list, Refusal};
 ///
-/// # let words: [u16; 37] = [
-/// #     7, 0, 1, 37, 1, 7, 30, 8, 2, 1, 1, 38, 6, 1, 0, 0, 0, 44, 3, 1, 4, 1, 0, 58, 0, 453, 0, 2, 1, 0, 0, 452, 2,
-/// #     1, 0, 0, 0,
+/// # let words: [u16; 41] = [
+/// #     7, 0, 1, 41, 0, 1, 8, 33, 8, 2, 1, 1, 38, 6, 1, 0, 0, 0, 0, 44, 3, 1, 4, 1, 0, 0, 58, 0, 453, 0, 2, 1, 0, 0,
+/// #     452, 2, 1, 0, 0, 0, 0,
 /// # ];
 /// # let book: Vec<u8> = words.iter().flat_map(|word| word.to_le_bytes()).collect();
 /// # let message = b"\x08\0\x01\0\x07\0\0\0\x01\0\x01\0\xe8\x03\0\0\xfb\xff\0\0\x02\0\x02\0\x01\0\x03\0\x02\0ab";

@@ -9,9 +9,9 @@ use crate::Answer;
 /// ```
 /// use siphonbard::{Book, Element, Listing};
 ///
-/// # let words: [u16; 37] = [
-/// #     7, 0, 1, 37, 1, 7, 30, 8, 2, 1, 1, 38, 6, 1, 0, 0, 0, 44, 3, 1, 4, 1, 0, 58, 0, 453, 0, 2, 1, 0, 0, 452, 2,
-/// #     1, 0, 0, 0,
+/// # let words: [u16; 41] = [
+/// #     7, 0, 1, 41, 0, 1, 8, 33, 8, 2, 1, 1, 38, 6, 1, 0, 0, 0, 0, 44, 3, 1, 4, 1, 0, 0, 58, 0, 453, 0, 2, 1, 0, 0,
+/// #     452, 2, 1, 0, 0, 0, 0,
 /// # ];
 /// # let octets: Vec<u8> = words.iter().flat_map(|word| word.to_le_bytes()).collect();
 /// // The book of the crate's page: a uint32, an optional int16, a group with a uint8, and a data.
@@ -48,7 +48,7 @@ impl Listing {
         Listing::default()
     }
 
-    /// A value of an unsigned field or a char.
+    /// A value of an unsigned field or a char. If the field has a list, it is one that the list has.
     pub fn number(&mut self, value: u64) -> &mut Listing {
         self.push(Answer::Number(value).record())
     }
@@ -76,7 +76,8 @@ impl Listing {
     }
 
     /// What was answered of a message that was read, its octets copied. What cannot be written is refused by the
-    /// writing: an absent element and a number out of range by 51, octets that the message does not have by 53.
+    /// writing: an absent element and a number that is out of range or unlisted by 51, octets that the message does not
+    /// have by 53.
     pub fn record(&mut self, answer: Answer, message: &[u8]) -> &mut Listing {
         match (answer, answer.octets(message)) {
             (_, Some(octets)) => self.octets(octets),

@@ -3,10 +3,11 @@ use std::fmt;
 
 /// A call said no: the number of the rule that is broken, and where.
 ///
-/// 1 to 6 are the book's (the place is 0, or a template's number from 4 on), 10 to 20 the message's (the place is
-/// an offset in it), 30 and 31 those of a place asked for, 40 that of a listing's room (the place is the number of
-/// records), 50 to 55 those of writing (the place is 0, or a record's number from 51 to 54). A refused call altered
-/// nothing. A [`Book`](crate::Book) makes its own room, so that 40 is never that of preparing.
+/// 1 to 6 are the book's (the place is 0, or a template's number from 4 on; of 4 the lists count on behind the
+/// templates), 10 to 20 the message's (the place is an offset in it), 30 and 31 those of a place asked for, 40 that of
+/// a listing's room (the place is the number of records), 50 to 55 those of writing (the place is 0, or a record's
+/// number from 51 to 54). A refused call altered nothing. A [`Book`](crate::Book) makes its own room, so that 40 is
+/// never that of preparing.
 ///
 /// ```
 /// use siphonbard::{check_book, Refusal};
@@ -23,7 +24,8 @@ use std::fmt;
 pub struct Refusal {
     /// Which rule.
     pub number: u8,
-    /// Where: 0, a template's number, an offset in the message, or a record's number; of 40 the number of records.
+    /// Where: 0, a template's number (of 4 perhaps a list's, behind them), an offset in the message, or a record's
+    /// number; of 40 the number of records.
     pub place: usize,
 }
 
@@ -57,12 +59,14 @@ macro_rules! refusals {
 
 refusals! {
     BOOK_SIZE = 1, "the book's octets are odd, under 8 or over 8,192", "0";
-    BOOK_HEAD = 2, "the book's word count is wrong, its schema id or version is 65535, it has no template or over 64, \
-        or its contents don't fit", "0";
-    BOOK_CONTENTS = 3, "the book's contents break a rule, or a template id is 65535", "0";
+    BOOK_HEAD = 2, "the book's head is cut short, its word count is wrong, its schema id or version is 65535, \
+        it has no template or over 64, or its contents don't fit", "0";
+    BOOK_CONTENTS = 3, "the book's contents break a rule, or a template or list id is 65535", "0";
     BOOK_BLOCK = 4, "a block runs past its body, body words are left over, a count or the depth is too high, \
-        or a group has no field", "the template's number";
-    BOOK_LAYOUT = 5, "a block length, type, length, presence or offset breaks its rule", "the template's number";
+        a group has no field, or a list is empty, too long, not rising or of no known kind",
+        "the template's number, or the number of templates plus the list's position";
+    BOOK_LAYOUT = 5, "a block length, or a field's type, length, presence, offset or list, breaks its rule",
+        "the template's number";
     BOOK_SINCE = 6, "a since breaks its rule", "the template's number";
     MESSAGE_SIZE = 10, "the message is under 12 or over 65,535 octets", "0";
     HEADER_NULL = 11, "a header number is 65535", "the first such number's offset";
@@ -82,7 +86,8 @@ refusals! {
     WRITE_TEMPLATE_UNKNOWN = 50, "the book has no such template to write", "0";
     RECORD_WRONG = 51, "a record is missing, left over, partial or of the wrong kind, or an unused number is not 0",
         "the record's number";
-    VALUE_WRONG = 52, "a number is null or out of range, or null stands for a required field", "the record's number";
+    VALUE_WRONG = 52, "a number is null, out of range or unlisted, or null stands for a required field",
+        "the record's number";
     OCTETS_WRONG = 53, "octets run past the pool's end, are not as many as the field's, or are data over 65,534",
         "the record's number";
     ENTRIES_TOO_MANY = 54, "a group has over 65,534 entries", "the record's number";
@@ -93,7 +98,8 @@ impl fmt::Display for Refusal {
     fn fmt(&self, f: &mut fmt::Formatter) -> fmt::Result {
         write!(f, "refused {}", self.number)?;
         match self.number {
-            Refusal::BOOK_BLOCK..=Refusal::BOOK_SINCE => write!(f, " in template {}", self.place)?,
+            Refusal::BOOK_BLOCK => write!(f, " in body {}", self.place)?,
+            Refusal::BOOK_LAYOUT..=Refusal::BOOK_SINCE => write!(f, " in template {}", self.place)?,
             Refusal::MESSAGE_SIZE..=Refusal::OCTETS_LEFT_OVER => write!(f, " at octet {}", self.place)?,
             Refusal::ROOM_TOO_SMALL => write!(f, " for {} records", self.place)?,
             Refusal::RECORD_WRONG..=Refusal::ENTRIES_TOO_MANY => write!(f, " at record {}", self.place)?,

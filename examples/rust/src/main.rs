@@ -8,11 +8,11 @@ use std::{env, fs, process};
 
 /// The template of a fill, and its elements in the order of a listing: fields, the group of mills, a note.
 const FILL: u16 = 1;
-const FIELDS: [&str; 4] = ["order", "price", "delivery week", "filled quantity"];
+const FIELDS: [&str; 6] = ["order", "price", "delivery week", "side", "conditions", "filled quantity"];
 const MILL: [&str; 2] = ["  mill", "  share"];
 
 /// The filled quantity is this field of the root block. Only the newer book has it.
-const QUANTITY: usize = 3;
+const QUANTITY: usize = 5;
 
 fn main() {
     let paths: Vec<OsString> = env::args_os().skip(1).collect();
@@ -58,6 +58,7 @@ fn words(answer: Answer, message: &[u8]) -> String {
         Answer::Absent => "absent: it is younger than the message".to_string(),
         Answer::Group(entries) => format!("group of {entries}"),
         Answer::OutOfRange(value) => format!("out of range: {}", value as i64),
+        Answer::Unlisted(value) => format!("unlisted: {value}"),
     }
 }
 

@@ -29,7 +29,7 @@ impl Counted {
 impl Found {
     fn result(self) -> Result<Answer, Refusal> {
         let record = [self.first, self.second, self.third];
-        verdict(self.number, self.place).map(|()| Answer::from_record(record).expect("a kind of 0 to 5"))
+        verdict(self.number, self.place).map(|()| Answer::from_record(record).expect("a kind of 0 to 6"))
     }
 }
 
