@@ -22,7 +22,6 @@ use Rattle.layout.proofs.Fields.{FieldGood, field-good}
 use Rattle.layout.proofs.Results.{and-left, each-way, either, or-right}
 use Rattle.prepared.specs.Names.{listsAt, namesAt}
 use Rattle.prepared.specs.Positions.{IsField, fieldAt}
-use Rattle.prepared.proofs.Names.{names-free}
 use Rattle.fields.specs.Readable.{Fits, plain}
 
 module _ (m : List ℕ) (v at : ℕ) (f : Field) where
@@ -98,6 +97,5 @@ module _ (p : List ℕ) (f t : ℕ) (m : List ℕ) (v at : ℕ) (a : Answer) (fi
       told ∙ rw (is, field .derived .names .names) (sym (read-beside (fieldAt p f .names) noNames
       (λ x. ap (beside (fieldAt p f .names)) (beside-none x)) m v at (fieldAt p f)))
 
-  pub field-free : word p (t + 5) ≡ 0 → a ≡ readField m v at (fieldAt p f)
-  field-free e =
-      field-beside a (rw (field .derived .names .names, names-free (field .derived .names) e) (sym (beside-none a)))
+  pub field-bare : fieldAt p f .names ≡ noNames → a ≡ readField m v at (fieldAt p f)
+  field-bare e = field-beside a (rw (field .derived .names .names, e) (sym (beside-none a)))

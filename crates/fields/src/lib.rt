@@ -9,7 +9,7 @@ ghost use Rattle.prepared.specs.Positions.{fieldAt};
 ghost use Rattle.fields.specs.Readable.{Fits, Readable, plain};
 
 // The field at place f of the prepared book without its list, in the block at `at` of a message of version v.
-fn read_plain(p: &[u64], f: usize, m: &[u8], v: usize, at: usize) -> Answer
+pub fn read_plain(p: &[u64], f: usize, m: &[u8], v: usize, at: usize) -> Answer
     requires { ⌜ (f + 7 ≤ length (now p)) × Fits (now m) v at (fieldAt (now p) f) ⌝ }
     ensures { λ r. ⌜ r ≡ readField (now (m .entry)) v at (plain (fieldAt (now (p .entry)) f)) ⌝ }
 {
@@ -25,19 +25,8 @@ fn read_plain(p: &[u64], f: usize, m: &[u8], v: usize, at: usize) -> Answer
     number_types::read(m, start, number(p, f + 1), optional)
 }
 
-// The field at place f, whose table is at t. Most fields have no list, and their answer is then not looked at again.
+// The field at place f, whose table is at t.
 pub fn read_field(p: &[u64], f: usize, t: usize, m: &[u8], v: usize, at: usize) -> Answer
-    requires { ⌜ Readable (now p) f t (now m) v at ⌝ }
-    ensures { λ r. ⌜ r ≡ readField (now (m .entry)) v at (fieldAt (now (p .entry)) f) ⌝ }
-{
-    if number(p, t + 5) == 0 {
-        return read_plain(p, f, m, v, at);
-    }
-    names::beside(p, t, read_plain(p, f, m, v, at))
-}
-
-// The same, for a caller that reads one field: one reading is joined to it.
-pub fn read_one(p: &[u64], f: usize, t: usize, m: &[u8], v: usize, at: usize) -> Answer
     requires { ⌜ Readable (now p) f t (now m) v at ⌝ }
     ensures { λ r. ⌜ r ≡ readField (now (m .entry)) v at (fieldAt (now (p .entry)) f) ⌝ }
 {

@@ -3,10 +3,11 @@ use mathlib.Core.Path.{_≡_, refl, sym, ap, _∙_}
 use mathlib.Core.List.{List, [], _∷_}
 use mathlib.Core.Bool.{Bool, false, not, true}
 use Prim.Native.Nat.{ℕ, suc, _+_, _-_, _*_, _/_, _%_, _^_, _≤_, _<_}
+use native.Mathlib.Nat.{mul-le-mul, mul-zero, sub-self, sub-zero}
 use native.Mathlib.Omega.{arith}
 use lib.Dec.{eqb, leb}
 use lib.ListN.{length}
-use borrow.Author.Tests.{eq-eqb, le-leb, le-ltb, leb-true, lt-leb, lt-ltb, ne-eqb}
+use borrow.Author.Tests.{eq-eqb, le-leb, le-ltb, leb-true, lt-leb, lt-ltb, ltb-true, ne-eqb}
 use borrow.Fn.Enter.{pair≡}
 use Rattle.layout.specs.Result.{Result, done, refused, must, if_then_else_, _and_, _>>=_}
 use Rattle.layout.specs.Octets.{null16}
@@ -31,7 +32,7 @@ use Rattle.prepared.specs.Names.{listsAt}
 use Rattle.prepared.specs.Positions.{IsBlock, datasFrom, fieldAt, groupsFrom, innerAt}
 use Rattle.prepared.specs.Positions.{manyDatas, manyGroups, shapeAt}
 use Rattle.prepared.proofs.Open.{no-datas-at, no-groups-at}
-use Rattle.judges.specs.Judges.{capped, datasEnd, entriesAt, fieldEnd, fieldsEnd, judged, listingEnd}
+use Rattle.judges.specs.Judges.{capped, datasEnd, fieldEnd, fieldsEnd, judged, listingEnd}
 use Rattle.judges.specs.Judges.{limit, octetsEnd, rowEnd}
 use Rattle.judges.specs.declared.Judged.{Judged}
 use Rattle.judges.specs.declared.Judged.the-variants.{To, Refused}
@@ -283,22 +284,25 @@ module _ (l : List ℕ) (size : ℕ) (p : List ℕ) where
 -- ---- entries
 
 -- Octets are counted one after the other, or all at once.
-capped-plus : (a b : ℕ) → capped (capped a + b) ≡ capped (a + b)
-capped-plus a b = omega arith
-
-counts : (a c u : ℕ) → capped (0 + c) ≡ u → capped (capped a + u) ≡ capped (a + c)
+counts : (a c u : ℕ) → capped (0 + c) ≡ u → capped (a + u) ≡ capped (a + c)
 counts a c u e = omega (arith, e)
 
-entry-counts : (seen l g d rest o m : ℕ) → capped (0 + g) ≡ o → capped (0 + d) ≡ m
-    → capped (seen + (l + (g + (d + rest)))) ≡ capped (capped (capped (capped (seen + l) + o) + m) + rest)
-entry-counts seen l g d rest o m p q =
-    let sum : seen + (l + (g + (d + rest))) ≡ seen + l + g + d + rest = omega arith in
-    rw (counts (seen + l) g o p, counts (seen + l + g) d m q, sum) (sym (capped-plus (seen + l + g + d) rest))
+-- An entry's block is one more of those that are added at last.
+entry-counts : (seen l n g d rest o m : ℕ) → capped (0 + g) ≡ o → capped (0 + d) ≡ m
+    → capped (seen + l * n + (l + (g + (d + rest)))) ≡ capped (capped (capped (seen + o) + m) + l * (n + 1) + rest)
+entry-counts seen l n g d rest o m p q = rw (counts seen g o p) (omega (arith, q))
 
 -- k entries of the block s with the groups gs.
 module _ (l : List ℕ) (size : ℕ) (s : Shape) (gs : Groups) where
   abbrev pub entriesIs : ℕ → ℕ → Result (Values × ℕ)
   entriesIs k i = judgeEntries l size k (judgeBlock l size s (judgeGroups l size gs)) i
+
+  -- The last k of `all` entries: of those before them `seen` octets of groups and data were counted.
+  abbrev pub lastIs : ℕ → ℕ → ℕ → ℕ → Judged
+  lastIs all seen k i = judged (rowEnd s gs (seen + s .length * (all - k))) (entriesIs k i)
+
+  pub entries-all : (k i : ℕ) → judged (rowEnd s gs 0) (entriesIs k i) ≡ lastIs k 0 k i
+  entries-all k i = rw (sub-self, mul-zero) refl
 
   entries-step : (k i : ℕ) → 0 < k → entriesIs k i
       ≡ (judgeBlock l size s (judgeGroups l size gs) i >>= λ e. entriesIs (k - 1) (e .3)
@@ -306,14 +310,14 @@ module _ (l : List ℕ) (size : ℕ) (s : Shape) (gs : Groups) where
   unfolding judgeEntries
   entries-step k i h = rw (some-left h, one-less) refl
 
-  module _ (seen k i : ℕ) where
-    pub entries-end : seen ≤ limit → k ≤ 0 → judged (rowEnd s gs seen) (entriesIs k i) ≡ To i seen
+  module _ (all seen k i : ℕ) where
+    pub entries-end : k ≤ 0 → lastIs all seen k i ≡ To i (capped (seen + s .length * all))
     unfolding judgeEntries rowLength
-    entries-end b h = rw (none-left h) (reached (rowEnd s gs seen) (nil, i) refl (omega arith))
+    entries-end h = rw (none-left h, sub-zero) (reached (rowEnd s gs _) (nil, i) refl (omega arith))
 
     module _ (h : 0 < k) where
       pub entry-fields : (z : Refusal) → Refused z ≡ judged fieldsEnd (judgeFields l size (s .fields) i)
-          → judged (rowEnd s gs seen) (entriesIs k i) ≡ Refused z
+          → lastIs all seen k i ≡ Refused z
       unfolding judgeBlock judged _>>=_
       entry-fields z e = rw (entries-step k i h, inv-refused fieldsEnd (judgeFields l size (s .fields) i) z e) refl
 
@@ -322,7 +326,7 @@ module _ (l : List ℕ) (size : ℕ) (s : Shape) (gs : Groups) where
         fielded = inv-to fieldsEnd _ x u f
 
         pub entry-row : (z : Refusal) → Refused z ≡ judged (rowEnd s gs 0) (judgeGroups l size gs x)
-            → judged (rowEnd s gs seen) (entriesIs k i) ≡ Refused z
+            → lastIs all seen k i ≡ Refused z
         unfolding judgeBlock judged _>>=_
         entry-row z e =
             let r = inv-refused (rowEnd s gs 0) (judgeGroups l size gs x) z e in
@@ -333,19 +337,20 @@ module _ (l : List ℕ) (size : ℕ) (s : Shape) (gs : Groups) where
           grouped = inv-to (rowEnd s gs 0) _ y o g
 
           pub entry-datas : (z : Refusal) → Refused z ≡ judged (datasEnd 0) (judgeDatas l size (s .datas) y)
-              → judged (rowEnd s gs seen) (entriesIs k i) ≡ Refused z
+              → lastIs all seen k i ≡ Refused z
           unfolding judgeBlock judged _>>=_
           entry-datas z e =
               let r = inv-refused (datasEnd 0) (judgeDatas l size (s .datas) y) z e in
               rw (entries-step k i h, goes-on fielded, fielded .next, goes-on grouped, grouped .next, r) refl
 
-          pub entry-next : (z m : ℕ) → To z m ≡ judged (datasEnd 0) (judgeDatas l size (s .datas) y)
-              → judged (rowEnd s gs seen) (entriesIs k i)
-              ≡ judged (rowEnd s gs (capped (capped (capped (seen + s .length) + o) + m))) (entriesIs (k - 1) z)
+          pub entry-next : k ≤ all → (z m : ℕ) → To z m ≡ judged (datasEnd 0) (judgeDatas l size (s .datas) y)
+              → lastIs all seen k i ≡ lastIs all (capped (capped (seen + o) + m)) (k - 1) z
           unfolding judgeBlock rowLength
-          entry-next z m e =
+          entry-next b z m e =
               let q = inv-to (datasEnd 0) _ z m e in
+              let n : all - (k - 1) ≡ all - k + 1 = omega arith in
               rw (
+                n,
                 entries-step k i h,
                 goes-on fielded,
                 fielded .next,
@@ -356,15 +361,15 @@ module _ (l : List ℕ) (size : ℕ) (s : Shape) (gs : Groups) where
                 q .next,
               )
               (ends-as _ _ _ _ λ r.
-              ap (λ (v : ℕ). (r .1, v)) (entry-counts _ _ _ _ _ _ _ (grouped .counted) (q .counted)))
+              ap (λ (v : ℕ). (r .1, v)) (entry-counts _ _ _ _ _ _ _ _ (grouped .counted) (q .counted)))
 
         -- A block with neither groups nor data is its fields, and the octets that it declares.
-        entry-plain : gs ≡ none → s .datas ≡ [] → judged (rowEnd s gs seen) (entriesIs k i)
-            ≡ judged (rowEnd s gs (capped (seen + s .length))) (entriesIs (k - 1) x)
+        entry-plain : gs ≡ none → s .datas ≡ [] → k ≤ all → seen ≤ limit
+            → lastIs all seen k i ≡ lastIs all seen (k - 1) x
         unfolding judgeGroups judgeDatas judged rowLength datasLength
-        entry-plain a b =
-            let q : capped (capped (capped (seen + s .length) + 0) + 0) ≡ capped (seen + s .length) = omega arith in
-            rw q at (entry-next x 0 (rw a refl) x 0 (rw b refl))
+        entry-plain a b c d =
+            let q : capped (capped (seen + 0) + 0) ≡ seen = omega arith in
+            rw q at (entry-next x 0 (rw a refl) c x 0 (rw b refl))
 
 -- ---- groups in a row
 
@@ -409,17 +414,26 @@ module _ (l : List ℕ) (size : ℕ) (s : Shape) (seen : ℕ) where
 
 -- ---- at places of the prepared book
 
+-- `lastIs` of the block at a.
+abbrev pub lastAt : List ℕ → ℕ → ℕ → List ℕ → ℕ → ℕ → ℕ → ℕ → ℕ → Judged
+lastAt p depth a l size all seen k i = lastIs l size (shapeAt p a) (innerAt p depth a) all seen k i
+
 -- An entry of a block that nothing follows.
-pub plain-next : (p : List ℕ) (depth a : ℕ) (l : List ℕ) (size seen k i x u follow : ℕ) → IsBlock p a
-    → follow ≡ word p (a + 7) → follow ≡ 0 → 0 < k
+pub plain-next : (p : List ℕ) (depth a : ℕ) (l : List ℕ) (size all seen k i x u follow : ℕ) → IsBlock p a
+    → follow ≡ word p (a + 7) → follow ≡ 0 → 0 < k → k ≤ all → seen ≤ limit
     → To x u ≡ judged fieldsEnd (judgeFields l size (shapeAt p a .fields) i)
-    → judged (rowEnd (shapeAt p a) (innerAt p depth a) seen) (entriesAt p depth a l size k i)
-    ≡ judged (rowEnd (shapeAt p a) (innerAt p depth a) (capped (seen + word p (a + 2))))
-    (entriesAt p depth a l size (k - 1) x)
-plain-next p depth a l size seen k i x u follow b w z h e =
-    entry-plain l size (shapeAt p a) (innerAt p depth a) seen k i h x u e
+    → lastAt p depth a l size all seen k i ≡ lastAt p depth a l size all seen (k - 1) x
+plain-next p depth a l size all seen k i x u follow b w z h m c e =
+    entry-plain l size (shapeAt p a) (innerAt p depth a) all seen k i h x u e
     (no-groups-at p depth (manyGroups p a) (groupsFrom p a) (omega (arith, b .follow, w, z)))
     (no-datas-at p (manyDatas p a) (datasFrom p a) (omega (arith, b .follow, w, z)))
+    m c
+
+-- The octets of k blocks are a number of the machine's.
+pub blocks-fit : (p : List ℕ) (a l k : ℕ) → IsBlock p a → l ≡ word p (a + 2) → k ≤ 65535 → l * k < 2 ^ 64
+blocks-fit p a l k b w h =
+    let short : l ≤ 65535 = omega (arith, w, ltb-true (word p (a + 2)) null16 (and-left _ _ (b .good))) in
+    omega (arith, mul-le-mul short h)
 
 -- ---- a whole listing
 

@@ -12,6 +12,7 @@ ghost use Rattle.layout.specs.Contracts.{refusal};
 ghost use Rattle.layout.specs.Writing.{isGroup, isNumber, judgeDatas, judgeField, judgeFields, judgeGroups};
 ghost use Rattle.layout.specs.Writing.{judgeListing, judgeNumber, judgeOctets, numberFits, second};
 ghost use Rattle.prepared.specs.Books.{templateAt};
+ghost use Rattle.prepared.specs.Names.{hasLists};
 ghost use Rattle.prepared.specs.Positions.{BlockAt, IsBlock, IsField, fieldAt, innerAt, shapeAt};
 ghost use Rattle.judges.specs.Judges.{capped, datasEnd, entriesAt, fieldEnd, fieldsEnd, judged};
 ghost use Rattle.judges.specs.Judges.{limit, listingEnd, octetsEnd, rowEnd};
@@ -87,9 +88,10 @@ fn is_number(listing: &[u64], i: usize) -> bool
 }
 
 // Whether the number or null that record i is fits the field at f, whose table is at t: null an optional field, and a
-// number one whose least it is no farther from than the greatest is, and whose list, if any, has it.
-fn number_fits(p: &[u64], f: usize, t: usize, listing: &[u64], i: usize) -> bool
-    requires { ⌜ IsField (now p) f t × (3 * i + 3 ≤ length (now listing)) ⌝ }
+// number one whose least it is no farther from than the greatest is, and whose list, if any, has it. `listed` is
+// whether the book has lists.
+fn number_fits(p: &[u64], f: usize, t: usize, listed: bool, listing: &[u64], i: usize) -> bool
+    requires { ⌜ IsField (now p) f t × (listed ≡ hasLists (now p)) × (3 * i + 3 ≤ length (now listing)) ⌝ }
     ensures { λ r. ⌜ r ≡ numberFits (now (listing .entry)) (fieldAt (now (p .entry)) f) i ⌝ }
 {
     if listing[3 * i] == 1 {
@@ -99,6 +101,9 @@ fn number_fits(p: &[u64], f: usize, t: usize, listing: &[u64], i: usize) -> bool
     if value(p, t + 2) < wrapping_sub_u64(x, value(p, t + 1)) {
         return false;
     }
+    if !listed {
+        return true;
+    }
     let list = number(p, t + 5);
     if list == 0 {
         return true;
@@ -107,14 +112,14 @@ fn number_fits(p: &[u64], f: usize, t: usize, listing: &[u64], i: usize) -> bool
 }
 
 // A number or null for the field at f, whose table is at t.
-fn judge_number(p: &[u64], f: usize, t: usize, listing: &[u64], i: usize) -> Judged
-    requires { ⌜ IsField (now p) f t ⌝ }
+fn judge_number(p: &[u64], f: usize, t: usize, listed: bool, listing: &[u64], i: usize) -> Judged
+    requires { ⌜ IsField (now p) f t × (listed ≡ hasLists (now p)) ⌝ }
     ensures { λ r. ⌜ r ≡ judged (fieldEnd i) (judgeNumber (now (listing .entry)) 0 (fieldAt (now (p .entry)) f) i) ⌝ }
 {
     if !is_number(listing, i) {
         return refuse(51, i);
     }
-    if !number_fits(p, f, t, listing, i) {
+    if !number_fits(p, f, t, listed, listing, i) {
         return refuse(52, i);
     }
     Judged::To {
@@ -124,8 +129,16 @@ fn judge_number(p: &[u64], f: usize, t: usize, listing: &[u64], i: usize) -> Jud
 }
 
 // The field at f, whose table is at t. Its octets are the block's.
-fn judge_field(p: &[u64], f: usize, t: usize, listing: &[u64], size: usize, i: usize) -> Judged
-    requires { ⌜ IsField (now p) f t ⌝ }
+fn judge_field(
+    p: &[u64],
+    f: usize,
+    t: usize,
+    listed: bool,
+    listing: &[u64],
+    size: usize,
+    i: usize,
+) -> Judged
+    requires { ⌜ IsField (now p) f t × (listed ≡ hasLists (now p)) ⌝ }
     ensures { λ r. ⌜ r ≡ judged (fieldEnd i) (judgeField (now (listing .entry)) size (fieldAt (now (p .entry)) f)
         i) ⌝ }
 {
@@ -140,7 +153,7 @@ fn judge_field(p: &[u64], f: usize, t: usize, listing: &[u64], size: usize, i: u
         }
         return Judged::To { next, length: 0 };
     }
-    judge_number(p, f, t, listing, i)
+    judge_number(p, f, t, listed, listing, i)
 }
 
 // The fields of the block at a.
@@ -149,12 +162,13 @@ fn judge_fields(p: &[u64], a: usize, listing: &[u64], size: usize, start: usize)
     ensures { λ r. ⌜ r ≡ judged fieldsEnd (judgeFields (now (listing .entry)) size (shapeAt (now (p .entry)) a .fields)
         start) ⌝ }
 {
+    let listed = prepared::has_lists(p);
     let mut left = number(p, a + 3);
     let mut f = a + 12;
     let mut t = number(p, a + 11);
     let mut i = start;
     while 0 < left {
-        let field = judge_field(p, f, t, listing, size, i);
+        let field = judge_field(p, f, t, listed, listing, size, i);
         let Judged::To { next, .. } = field else {
             return field;
         };
@@ -214,7 +228,8 @@ fn entries_in(listing: &[u64], i: usize) -> u64
     listing[3 * i + 1]
 }
 
-// k entries of the block at a, `depth` more levels being left: of each its fields, its groups, its data.
+// k entries of the block at a, `depth` more levels being left: of each its fields, its groups, its data. The
+// octets of the blocks are added at the end, for all entries at once.
 fn judge_entries(
     p: &&[u64],
     a: usize,
@@ -224,7 +239,7 @@ fn judge_entries(
     k: u64,
     start: usize,
 ) -> Judged
-    requires { ⌜ BlockAt (now (now p)) depth a ⌝ }
+    requires { ⌜ BlockAt (now (now p)) depth a × (k ≤ 65535) ⌝ }
     ensures { λ r. ⌜ r ≡ judged (rowEnd (shapeAt (now (now (p .entry))) a) (innerAt (now (now (p .entry))) depth a) 0)
         (entriesAt (now (now (p .entry))) depth a (now (now (listing .entry))) size k start) ⌝ }
 {
@@ -239,7 +254,6 @@ fn judge_entries(
         let Judged::To { next, .. } = fields else {
             return fields;
         };
-        seen = plus(seen, number(s, a + 2));
         if number(s, a + 7) == 0 {
             i = next;
             continue;
@@ -262,7 +276,7 @@ fn judge_entries(
     }
     Judged::To {
         next: i,
-        length: seen,
+        length: plus(seen, number(s, a + 2) * k as usize),
     }
 }
 

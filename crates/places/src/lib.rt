@@ -7,6 +7,7 @@ use prepared::Located;
 use prepared::number;
 use walk::pass_row;
 use walk::walk_datas;
+use walk::walk_row;
 use wire::Dimension;
 use wire::Walked;
 ghost use mathlib.Core.Path.{_≡_};
@@ -259,7 +260,8 @@ pub fn seek_row(
     let first = number(s, a + 9);
     let n = number(s, a + 4);
     if n <= g {
-        return found_at(pass_row(p, first, n, depth, m, v, start), 0, 0);
+        // A second caller of walk_row: so pass_row's test is joined to its callers, and not the loop to pass_row.
+        return found_at(walk_row(p, first, n, depth, m, v, start), 0, 0);
     }
     let passed = pass_row(p, first, g, depth, m, v, start);
     let Walked::To { next, .. } = passed else {
@@ -419,7 +421,7 @@ pub fn element_at(
     match x {
         Element::Field(k) => {
             let table = number(s, a + 11) + 6 * k;
-            fields::read_one(s, a + 12 + 7 * k, table, t, v, at)
+            fields::read_field(s, a + 12 + 7 * k, table, t, v, at)
         }
         Element::Group(k) => group_at(p, a, depth, m, v, at + length, k),
         Element::Data(k) => data_after(p, a, depth, m, v, at + length, surplus, k),

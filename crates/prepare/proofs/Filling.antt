@@ -5,16 +5,10 @@ use Prim.Native.Nat.{ℕ, zero, suc, _+_, _≤_, _<_}
 use native.Mathlib.Nat.{add-zero}
 use native.Mathlib.Omega.{arith}
 use lib.ListN.{length, set}
-use lib.Seq.{length-sets, set-comm, set-set, sets}
-use Rattle.octets.proofs.Joined.{sets-append}
+use lib.Seq.{length-sets, set-set, sets}
+use Rattle.octets.proofs.Joined.{set-past, sets-append}
 
 -- ---- in either order
-
-pub set-past : (d : List ℕ) (i a n : ℕ) (xs : List ℕ) → i < n → set (sets d n xs) i a ≡ sets (set d i a) n xs
-set-past d i a n [] h = refl
-set-past d i a n (x ∷ xs) h =
-    set-past (set d n x) i a (suc n) xs (omega arith)
-    ∙ ap (λ (l : List ℕ). sets l (suc n) xs) (set-comm d n i x a (λ e. omega arith))
 
 pub sets-past : (d : List ℕ) (i : ℕ) (ys : List ℕ) (n : ℕ) (xs : List ℕ) → i + length ys ≤ n
     → sets (sets d n xs) i ys ≡ sets (sets d i ys) n xs

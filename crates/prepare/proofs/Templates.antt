@@ -5,7 +5,7 @@ use Prim.Native.Nat.{ℕ, zero, suc, _+_, _-_, _*_, _%_, _≤_, _<_}
 use native.Mathlib.Omega.{arith}
 use lib.ListN.{drop, length, length-set, replicate, set, take}
 use lib.Seq.{length-sets, sets}
-use Rattle.octets.proofs.Joined.{sets-append}
+use Rattle.octets.proofs.Joined.{set-past, sets-append}
 use Rattle.layout.specs.Octets.{wordsOf}
 use Rattle.layout.specs.Lists.{NameList}
 use Rattle.layout.specs.Book.{Template}
@@ -16,7 +16,7 @@ use Rattle.prepared.proofs.Prepared.{length-contents, length-groups, length-lis
 use Rattle.prepare.specs.Names.{fromIn, listsIn, versionOf}
 use Rattle.prepare.specs.Templates.{AreTemplates, IsTemplate, bodyAt, bookAt, laid, templateAt, templateSize}
 use Rattle.prepare.specs.Templates.{templatesAt}
-use Rattle.prepare.proofs.Filling.{set-again, set-past, sets-past}
+use Rattle.prepare.proofs.Filling.{set-again, sets-past}
 use Rattle.prepare.proofs.Rows.{group-size}
 use Rattle.layout.proofs.Results.{none-left, one-less, some-left}
 

@@ -1,9 +1,9 @@
 -- The lists among prepared numbers p, read back by position, and what is worked out of them.
 use mathlib.Core.Path.{_≡_}
-use mathlib.Core.Bool.{true}
+use mathlib.Core.Bool.{Bool, true}
 use mathlib.Core.List.{List, [], _∷_}
 use Prim.Native.Nat.{ℕ, zero, suc, _+_, _≤_, _<_}
-use lib.Dec.{eqb}
+use lib.Dec.{eqb, ltb}
 use lib.ListN.{drop, length, take}
 use Rattle.layout.specs.Result.{if_then_else_}
 use Rattle.layout.specs.Lists.{NameList, Names, namesOf, noNames}
@@ -21,6 +21,10 @@ listsIn p (suc n) x = listAt p x ∷ listsIn p n (x + 4 + word p (x + 3))
 
 unfoldable pub listsAt : List ℕ → List NameList
 listsAt p = listsIn p (word p 3) (listsFrom (word p 2))
+
+-- Whether there are any.
+abbrev pub hasLists : List ℕ → Bool
+hasLists p = ltb 0 (word p 3)
 
 -- The names that the place x leads to: 0 leads to none.
 unfoldable pub namesAt : List ℕ → ℕ → Names

@@ -4,6 +4,7 @@ ghost use Prim.Native.Nat.{_+_, _<_};
 ghost use lib.ListN.{length};
 ghost use Rattle.layout.specs.Book.{need as needOf};
 ghost use Rattle.layout.specs.BookRules.{word};
+ghost use Rattle.prepared.specs.Names.{hasLists};
 ghost use Rattle.prepared.specs.Positions.{IsBlock, IsRow, Opened, shapeAt};
 ghost use Rattle.prepared.specs.Needs.{FieldsUpTo};
 ghost use Rattle.prepared.specs.Books.{HoldsBook, locationOf};
@@ -35,6 +36,14 @@ pub fn number(p: &[u64], i: usize) -> usize
     ensures { λ r. ⌜ r ≡ word (now (p .entry)) i ⌝ }
 {
     p[i] as usize
+}
+
+// Whether the book has lists: where it has none, no field has one.
+pub fn has_lists(p: &[u64]) -> bool
+    requires { ⌜ 3 < length (now p) ⌝ }
+    ensures { λ r. ⌜ r ≡ hasLists (now (p .entry)) ⌝ }
+{
+    0 < number(p, 3)
 }
 
 // Does nothing. Its contract is a law: what the first of the n groups at a is good for.

@@ -9,8 +9,10 @@ ghost use lib.ListN.{length};
 ghost use Rattle.layout.specs.Result.{Each};
 ghost use Rattle.layout.specs.Book.{need};
 ghost use Rattle.layout.specs.Values.{recordOf};
-ghost use Rattle.prepared.specs.Positions.{BlockAt, IsBlock, innerAt, shapeAt};
-ghost use Rattle.fields.specs.Readable.{Fits};
+ghost use Rattle.layout.specs.Message.{readField};
+ghost use Rattle.prepared.specs.Names.{hasLists};
+ghost use Rattle.prepared.specs.Positions.{BlockAt, IsBlock, fieldAt, innerAt, shapeAt};
+ghost use Rattle.fields.specs.Readable.{Fits, Readable};
 ghost use Rattle.walk.specs.Walks.{Lent};
 ghost use Rattle.prints.specs.Prints.{Accepted, Printed, Room, Stored, endOf};
 ghost use Rattle.store.specs.Stores.{datasPrint, entriesPrint, fieldsPrint, groupsPrint, surplusPrint};
@@ -29,6 +31,43 @@ fn store_answer(answer: Answer, at: usize, room: &mut [u64], n: usize) -> Cursor
 {
     records::put(room, n, answer);
     Cursor { at, n: n + 3 }
+}
+
+// The record of the field at f, whose table is at t: where the next one goes. It is stored as if there were no lists,
+// and a number that the field's list lacks is made unlisted where it stands: so most fields are not looked at again.
+fn store_field(
+    p: &[u64],
+    f: usize,
+    t: usize,
+    listed: bool,
+    m: &[u8],
+    v: usize,
+    at: usize,
+    room: &mut [u64],
+    n: usize,
+) -> usize
+    requires { ⌜ Readable (now p) f t (now m) v at × (listed ≡ hasLists (now p)) × (n + 3 ≤ length (now room)) ⌝ }
+    ensures { λ r. ⌜ Stored (Printed.got at (recordOf (readField (now (m .entry)) v at (fieldAt (now (p .entry)) f)))) n
+        (now (room .entry)) at r (now (room .exit)) ⌝ }
+{
+    let next = n + 3;
+    records::put(room, n, fields::read_plain(p, f, m, v, at));
+    if !listed {
+        return next;
+    }
+    let list = number(p, t + 5);
+    if list == 0 {
+        return next;
+    }
+    if room[n] != 0 {
+        return next;
+    }
+    let x = room[n + 1];
+    if names::has(p, list, x) {
+        return next;
+    }
+    records::put(room, n, Answer::Unlisted(x));
+    next
 }
 
 // The fields of the block at a, of which l octets stand in the message.
@@ -53,8 +92,9 @@ fn store_fields(
     let mut f = a + 12;
     let mut t = number(p, a + 11);
     let mut n = c.n;
+    let listed = prepared::has_lists(p);
     while 0 < left {
-        n = store_answer(fields::read_field(p, f, t, m, v, at), at, room, n).n;
+        n = store_field(p, f, t, listed, m, v, at, room, n);
         f = f + 7;
         t = t + 6;
         left = left - 1;

@@ -50,7 +50,11 @@ pub fn list(p: &[u64], m: &[u8], room: &mut [u64]) -> Counted
         (now (room .exit)) ⌝ }
 {
     let path = &p[0..0];
-    match whole::enter(&p, &m, &path) {
+    // A slice whose address is handed on is taken anew first: so its two numbers are loaded one by one, and need not
+    // wait for the caller's stores.
+    let q = &p[0..];
+    let t = &m[0..];
+    match whole::enter(&q, &t, &path) {
         Entered::Refused(refusal) => Counted::Refused(refusal),
         Entered::At {
             block,
@@ -68,7 +72,7 @@ pub fn list(p: &[u64], m: &[u8], room: &mut [u64]) -> Counted
                 });
             }
             let start = Cursor { at: 12, n: 0 };
-            store::store_entries(&p, block, 4, &m, version, length, 1, groups, room, start);
+            store::store_entries(&q, block, 4, &t, version, length, 1, groups, room, start);
             Counted::Count(all)
         }
     }
@@ -105,7 +109,10 @@ fn place_on(p: &[u64], m: &[u8], steps: &[u64], x: Element) -> Found
     requires { ⌜ IsPrepared (now p) × Path (now steps) 0 ⌝ }
     ensures { λ r. ⌜ r ≡ found (placeIn (bookAt (now (p .entry))) (now (m .entry)) (now (steps .entry)) x) ⌝ }
 {
-    match whole::enter(&p, &m, &steps) {
+    let q = &p[0..];
+    let t = &m[0..];
+    let path = &steps[0..];
+    match whole::enter(&q, &t, &path) {
         Entered::Refused(refusal) => Found::Refused(refusal),
         Entered::At {
             block,
@@ -123,7 +130,7 @@ fn place_on(p: &[u64], m: &[u8], steps: &[u64], x: Element) -> Found
             }
             let depth = 4 - steps.len() / 2;
             let surplus = surplus_there(steps, groups);
-            Found::Is(places::element_at(&p, a, depth, &m, version, found, long, surplus, x))
+            Found::Is(places::element_at(&q, a, depth, &t, version, found, long, surplus, x))
         }
     }
 }
@@ -154,7 +161,10 @@ fn write_by(p: &[u64], a: usize, listing: &[u64], pool: &[u8], room: &mut [u8]) 
     ensures { λ r. ⌜ WritesAs (writtenBy (bookAt (now (p .entry))) (templateAt (now (p .entry)) a) (now (listing
         .entry)) (now (pool .entry))) (now (room .entry)) r (now (room .exit)) ⌝ }
 {
-    match judges::judge_listing(&p, a, &listing, pool.len()) {
+    let q = &p[0..];
+    let l = &listing[0..];
+    let o = &pool[0..];
+    match judges::judge_listing(&q, a, &l, pool.len()) {
         Judged::Refused(refusal) => Counted::Refused(refusal),
         Judged::To { length, .. } => {
             let n = 12 + length;
@@ -165,7 +175,7 @@ fn write_by(p: &[u64], a: usize, listing: &[u64], pool: &[u8], room: &mut [u8]) 
                 return refuse(55);
             }
             writer::put_zeros(room, n);
-            writer::write_message(&p, a, &listing, &pool, &mut room[..n]);
+            writer::write_message(&q, a, &l, &o, &mut room[..n]);
             Counted::Count(n)
         }
     }

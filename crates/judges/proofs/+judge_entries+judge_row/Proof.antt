@@ -13,8 +13,9 @@ use Rattle.prepared.proofs.Open.{no-groups-at}
 use Rattle.prepared.proofs.number.Reads as number-reads
 use Rattle.prepared.proofs.open_row.Reads as open-row-reads
 use Rattle.judges.specs.Judges.{entriesAt, judged, limit, rowEnd}
-use Rattle.judges.proofs.Judging.{entries-end, entry-datas, entry-fields, entry-next, entry-row, plain-next}
-use Rattle.judges.proofs.Judging.{row-end, row-entries, row-many, row-next, row-other}
+use Rattle.judges.proofs.Judging.{blocks-fit, entries-all, entries-end, entry-datas, entry-fields, entry-next}
+use Rattle.judges.proofs.Judging.{entry-row, lastAt, plain-next, row-end, row-entries, row-many, row-next}
+use Rattle.judges.proofs.Judging.{row-other}
 use Rattle.judges.proofs.refuse.Reads as refuse-reads
 use Rattle.judges.proofs.plus.Reads as plus-reads
 use Rattle.judges.proofs.is_group.Reads as is-group-reads
@@ -38,11 +39,10 @@ row-μ κs a = 2 * a .1 .1 .0
 
 abbrev entries-Inv : entries-lts.InvT-loop
 entries-Inv p a depth listing size k start s t due₀ i₀ seen₀ due i seen =
-    let b = shapeAt (p .now) a in
-    let gs = innerAt (p .now) depth a in
-    BlockAt (p .now) depth a × (seen ≤ limit)
-    × (judged (rowEnd b gs 0) (entriesAt (p .now) depth a (listing .now) size k start)
-    ≡ judged (rowEnd b gs seen) (entriesAt (p .now) depth a (listing .now) size due i))
+    BlockAt (p .now) depth a × (seen ≤ limit) × (due ≤ k)
+    × (judged (rowEnd (shapeAt (p .now) a) (innerAt (p .now) depth a) 0)
+    (entriesAt (p .now) depth a (listing .now) size k start)
+    ≡ lastAt (p .now) depth a (listing .now) size k seen due i)
 
 abbrev entries-μ-loop : entries-lts.MeasureT-loop
 entries-μ-loop p a depth listing size k start s t due₀ i₀ seen₀ due i seen = due
@@ -72,10 +72,10 @@ module _ (t : ℕ) where
     judge-fields-reads.Learnt,
     number-reads.Asked,
     number-reads.Learnt,
-    plus-reads.Asked,
-    plus-reads.Learnt,
     and 4 row-kinds.ps (falls 4 row-kinds.ps _<_ row-μ t) row-reads.Pre,
     row-reads.Post,
+    plus-reads.Asked,
+    plus-reads.Learnt,
     judge-datas-reads.Asked,
     judge-datas-reads.Learnt,
   )
@@ -89,44 +89,43 @@ module _ (t : ℕ) where
       let call = c .before .before in
       let i = call .before in
       let e = c .enum-told .given .1 in
-      e ∙ sym (i .before .loop .inv .2
-      ∙ entry-fields _ _ _ _ _ _ _ (i .loop-test .taken) _ (sym e ∙ call .judge-fields .ensures))
+      e ∙ sym (i .before .loop .inv .3
+      ∙ entry-fields _ _ _ _ _ _ _ _ (i .loop-test .taken) _ (sym e ∙ call .judge-fields .ensures))
 
   entries-loop-again : entries-Need entries-lts.Need-loop-again
   entries-loop-again c =
-      let sum = c .before .before in
-      let known = sum .before .before .before in
+      let known = c .before .before .before in
       let call = known .before .before in
       let i = call .before in
       let inv = i .before .loop .inv in
-      let fields = sym (known .fields .given .1) ∙ call .judge-fields .ensures in
-      rw (sum .plus .ensures, sum .before .number .ensures) (
+      let fields = sym (known .fields .given .1) ∙ call .judge-fields .ensures in (
         inv .0,
+        inv .1,
         omega arith,
-        inv .2 ∙ plain-next _ _ _ _ _ _ _ _ _ _ _ (inv .0 .block) (c .before .number2 .ensures) (c .if1 .taken)
-            (i .loop-test .taken) fields,
+        inv .3 ∙ plain-next _ _ _ _ _ _ _ _ _ _ _ _ (inv .0 .block) (c .before .number .ensures) (c .if1 .taken)
+            (i .loop-test .taken) (inv .2) (inv .1) fields,
       )
 
   entries-judge-row-requires : entries-Need entries-lts.Need-judge-row-requires
   entries-judge-row-requires c κs =
-      let known = c .before .before .before .before .before in
+      let known = c .before .before .before in
       (omega arith, known .before .before .before .before .loop .inv .0)
 
   entries-returns-2 : entries-Need entries-lts.Need-returns-2
   entries-returns-2 c =
       let call-row = c .before .before in
-      let known = call-row .before .before .before .before .before .before in
+      let known = call-row .before .before .before .before in
       let call = known .before .before in
       let i = call .before in
       let fields = sym (known .fields .given .1) ∙ call .judge-fields .ensures in
       let e = c .enum-told2 .given .1 in
-      e ∙ sym (i .before .loop .inv .2
-      ∙ entry-row _ _ _ _ _ _ _ (i .loop-test .taken) _ _ fields _ (sym e ∙ call-row .judge-row .ensures))
+      e ∙ sym (i .before .loop .inv .3
+      ∙ entry-row _ _ _ _ _ _ _ _ (i .loop-test .taken) _ _ fields _ (sym e ∙ call-row .judge-row .ensures))
 
   entries-judge-datas-requires : entries-Need entries-lts.Need-judge-datas-requires
   entries-judge-datas-requires c κs =
       let call-row = c .before .before .before .before in
-      let known = call-row .before .before .before .before .before .before in
+      let known = call-row .before .before .before .before in
       known .before .before .before .before .loop .inv .0 .block
 
   entries-returns-3 : entries-Need entries-lts.Need-returns-3
@@ -134,14 +133,14 @@ module _ (t : ℕ) where
       let call-datas = c .before .before in
       let known-row = call-datas .before .before .before in
       let call-row = known-row .before .before in
-      let known = call-row .before .before .before .before .before .before in
+      let known = call-row .before .before .before .before in
       let call = known .before .before in
       let i = call .before in
       let fields = sym (known .fields .given .1) ∙ call .judge-fields .ensures in
       let row = sym (known-row .row .given .1) ∙ call-row .judge-row .ensures in
       let e = c .enum-told3 .given .1 in
-      e ∙ sym (i .before .loop .inv .2
-      ∙ entry-datas _ _ _ _ _ _ _ (i .loop-test .taken) _ _ fields _ _ row _
+      e ∙ sym (i .before .loop .inv .3
+      ∙ entry-datas _ _ _ _ _ _ _ _ (i .loop-test .taken) _ _ fields _ _ row _
       (sym e ∙ call-datas .judge-datas .ensures))
 
   entries-loop-again-2 : entries-Need entries-lts.Need-loop-again-2
@@ -150,19 +149,30 @@ module _ (t : ℕ) where
       let call-datas = known-datas .before .before in
       let known-row = call-datas .before .before .before in
       let call-row = known-row .before .before in
-      let sum = call-row .before .before .before in
-      let known = sum .before .before .before in
+      let known = call-row .before .before .before .before in
       let call = known .before .before in
       let i = call .before in
       let inv = i .before .loop .inv in
       let fields = sym (known .fields .given .1) ∙ call .judge-fields .ensures in
       let row = sym (known-row .row .given .1) ∙ call-row .judge-row .ensures in
       let datas = sym (known-datas .datas .given .1) ∙ call-datas .judge-datas .ensures in
-      rw (c .plus3 .ensures, call-datas .before .plus2 .ensures, sum .plus .ensures, sum .before .number .ensures) (
+      rw (c .plus2 .ensures, call-datas .before .plus .ensures) (
         inv .0,
         omega arith,
-        inv .2 ∙ entry-next _ _ _ _ _ _ _ (i .loop-test .taken) _ _ fields _ _ row _ _ datas,
+        omega arith,
+        inv .3 ∙ entry-next _ _ _ _ _ _ _ _ (i .loop-test .taken) _ _ fields _ _ row (inv .2) _ _ datas,
       )
+
+  entries-mul-plus : entries-Need entries-lts.Need-mul-plus
+  entries-mul-plus c =
+      let pre = c .before .before .before .before .before .pre .1 in
+      omega (arith, blocks-fit _ _ _ _ (pre .0 .block) (c .number2 .ensures) (pre .1))
+
+  entries-returns-4 : entries-Need entries-lts.Need-returns-4
+  entries-returns-4 c =
+      let end = c .before .before in
+      rw (c .plus3 .ensures, c .before .number2 .ensures)
+      (sym (end .before .loop .inv .3 ∙ entries-end _ _ _ _ _ _ _ _ (end .loop-test .left)))
 
   abbrev row-claims : row-lts.Claims
   row-claims = (
@@ -212,7 +222,7 @@ module _ (t : ℕ) where
   row-judge-entries-requires : row-Need row-lts.Need-judge-entries-requires
   row-judge-entries-requires c κs =
       let opened = c .before .before .before .before .open-row .ensures in
-      (omega (arith, opened .deep), opened .first)
+      (omega (arith, opened .deep), (opened .first, omega arith))
 
   row-returns-3 : row-Need row-lts.Need-returns-3
   row-returns-3 c =
@@ -253,15 +263,12 @@ pub +judge-entries+judge-row-spec : {M : Type 1} → statement M
     close entries-μ row-μ
     (λ t.
     entries-lts.spec (entries-claims t) (entries-at t) entries-reads.Post entries-Inv entries-μ-loop
-    (λ c. (c .before .before .pre .1, omega arith, refl))
+    (λ c. (c .before .before .pre .1 .0, omega arith, omega arith, entries-all _ _ _ _ _ _))
     (λ c. omega arith)
     (λ c κs. c .before .loop .inv .0 .block)
     (λ c. search needs)
     (λ c. search needs)
     (entries-returns t)
-    (λ c. omega arith)
-    (λ c κs. omega arith)
-    (λ c κs. omega arith)
     (λ c. omega arith)
     (λ c κs. omega arith)
     (λ c. omega arith)
@@ -278,7 +285,11 @@ pub +judge-entries+judge-row-spec : {M : Type 1} → statement M
     (λ c κs. omega arith)
     (λ c. omega arith)
     (entries-loop-again-2 t)
-    (λ c. let inv = c .before .loop .inv in sym (inv .2 ∙ entries-end _ _ _ _ _ _ _ (inv .1) (c .loop-test .left))))
+    (λ c. omega arith)
+    (λ c κs. omega arith)
+    (entries-mul-plus t)
+    (λ c κs. omega arith)
+    (entries-returns-4 t))
     (λ t.
     row-lts.spec (row-claims t) (row-at t) row-reads.Post row-Inv row-μ-loop
     (λ c. omega arith)

@@ -14,24 +14,26 @@ use Rattle.judges.proofs.judge_fields.Statement.{statement}
 use Rattle.judges.proofs.judge_fields.Tie as tie
 
 abbrev Inv-loop : tie.InvT-loop
-Inv-loop p a listing size start left₀ f₀ t₀ i₀ left f t i =
+Inv-loop p a listing size start listed left₀ f₀ t₀ i₀ left f t i =
     IsBlock p a × (left ≤ manyFields p a) × (f + 7 * left ≡ fieldsFrom p a + 7 * manyFields p a)
     × (t + 6 * left ≡ tableFrom p a + 6 * manyFields p a)
     × (judged fieldsEnd (judgeFields listing size (shapeAt p a .fields) start)
     ≡ judged fieldsEnd (judgeFields listing size (parseFields (listsAt p) p left f) i))
 
 abbrev μ-loop : tie.MeasureT-loop
-μ-loop p a listing size start left₀ f₀ t₀ i₀ left f t i = left
+μ-loop p a listing size start listed left₀ f₀ t₀ i₀ left f t i = left
 
 loop-holds : tie.Need-loop-holds Inv-loop μ-loop
 loop-holds c =
     let count = c .before .number .ensures in
-    (c .before .before .before .before .pre, omega arith, omega arith, omega arith, rw count refl)
+    (c .before .before .before .before .before .pre, omega arith, omega arith, omega arith, rw count refl)
 
 judge-field-requires : tie.Need-judge-field-requires Inv-loop μ-loop
 judge-field-requires c κs =
-    let inv = c .before .loop .inv in
-    field-here _ _ _ _ _ (inv .0) (c .loop-test .taken) (inv .1) (inv .2) (inv .3)
+    let inv = c .before .loop .inv in (
+      field-here _ _ _ _ _ (inv .0) (c .loop-test .taken) (inv .1) (inv .2) (inv .3),
+      c .before .before .before .before .has-lists .ensures,
+    )
 
 returns : tie.Need-returns Inv-loop μ-loop
 returns c =
@@ -58,7 +60,7 @@ loop-again c =
 pub judge-fields-spec : {M : Type 1} → statement M
 judge-fields-spec =
     tie.close
-    (tie.spec Inv-loop μ-loop (λ c. omega arith) (λ c κs. omega arith) (λ c. omega arith) (λ c. omega arith)
-    (λ c κs. omega arith) loop-holds judge-field-requires (λ c. search needs) (λ c. search needs) returns
-    (λ c. omega arith) (λ c. omega arith) (λ c. omega arith) (λ c. omega arith) loop-again
+    (tie.spec Inv-loop μ-loop (λ c κs. omega arith) (λ c. omega arith) (λ c κs. omega arith) (λ c. omega arith)
+    (λ c. omega arith) (λ c κs. omega arith) loop-holds judge-field-requires (λ c. search needs) (λ c. search needs)
+    returns (λ c. omega arith) (λ c. omega arith) (λ c. omega arith) (λ c. omega arith) loop-again
     (λ c. sym (c .before .loop .inv .4 ∙ fields-end _ _ _ _ _ _ (c .loop-test .left))))

@@ -39,5 +39,5 @@ pub judge-number-spec : {M : Type 1} → statement M
 judge-number-spec =
     tie.close
     (tie.spec (λ c κs. search needs) (λ c κs. search needs) returns
-    (λ c κs. (c .before .before .before .before .pre, there c)) (λ c κs. search needs) returns-2
-    (λ c. omega (arith, there (c .before .before))) returns-3)
+    (λ c κs. let pre = c .before .before .before .before .pre in (pre .0, pre .1, there c)) (λ c κs. search needs)
+    returns-2 (λ c. omega (arith, there (c .before .before))) returns-3)

@@ -2,14 +2,14 @@
 use mathlib.Core.Path.{_∙_, _≡_, refl, sym}
 use native.Mathlib.Omega.{arith}
 use borrow.Author.Needs.{needs}
-use borrow.Author.Tests.{eq-eqb, le-leb, lt-leb, ne-eqb}
+use borrow.Author.Tests.{eq-eqb, le-leb, lt-leb, ne-eqb, not-true}
 use lib.Dec.{leb}
 use Rattle.layout.specs.Result.{_and_, if_then_else_}
 use Rattle.layout.specs.Lists.{has, isListed}
 use Rattle.layout.specs.Writing.{numberFits, second}
 use Rattle.prepared.specs.Names.{HasNames}
 use Rattle.prepared.specs.Positions.{fieldAt}
-use Rattle.prepared.proofs.Names.{names-free, names-here}
+use Rattle.prepared.proofs.Names.{names-free, names-here, no-lists}
 use Rattle.judges.proofs.Judging.{within}
 use Rattle.judges.proofs.number_fits.Statement.{statement}
 use Rattle.judges.proofs.number_fits.Tie as tie
@@ -35,26 +35,35 @@ returns-2 : tie.Need-returns-2
 unfolding _and_
 returns-2 c = sym (number-is (c .before) ∙ rw (lt-leb _ _ (c .if2 .taken)) refl)
 
--- The place that stands for the field's list leads to its names.
-list-leads : (c : tie.After-number2) → let a = start (c .before .before) .args in
-    HasNames (a .p .now) (c .number2 .result) (fieldAt (a .p .now) (a .f) .names)
-list-leads c = rw (c .number2 .ensures) (start (c .before .before) .pre .0 .derived .names)
-
+-- A book without lists.
 returns-3 : tie.Need-returns-3
 unfolding _and_ isListed
 returns-3 c =
-    let list = c .before in
-    let far = list .before in
+    let far = c .before in
+    let pre = start (far .before) .pre in
     sym (number-is (far .before)
-    ∙ rw (le-leb _ _ (far .if2 .left), names-free (list-leads list) (c .if3 .taken)) refl)
+    ∙ rw (le-leb _ _ (far .if2 .left), no-lists (pre .0) (sym (pre .1) ∙ not-true _ (c .if3 .taken))) refl)
+
+-- The place that stands for the field's list leads to its names.
+list-leads : (c : tie.After-number2) → let a = start (c .before .before .before) .args in
+    HasNames (a .p .now) (c .number2 .result) (fieldAt (a .p .now) (a .f) .names)
+list-leads c = rw (c .number2 .ensures) (start (c .before .before .before) .pre .0 .derived .names)
 
 returns-4 : tie.Need-returns-4
-unfolding _and_
+unfolding _and_ isListed
 returns-4 c =
+    let list = c .before in
+    let far = list .before .before in
+    sym (number-is (far .before)
+    ∙ rw (le-leb _ _ (far .if2 .left), names-free (list-leads list) (c .if4 .taken)) refl)
+
+returns-5 : tie.Need-returns-5
+unfolding _and_
+returns-5 c =
     let list = c .before .before in
-    let far = list .before in
+    let far = list .before .before in
     c .has .ensures ∙ sym (number-is (far .before)
-    ∙ rw (le-leb _ _ (far .if2 .left), names-here (list-leads list) (c .before .if3 .left)) refl)
+    ∙ rw (le-leb _ _ (far .if2 .left), names-here (list-leads list) (c .before .if4 .left)) refl)
 
 pub number-fits-spec : {M : Type 1} → statement M
 unfolding if_then_else_
@@ -64,5 +73,5 @@ number-fits-spec =
     (λ c. rw (c .number .ensures, eq-eqb _ _ (c .before .if1 .taken)) refl)
     (λ c. search needs) (λ c. search needs) (λ c. search needs) (λ c. search needs) (λ c. search needs)
     (λ c κs. search needs) (λ c. search needs) (λ c κs. search needs) (λ c κs. search needs) returns-2
-    (λ c. search needs) (λ c κs. search needs) returns-3
-    (λ c κs. list-leads (c .before) .list (omega (arith, c .if3 .left))) returns-4)
+    returns-3 (λ c. search needs) (λ c κs. search needs) returns-4
+    (λ c κs. list-leads (c .before) .list (omega (arith, c .if4 .left))) returns-5)

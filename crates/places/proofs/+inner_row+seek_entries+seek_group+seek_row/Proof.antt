@@ -18,6 +18,7 @@ use Rattle.wire.proofs.open_group.Reads as open-group-reads
 use Rattle.walk.proofs.Ways.{leads}
 use Rattle.walk.proofs.pass_row.Reads as pass-reads
 use Rattle.walk.proofs.walk_datas.Reads as walk-datas-reads
+use Rattle.walk.proofs.walk_row.Reads as walk-row-reads
 use Rattle.places.specs.Spots.{nowhere}
 use Rattle.places.specs.Seeks.{Path, entriesSought}
 use Rattle.places.proofs.Places.{group-halves, path-next}
@@ -149,10 +150,12 @@ module _ (t : ℕ) where
   row-claims = (
     number-reads.Asked,
     number-reads.Learnt,
-    pass-reads.Asked,
-    pass-reads.Learnt,
+    walk-row-reads.Asked,
+    walk-row-reads.Learnt,
     found-at-reads.Asked,
     found-at-reads.Learnt,
+    pass-reads.Asked,
+    pass-reads.Learnt,
     skip-row-reads.Asked,
     skip-row-reads.Learnt,
     and 6 group-kinds.ps (falls 6 group-kinds.ps _<_ group-μ t) group-reads.Pre,
@@ -162,25 +165,25 @@ module _ (t : ℕ) where
   abbrev row-Need : (row-lts.Claims → In 6 row-lts.ps → Out 6 row-lts.ps row-lts.r → Type 0) → Type 0
   row-Need n = n row-claims row-at row-reads.Post
 
-  row-pass-row-requires : row-Need row-lts.Need-pass-row-requires
-  row-pass-row-requires c κs =
+  row-walk-row-requires : row-Need row-lts.Need-walk-row-requires
+  row-walk-row-requires c κs =
       let n = c .before in
       let pre = n .before .before .before .before .before .pre .1 in
       (rw (n .before .number2 .ensures, n .number3 .ensures) (pre .0 .row), pre .1, omega arith)
 
   row-returns : row-Need row-lts.Need-returns
   row-returns c =
-      let pass = c .before in
-      let test = pass .before in
+      let walk = c .before in
+      let test = walk .before in
       let n = test .before in
       let start = n .before .before .before .before .before in
       ends-walked _ _ _ _ _ (c .found-at .ensures)
-      (rw (n .before .number2 .ensures, n .number3 .ensures) at (pass .pass-row .ensures))
+      (rw (n .before .number2 .ensures, n .number3 .ensures) at (walk .walk-row .ensures))
       (row-lacks _ _ _ (start .pre .1 .0) _ _ (start .args .path .now .now) (start .args .i) _
       (rw (n .number3 .ensures, n .before .before .number .ensures) at (test .if1 .taken)))
 
-  row-pass-row-requires-2 : row-Need row-lts.Need-pass-row-requires-2
-  row-pass-row-requires-2 c κs =
+  row-pass-row-requires : row-Need row-lts.Need-pass-row-requires
+  row-pass-row-requires c κs =
       let n = c .before in
       let start = n .before .before .before .before .before in
       let pre = start .pre .1 in
@@ -200,7 +203,7 @@ module _ (t : ℕ) where
       let start = n .before .before .before .before .before in
       let less = rw (n .number3 .ensures, n .before .before .number .ensures) at (test .if1 .left) in
       let walks =
-      rw (n .before .number2 .ensures, n .before .before .number .ensures) at (pass .pass-row2 .ensures .0) in
+      rw (n .before .number2 .ensures, n .before .before .number .ensures) at (pass .pass-row .ensures .0) in
       ends-refused _ _ (c .found-at2 .ensures ∙ found-refused _ _ _ (told .enum-told .given .1))
       (row-refused _ _ _ (start .pre .1 .0) _ _ (start .args .path .now .now) (start .args .i) _ less _
       (sym (told .enum-told .given .1) ∙ walks))
@@ -223,7 +226,7 @@ module _ (t : ℕ) where
       let start = n .before .before .before .before .before in
       let pre = start .pre .1 in
       let less = rw (n .number3 .ensures, n .before .before .number .ensures) at (test .if1 .left) in
-      let on = leads _ _ _ _ _ _ (pass .pass-row2 .ensures .1) (told .passed .given .1) in (
+      let on = leads _ _ _ _ _ _ (pass .pass-row .ensures .1) (told .passed .given .1) in (
         omega arith,
         (
           rw (
@@ -251,7 +254,7 @@ module _ (t : ℕ) where
       let start = n .before .before .before .before .before in
       let less = rw (n .number3 .ensures, n .before .before .number .ensures) at (test .if1 .left) in
       let walks =
-      rw (n .before .number2 .ensures, n .before .before .number .ensures) at (pass .pass-row2 .ensures .0) in
+      rw (n .before .number2 .ensures, n .before .before .number .ensures) at (pass .pass-row .ensures .0) in
       let all =
       rw (
         skip .skip-row .ensures,
@@ -588,10 +591,10 @@ pub +inner-row+seek-entries+seek-group+seek-row-spec : {M : Type 1} → statemen
     (λ c κs. omega arith)
     (λ c. omega arith)
     (λ c κs. omega arith)
-    (row-pass-row-requires t)
+    (row-walk-row-requires t)
     (λ c κs. tt)
     (row-returns t)
-    (row-pass-row-requires-2 t)
+    (row-pass-row-requires t)
     (λ c. search needs)
     (λ c. search needs)
     (λ c κs. tt)

@@ -16,8 +16,8 @@ less : (c : tie.After-x)
     (c .before .before .before .before .args .a)
 less c = let pre = c .before .before .before .before .pre in field-less (pre .0) _ (pre .1) _ (c .x .given .1)
 
-read-one-requires : tie.Need-read-one-requires
-read-one-requires c κs =
+read-field-requires : tie.Need-read-field-requires
+read-field-requires c κs =
     let told = c .before .before in
     let pre = told .before .before .before .before .pre .0 in
     rw (c .number .ensures)
@@ -45,7 +45,7 @@ returns : tie.Need-returns
 returns c =
     let told = c .before .before .before in
     let pre = told .before .before .before .before .pre in
-    rw (told .x .given .1) (c .read-one .ensures ∙ sym (element-field (pre .0) _ (less told)))
+    rw (told .x .given .1) (c .read-field .ensures ∙ sym (element-field (pre .0) _ (less told)))
 
 returns-2 : tie.Need-returns-2
 returns-2 c =
@@ -65,7 +65,7 @@ element-at-spec =
     (tie.spec (λ c. search needs) (λ c. search needs) (λ c κs. search needs)
     (λ c. omega (arith, less (c .before .before))) (λ c. omega (arith, less (c .before .before))) (λ c. search needs)
     (λ c. omega (arith, less (c .before .before))) (λ c. omega (arith, less (c .before .before)))
-    read-one-requires (λ c. search needs)
+    read-field-requires (λ c. search needs)
     (λ c. let ok = c .before .before .before .before .before .pre .0 in omega (arith, entry-fits ok, ok .short))
     group-at-requires (λ c. search needs)
     (λ c. let ok = c .before .before .before .before .before .pre .0 in omega (arith, entry-fits ok, ok .short))

@@ -5,20 +5,23 @@ use native.Mathlib.Omega.{arith}
 use borrow.Author.Needs.{needs}
 use lib.ListN.{length}
 use lib.Seq.{length-take-le}
+use Rattle.stream.proofs.Slices.{anew}
 use Rattle.stream.proofs.Writing.{IsGood, write-done, write-fits, write-full, write-long}
 use Rattle.stream.proofs.Writing.{write-ready, write-refused, write-small}
 use Rattle.stream.proofs.write_by.Statement.{statement}
 use Rattle.stream.proofs.write_by.Tie as tie
 
-good : (c : tie.After-known-told2)
-    → let a = c .before .before .before .before .before .before .before .before .before .before .args in
-    IsGood (a .t1 .now) (a .a) (a .t3 .now) (a .t4 .now) (a .room .now) (c .before .length .given .0 .0)
+abbrev start : tie.After-judge-listing → tie.Start
+start c = c .before .before .before .before .before .before .before .before .before .before
+
+good : (c : tie.After-known-told2) → let a = start (c .before .before .before) .args in
+    IsGood (a .p .now) (a .a) (a .listing .now) (a .pool .now) (a .room .now) (c .before .length .given .0 .0)
     (c .before .length .given .0 .1 .0)
 good c =
     let call = c .before .before .before in
     record {
-      block = call .before .before .before .before .before .before .before .pre;
-      is = sym (c .before .length .given .1) ∙ call .judge-listing .ensures;
+      block = start call .pre;
+      is = sym (c .before .length .given .1) ∙ simp anew at (call .judge-listing .ensures);
     }
 
 abbrev told-of : tie.After-put-zeros → tie.After-known-told2
@@ -32,7 +35,8 @@ fits c =
 write-message-requires : tie.Need-write-message-requires
 write-message-requires c κs =
     let put = c .before .before .before .before .before .before in
-    let g = good (told-of put) in (
+    let g = good (told-of put) in
+    simp anew (
       g .block,
       write-ready g (put .before .before .before .if1 .left) (put .before .before .if2 .left) _
           (put .put-zeros .ensures),
@@ -41,22 +45,24 @@ write-message-requires c κs =
 returns-3 : tie.Need-returns-3
 returns-3 c =
     let call = c .before .before .before in
-    let a = call .before .before .before .before .before .before .before .args in
-    write-refused (a .t1 .now) (a .a) (a .t3 .now) (a .t4 .now) (a .room .now) _
-    (sym (c .before .refusal .given .1) ∙ call .judge-listing .ensures)
+    let a = start call .args in
+    write-refused (a .p .now) (a .a) (a .listing .now) (a .pool .now) (a .room .now) _
+    (sym (c .before .refusal .given .1) ∙ simp anew at (call .judge-listing .ensures))
 
 returns-4 : tie.Need-returns-4
 returns-4 c =
     let call = c .before .before in
     let put = call .before .before .before .before .before .before .before in
     write-done (good (told-of put)) (put .before .before .before .if1 .left) (put .before .before .if2 .left) _
-    (put .put-zeros .ensures) _ _ (call .write-message .ensures) refl
+    (put .put-zeros .ensures) _ _ (simp anew at (call .write-message .ensures)) refl
 
 pub write-by-spec : {M : Type 1} → statement M
 write-by-spec =
     tie.close
-    (tie.spec (λ c κs. search needs) (λ c. search needs) (λ c. search needs)
-    (λ c. omega (arith, write-small (good c))) (λ c κs. search needs)
+    (tie.spec (λ c. search needs) (λ c. search needs) (λ c. search needs) (λ c. search needs) (λ c. search needs)
+    (λ c. search needs) (λ c. search needs) (λ c. search needs) (λ c. search needs)
+    (λ c κs. rw anew (c .before .before .before .before .before .before .before .before .before .pre))
+    (λ c. search needs) (λ c. search needs) (λ c. omega (arith, write-small (good c))) (λ c κs. search needs)
     (λ c. rw (c .refuse .ensures) (write-long (good (c .before .before)) (c .before .if1 .taken)))
     (λ c κs. search needs)
     (λ c. rw (c .refuse2 .ensures) (write-full (good (c .before .before .before)) (c .before .if2 .taken)))
