@@ -54,7 +54,7 @@ returns-3 c =
     let store = c .before .before in
     let test = store .before .before .before .before in
     list-stored (enters (test .before .before)) _ _ (test .before .count-records .ensures) (test .if1 .left) _
-    (simp anew at (store .store-entries .ensures .0 .room))
+    (store .store-entries .ensures .0 .room ∙ simp anew)
 
 pub list-spec : {M : Type 1} → statement M
 list-spec =

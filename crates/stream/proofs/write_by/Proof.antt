@@ -21,7 +21,7 @@ good c =
     let call = c .before .before .before in
     record {
       block = start call .pre;
-      is = sym (c .before .length .given .1) ∙ simp anew at (call .judge-listing .ensures);
+      is = sym (c .before .length .given .1) ∙ call .judge-listing .ensures ∙ simp anew;
     }
 
 abbrev told-of : tie.After-put-zeros → tie.After-known-told2
@@ -47,14 +47,14 @@ returns-3 c =
     let call = c .before .before .before in
     let a = start call .args in
     write-refused (a .p .now) (a .a) (a .listing .now) (a .pool .now) (a .room .now) _
-    (sym (c .before .refusal .given .1) ∙ simp anew at (call .judge-listing .ensures))
+    (sym (c .before .refusal .given .1) ∙ call .judge-listing .ensures ∙ simp anew)
 
 returns-4 : tie.Need-returns-4
 returns-4 c =
     let call = c .before .before in
     let put = call .before .before .before .before .before .before .before in
     write-done (good (told-of put)) (put .before .before .before .if1 .left) (put .before .before .if2 .left) _
-    (put .put-zeros .ensures) _ _ (simp anew at (call .write-message .ensures)) refl
+    (put .put-zeros .ensures) _ _ (call .write-message .ensures ∙ simp anew) refl
 
 pub write-by-spec : {M : Type 1} → statement M
 write-by-spec =
