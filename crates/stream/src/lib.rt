@@ -50,11 +50,7 @@ pub fn list(p: &[u64], m: &[u8], room: &mut [u64]) -> Counted
         (now (room .exit)) ⌝ }
 {
     let path = &p[0..0];
-    // A slice whose address is handed on is taken anew first: so its two numbers are loaded one by one, and need not
-    // wait for the caller's stores.
-    let q = &p[0..];
-    let t = &m[0..];
-    match whole::enter(&q, &t, &path) {
+    match whole::enter(&p, &m, &path) {
         Entered::Refused(refusal) => Counted::Refused(refusal),
         Entered::At {
             block,
@@ -72,7 +68,7 @@ pub fn list(p: &[u64], m: &[u8], room: &mut [u64]) -> Counted
                 });
             }
             let start = Cursor { at: 12, n: 0 };
-            store::store_entries(&q, block, 4, &t, version, length, 1, groups, room, start);
+            store::store_entries(&p, block, 4, &m, version, length, 1, groups, room, start);
             Counted::Count(all)
         }
     }
@@ -109,6 +105,8 @@ fn place_on(p: &[u64], m: &[u8], steps: &[u64], x: Element) -> Found
     requires { ⌜ IsPrepared (now p) × Path (now steps) 0 ⌝ }
     ensures { λ r. ⌜ r ≡ found (placeIn (bookAt (now (p .entry))) (now (m .entry)) (now (steps .entry)) x) ⌝ }
 {
+    // A slice whose address is handed on is taken anew first: so its two numbers are loaded one by one, and need not
+    // wait for the caller's stores.
     let q = &p[0..];
     let t = &m[0..];
     let path = &steps[0..];

@@ -7,6 +7,7 @@ use Rattle.layout.specs.Result.{_>>=_}
 use Rattle.layout.specs.Contracts.{counted, roomAfter}
 use Rattle.layout.specs.Reading.{listOf}
 use Rattle.prepare.proofs.Prepared.{HasPrepared, book-refused, has-prepared}
+use Rattle.siphonbard.proofs.Said.{list-said}
 use Rattle.siphonbard.proofs.siphonbard_list.Statement.{statement}
 use Rattle.siphonbard.proofs.siphonbard_list.Tie as tie
 
@@ -27,9 +28,9 @@ returns c =
 returns-2 : tie.Need-returns-2
 unfolding listOf _>>=_
 returns-2 c =
-    let call = c .before .before in
+    let call = c .before .before .before in
     let e = has (call .before .before .before .before) .prepared .back in
-    let said = call .siphonbard-stream-list .ensures in
+    let said = list-said (c .say-counted2 .ensures) (call .list .ensures) in
     record { reply = rw e (said .reply); room = rw e (said .room) }
 
 pub siphonbard-list-spec : {M : Type 1} → statement M
@@ -37,4 +38,4 @@ siphonbard-list-spec =
     tie.close
     (tie.spec (λ c. search needs) (λ c κs. search needs) (λ c. search needs) (λ c κs. search needs) (λ c. search needs)
     (λ c. has (c .before) .fits) (λ c. sym (length-take-le _ _ (has (c .before .before) .fits)))
-    (λ c κs. has (c .before .before .before) .prepared .is) returns (λ c. search needs) returns-2)
+    (λ c κs. has (c .before .before .before) .prepared .is) (λ c κs. search needs) returns (λ c. search needs) returns-2)

@@ -8,23 +8,21 @@ use Rattle.prepared.proofs.Books.{holds-book}
 use Rattle.whole.specs.Wholes.{Few}
 use Rattle.whole.proofs.Entries.{EnteredAs, Enters, entered-as}
 use Rattle.stream.proofs.Reading.{list-full, list-refused, list-room, list-stored, no-steps}
-use Rattle.stream.proofs.Slices.{anew}
 use Rattle.stream.proofs.list.Statement.{statement}
 use Rattle.stream.proofs.list.Tie as tie
 
 abbrev start : tie.After-enter → tie.Start
-start c = c .before .before .before .before .before .before .before .before .before .before
+start c = c .before .before .before .before .before .before .before .before
 
 -- What the walk's answer says.
 enters : (c : tie.After-known-told2) → let s = start (c .before .before .before) .args in
     let g = c .before .block .given .0 in
-    Enters (s .p .now) (s .m .now) [] (g .0) (g .1 .0) (g .1 .1 .0) (g .1 .1 .1 .0) (g .1 .1 .1 .1 .0)
+    Enters (s .t1 .now) (s .t2 .now) [] (g .0) (g .1 .0) (g .1 .1 .0) (g .1 .1 .1 .0) (g .1 .1 .1 .1 .0)
     (g .1 .1 .1 .1 .1 .0) (g .1 .1 .1 .1 .1 .1 .0)
 unfolding EnteredAs
 enters c =
     let call = c .before .before .before in
-    entered-as _ _ _ (holds-book (start call .pre)) _
-    (sym (c .before .block .given .1) ∙ simp anew at (call .enter .ensures .0))
+    entered-as _ _ _ (holds-book (start call .pre)) _ (sym (c .before .block .given .1) ∙ call .enter .ensures .0)
 
 count-records-requires : tie.Need-count-records-requires
 unfolding Few
@@ -38,31 +36,28 @@ store-entries-requires c κs =
     let room = start (known .before .before .before) .args .room .now in
     let o = enters known in
     let there = list-room o room _ (test .before .count-records .ensures) (test .if1 .left) in
-    simp anew ((o .opens .block, o .opens .enough, o .opens .few), (there, o .opens .lent))
+    ((o .opens .block, o .opens .enough, o .opens .few), (there, o .opens .lent))
 
 returns-2 : tie.Need-returns-2
 unfolding EnteredAs
 returns-2 c =
     let call = c .before .before .before in
     let s = start call .args in
-    list-refused (s .p .now) (s .m .now) _ _
-    (entered-as _ _ _ (holds-book (start call .pre)) _
-    (sym (c .before .refusal .given .1) ∙ simp anew at (call .enter .ensures .0)))
+    list-refused (s .t1 .now) (s .t2 .now) _ _
+    (entered-as _ _ _ (holds-book (start call .pre)) _ (sym (c .before .refusal .given .1) ∙ call .enter .ensures .0))
 
 returns-3 : tie.Need-returns-3
 returns-3 c =
     let store = c .before .before in
     let test = store .before .before .before .before in
     list-stored (enters (test .before .before)) _ _ (test .before .count-records .ensures) (test .if1 .left) _
-    (store .store-entries .ensures .0 .room ∙ simp anew)
+    (store .store-entries .ensures .0 .room)
 
 pub list-spec : {M : Type 1} → statement M
 list-spec =
     tie.close
-    (tie.spec (λ c. search needs) (λ c. search needs) (λ c. search needs) (λ c. search needs) (λ c. search needs)
-    (λ c. search needs) (λ c. search needs) (λ c. search needs) (λ c. search needs)
-    (λ c κs. let pre = c .before .before .before .before .before .before .before .before .before .pre in
-    (rw anew (holds-book pre), no-steps))
+    (tie.spec (λ c. search needs) (λ c. search needs) (λ c. search needs)
+    (λ c κs. (holds-book (c .before .before .before .before .before .before .before .pre), no-steps))
     (λ c. search needs) (λ c. search needs) count-records-requires
     (λ c. list-full (enters (c .before .before)) _ _ (c .before .count-records .ensures) (c .if1 .taken))
     store-entries-requires returns-2
