@@ -239,7 +239,7 @@ module _ (book : List ℕ) (id : ℕ) (l pool before after : List ℕ) where
   -- "Writing gives the one message that the layout has for a listing"
   pub writing-writes : (n : ℕ) → Writes book id l pool before (Counted.Count n) after
       → (b : Book) × (t : Template) × (v : Values) × (bookOf book ≡ done b) × (findTemplate id (b .templates) ≡ some t)
-      × (judgeListing l (length pool) t ≡ done v)
+      × (judgeListing l pool t ≡ done v)
       × (n ≡ writtenLength t v)
       × (take n after ≡ messageOctets b t pool v)
   writing-writes n c =
@@ -259,7 +259,7 @@ module _ (book : List ℕ) (id : ℕ) (l pool before after : List ℕ) where
   -- "55 last": a good listing is refused for want of room, or for a message over 65,535 octets, and for nothing else.
   module _ (b : Book) (t : Template) (v : Values) (isBook : bookOf book ≡ done b)
       (known : findTemplate id (b .templates) ≡ some t)
-      (good : judgeListing l (length pool) t ≡ done v)
+      (good : judgeListing l pool t ≡ done v)
       (r : Counted) (writes : Writes book id l pool before r after) where
     pub writing-has-room : writtenLength t v ≤ length before → writtenLength t v ≤ 65535
         → r ≡ Counted.Count (writtenLength t v)
@@ -318,8 +318,8 @@ module _ (book : List ℕ) (id : ℕ) (l pool before after : List ℕ) where
         (k, e, all, rw is (b .3))
 
 -- "what is read writes back to the same octets if it carries the book's own version and block lengths, has zero padding
--- and no value out of range", and "no kind 6": that is `AsWritten`. "writing back has the message as pool and room for
--- it"
+-- and no value out of range", "no kind 6" and zeros after a text's first NUL: that is `AsWritten`. "writing back has
+-- the message as pool and room for it"
 pub listed-writes-back : (book m : List ℕ) (b : Book) (t : Template) (v : Values)
     → AllOctets m
     → bookOf book ≡ done b

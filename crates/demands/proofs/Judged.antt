@@ -6,20 +6,21 @@ use Prim.Native.Nat.{_*_, _+_, _<_, _≤_, suc, zero, ℕ}
 use native.Mathlib.Nat.{le-refl}
 use native.Mathlib.Omega.{arith}
 use lib.Dec.{eqb}
-use lib.ListN.{getD, length}
+use lib.ListN.{drop, getD, length, take}
 use borrow.Author.Tests.{eq-eqb, le-leb, leb-true, lt-ltb}
 use Rattle.layout.specs.Result.{Each, Result, _>>=_, _and_, _or_, done, if_then_else_, must}
-use Rattle.layout.specs.Octets.{null16, number16, numberAt}
+use Rattle.layout.specs.Octets.{null16, number16, numberAt, textLength}
 use Rattle.layout.specs.Types.{TypeRow, classify, inRange, typeAt, valueOf}
 use Rattle.layout.specs.Lists.{beside, has}
-use Rattle.layout.specs.Book.{Data, Field, Groups, Shape, Template, dataSinces, end, fieldSinces, isArray, isOptional}
-use Rattle.layout.specs.Book.{more, need, needAfter, none}
+use Rattle.layout.specs.Book.{Data, Field, Groups, Shape, Template, dataSinces, end, fieldSinces, isArray, isChar}
+use Rattle.layout.specs.Book.{isOptional, more, need, needAfter, none}
 use Rattle.layout.specs.BookRules.{fieldsGood, lengthGood}
 use Rattle.layout.specs.Values.{Values, entry, group, listing, nil, recordOf, recordsOf}
-use Rattle.layout.specs.Message.{Entry, dimensionSize, readBlock, readData, readDatas, readEntries, readField}
+use Rattle.layout.specs.Message.{Entry, arrayAt, dimensionSize, readBlock, readData, readDatas, readEntries, readField}
 use Rattle.layout.specs.Message.{readGroups}
-use Rattle.layout.specs.Writing.{first, isThere, judgeBlock, judgeData, judgeDatas, judgeEntries, judgeField}
-use Rattle.layout.specs.Writing.{judgeFields, judgeGroups, judgeListing, judgeNumber, judgeOctets, second, third}
+use Rattle.layout.specs.Writing.{first, isThere, judgeArray, judgeBlock, judgeData, judgeDatas, judgeEntries}
+use Rattle.layout.specs.Writing.{judgeField, judgeFields, judgeGroups, judgeListing, judgeNull, judgeNumber}
+use Rattle.layout.specs.Writing.{judgeOctets, judgeText, second, textFits, third}
 use Rattle.layout.specs.Demands.{AllSound, Sound}
 use Rattle.demands.proofs.Needs.{need-grows}
 use Rattle.demands.proofs.Read.{data-read, datas-read, dimension-read, group-read}
@@ -29,6 +30,7 @@ use Rattle.layout.proofs.Fields.{field-good, size-array}
 use Rattle.layout.proofs.Present.{GoodGroups, GoodShape, UpTo}
 use Rattle.layout.proofs.Records.{record-three}
 use Rattle.layout.proofs.Results.{and-left, done-inj, inv-bind, inv-must}
+use Rattle.layout.proofs.Texts.{text-again, text-within}
 use Rattle.layout.proofs.Stands.{Stands, all-stands, split-to, three-stand}
 use Rattle.layout.proofs.TypeLaws.{inside-not-null}
 use Rattle.layout.specs.declared.Answer.{Answer}
@@ -57,7 +59,7 @@ module _ (l m : List ℕ) (v : ℕ) where
 
   octets-judged : (fits : Bool) (i p n to : ℕ) → fits ≡ true → p + n ≤ length m
       → Stands l (3 * i) (recordOf (Octets p n)) to
-      → judgeOctets l (length m) fits i ≡ done (Octets p n)
+      → judgeOctets l m fits i ≡ done (Octets p n)
   unfolding judgeOctets must _>>=_ recordOf _and_
   octets-judged fits i p n to y h s =
       let r = record-is i 2 p n to s in
@@ -65,14 +67,14 @@ module _ (l m : List ℕ) (v : ℕ) where
 
   number-judged : (f : Field) (i x to : ℕ) → inRange (typeAt (f .type)) x ≡ true
       → eqb x (typeAt (f .type) .null) ≡ false → has (f .names) x ≡ true
-      → Stands l (3 * i) (recordOf (Number x)) to → judgeNumber l (length m) f i ≡ done (Number x)
+      → Stands l (3 * i) (recordOf (Number x)) to → judgeNumber l f i ≡ done (Number x)
   unfolding judgeNumber if_then_else_ must _>>=_ recordOf _and_ _or_
   number-judged f i x to o n y s =
       let r = record-is i 0 x 0 to s in
       rw (r .there, r .is₁, r .is₂, r .is₃, o, n, y) refl
 
   null-judged : (f : Field) (i to : ℕ) → isOptional f ≡ true → Stands l (3 * i) (recordOf Null) to
-      → judgeNumber l (length m) f i ≡ done Null
+      → judgeNumber l f i ≡ done Null
   unfolding judgeNumber if_then_else_ must _>>=_ recordOf _and_ _or_
   null-judged f i to o s =
       let r = record-is i 1 0 0 to s in
@@ -81,7 +83,7 @@ module _ (l m : List ℕ) (v : ℕ) where
   -- ---- fields
 
   class-judged : (f : Field) (i x to : ℕ) → let a = beside (f .names) (classify (typeAt (f .type)) (isOptional f) x) in
-      Sound a → Stands l (3 * i) (recordOf a) to → judgeNumber l (length m) f i ≡ done a
+      Sound a → Stands l (3 * i) (recordOf a) to → judgeNumber l f i ≡ done a
   unfolding classify if_then_else_ beside Sound
   class-judged f i x to sound s = go (isOptional f and eqb x (k .null)) refl (inRange k x) refl sound s
     where
@@ -90,7 +92,7 @@ module _ (l m : List ℕ) (v : ℕ) where
 
       go : (b : Bool) → (isOptional f and eqb x (k .null)) ≡ b → (c : Bool) → inRange k x ≡ c
           → let a = beside (f .names) (if b then Null else if c then Number x else OutOfRange x) in
-          Sound a → Stands l (3 * i) (recordOf a) to → judgeNumber l (length m) f i ≡ done a
+          Sound a → Stands l (3 * i) (recordOf a) to → judgeNumber l f i ≡ done a
       go true e c o sound s = null-judged f i to (and-left _ _ e) s
       go false e true o sound s =
           let y = sound-listed (f .names) x sound in
@@ -98,9 +100,51 @@ module _ (l m : List ℕ) (v : ℕ) where
           rw q (number-judged f i x to o (inside-not-null (f .type) x o) y (rw q at s))
       go false e false o sound s = absurd sound
 
+  null-text-judged : (f : Field) (i to : ℕ) → isOptional f ≡ true → Stands l (3 * i) (recordOf Null) to
+      → judgeText l m f i ≡ done Null
+  unfolding judgeNull if_then_else_ must _>>=_ recordOf _and_
+  null-text-judged f i to o s =
+      let r = record-is i 1 0 0 to s in
+      rw (r .there, r .is₁, r .is₂, r .is₃, o) refl
+
+  text-judged : (f : Field) (i p to : ℕ) → let n = textLength (take (f .length) (drop p m)) in
+      p + f .length ≤ length m → (isOptional f and eqb n 0) ≡ false → Stands l (3 * i) (recordOf (Octets p n)) to
+      → judgeText l m f i ≡ done (Octets p n)
+  unfolding if_then_else_ _and_
+  text-judged f i p to h e s =
+      let n = textLength (take (f .length) (drop p m)) in
+      let short = text-within (f .length) (drop p m) in
+      let r = record-is i 2 p n to (unfold recordOf in s) in
+      let fits : textFits l m f i ≡ true = rw (
+        r .is₂,
+        r .is₃,
+        le-leb n (f .length) short,
+        eq-eqb _ _ (text-again (f .length) (drop p m)),
+        e,
+      ) refl in
+      rw (r .is₁) (octets-judged _ i p n to fits (omega arith) s)
+
+  array-judged : (f : Field) (i p to : ℕ) → p + f .length ≤ length m → Stands l (3 * i) (recordOf (arrayAt m p f)) to
+      → judgeArray l m f i ≡ done (arrayAt m p f)
+  unfolding arrayAt judgeArray if_then_else_
+  array-judged f i p to h s = go (isChar f) (isOptional f and eqb n 0) refl s
+    where
+      n : ℕ
+      n = textLength (take (f .length) (drop p m))
+
+      go : (c b : Bool) → (isOptional f and eqb n 0) ≡ b
+          → let a = if c then (if b then Null else Octets p n) else Octets p (f .length) in
+          Stands l (3 * i) (recordOf a) to
+          → (if c then judgeText l m f i else judgeOctets l m (eqb (third l i) (f .length)) i) ≡ done a
+      go true true e s = null-text-judged f i to (and-left _ _ e) s
+      go true false e s = text-judged f i p to h e s
+      go false b e s =
+          let r = record-is i 2 p (f .length) to (unfold recordOf in s) in
+          octets-judged _ i p (f .length) to (eq-eqb _ _ (r .is₃)) h s
+
   field-judged : (f : Field) (i at to : ℕ) → lengthGood f ≡ true → f .since ≤ v → at + end f ≤ length m
       → Sound (readField m v at f)
-      → Stands l (3 * i) (recordOf (readField m v at f)) to → judgeField l (length m) f i ≡ done (readField m v at f)
+      → Stands l (3 * i) (recordOf (readField m v at f)) to → judgeField l m f i ≡ done (readField m v at f)
   unfolding readField if_then_else_
   field-judged f i at to g u h sound s =
       let q = le-leb (f .since) v u in
@@ -110,24 +154,21 @@ module _ (l m : List ℕ) (v : ℕ) where
       k = typeAt (f .type)
 
       a : Bool → Answer
-      a y = if y then Octets (at + f .offset) (f .length) else beside (f .names) (classify k (isOptional f)
+      a y = if y then arrayAt m (at + f .offset) f else beside (f .names) (classify k (isOptional f)
           (valueOf k (numberAt (k .width) m (at + f .offset))))
 
       go : (y : Bool) → isArray f ≡ y → Sound (a y) → Stands l (3 * i) (recordOf (a y)) to
-          → (if y then judgeOctets l (length m) (eqb (third l i) (f .length)) i else judgeNumber l (length m) f i)
-          ≡ done (a y)
-      go true y sound s =
-          let r = record-is i 2 (at + f .offset) (f .length) to (unfold recordOf in s) in
-          octets-judged _ i (at + f .offset) (f .length) to (eq-eqb _ _ (r .is₃)) (omega (arith, size-array f g y)) s
+          → (if y then judgeArray l m f i else judgeNumber l f i) ≡ done (a y)
+      go true y sound s = array-judged f i (at + f .offset) to (omega (arith, size-array f g y)) s
       go false y sound s = class-judged f i _ to sound s
 
   fields-next : (f : Field) (fs : List Field) (i j : ℕ) (a : Answer) (r : List Answer)
-      → judgeField l (length m) f i ≡ done a
-      → judgeFields l (length m) fs (suc i) ≡ done (r, j) → judgeFields l (length m) (f ∷ fs) i ≡ done (a ∷ r, j)
+      → judgeField l m f i ≡ done a
+      → judgeFields l m fs (suc i) ≡ done (r, j) → judgeFields l m (f ∷ fs) i ≡ done (a ∷ r, j)
   unfolding judgeFields _>>=_
   fields-next f fs i j a r e q = rw (e, q) refl
 
-  fields-stop : (i : ℕ) → judgeFields l (length m) [] i ≡ done ([], i)
+  fields-stop : (i : ℕ) → judgeFields l m [] i ≡ done ([], i)
   unfolding judgeFields
   fields-stop i = refl
 
@@ -138,7 +179,7 @@ module _ (l m : List ℕ) (v : ℕ) where
   fields-judged : (fs : List Field) (i at len from e to : ℕ) → fieldsGood len from fs ≡ true → UpTo v (fieldSinces fs)
       → at + needAfter v e fs ≤ length m
       → Each Sound (map (readField m v at) fs) → Stands l (3 * i) (recordsOf (map (readField m v at) fs)) to
-      → Judges (judgeFields l (length m) fs) i to (map (readField m v at) fs)
+      → Judges (judgeFields l m fs) i to (map (readField m v at) fs)
   unfolding Each recordsOf needAfter if_then_else_
   fields-judged [] i at len from e to g u h sound s = (i, omega (arith, s .ends), fields-stop i)
   fields-judged (f ∷ fs) i at len from e to g u h sound s =
@@ -159,38 +200,38 @@ module _ (l m : List ℕ) (v : ℕ) where
   -- ---- data
 
   data-judged : (i at to : ℕ) (a : Answer × ℕ) → readData m at ≡ done a → Stands l (3 * i) (recordOf (a .0)) to
-      → judgeData l (length m) i ≡ done (a .0)
+      → judgeData l m i ≡ done (a .0)
   data-judged i at to a e s =
       let d = data-read m v at a e in
-      subst (λ (x : Answer × ℕ). Stands l (3 * i) (recordOf (x .0)) to → judgeData l (length m) i ≡ done (x .0)) (d .is)
+      subst (λ (x : Answer × ℕ). Stands l (3 * i) (recordOf (x .0)) to → judgeData l m i ≡ done (x .0)) (d .is)
       (λ o.
       let r = record-is i 2 (at + 2) (number16 m at) to (unfold recordOf in o) in
       octets-judged _ i (at + 2) (number16 m at) to (lt-ltb (third l i) null16 (omega (arith, r .is₃, d .whole)))
       (d .fits) o) s
 
-  datas-next : (d : Data) (ds : List Data) (i j : ℕ) (a : Answer) (r : List Answer) → judgeData l (length m) i ≡ done a
-      → judgeDatas l (length m) ds (suc i) ≡ done (r, j) → judgeDatas l (length m) (d ∷ ds) i ≡ done (a ∷ r, j)
+  datas-next : (d : Data) (ds : List Data) (i j : ℕ) (a : Answer) (r : List Answer) → judgeData l m i ≡ done a
+      → judgeDatas l m ds (suc i) ≡ done (r, j) → judgeDatas l m (d ∷ ds) i ≡ done (a ∷ r, j)
   unfolding judgeDatas _>>=_
   datas-next d ds i j a r e q = rw (e, q) refl
 
-  datas-stop : (i : ℕ) → judgeDatas l (length m) [] i ≡ done ([], i)
+  datas-stop : (i : ℕ) → judgeDatas l m [] i ≡ done ([], i)
   unfolding judgeDatas
   datas-stop i = refl
 
   datas-judged : (ds : List Data) (i at to : ℕ) (r : List Answer × ℕ) → UpTo v (dataSinces ds)
       → readDatas m v ds 0 at ≡ done r
-      → Stands l (3 * i) (recordsOf (r .0)) to → Judges (judgeDatas l (length m) ds) i to (r .0)
+      → Stands l (3 * i) (recordsOf (r .0)) to → Judges (judgeDatas l m ds) i to (r .0)
   unfolding Each recordsOf
   datas-judged [] i at to r u e s =
       subst (λ (x : List Answer × ℕ). Stands l (3 * i) (recordsOf (x .0)) to
-      → Judges (judgeDatas l (length m) []) i to (x .0)) (done-inj (sym (no-datas m v at) ∙ e))
+      → Judges (judgeDatas l m []) i to (x .0)) (done-inj (sym (no-datas m v at) ∙ e))
       (λ o. (i, omega (arith, o .ends), datas-stop i)) s
   datas-judged (d ∷ ds) i at to r u e s =
       let w = datas-read m v d ds at r (u .0) e in
       let a = w .first .0 in
       let rest = w .rest .0 in
       subst (λ (x : List Answer × ℕ). Stands l (3 * i) (recordsOf (x .0)) to
-      → Judges (judgeDatas l (length m) (d ∷ ds)) i to (x .0)) (w .is)
+      → Judges (judgeDatas l m (d ∷ ds)) i to (x .0)) (w .is)
       (λ o.
       let c = split-to (recordOf a) (recordsOf rest) (3 * suc i) (omega (arith, record-three a)) o in
       let k = datas-judged ds (suc i) (w .first .1) to (w .rest) (u .1) (w .after) (c .1) in
@@ -207,9 +248,9 @@ module _ (l m : List ℕ) (v : ℕ) where
 
   block-next : (s : Shape) (f : ℕ → Result (Values × ℕ)) (i j k e : ℕ) (fs : List Answer) (g : Values)
       (ds : List Answer)
-      → judgeFields l (length m) (s .fields) i ≡ done (fs, j) → f j ≡ done (g, k)
-      → judgeDatas l (length m) (s .datas) k ≡ done (ds, e)
-      → judgeBlock l (length m) s f i ≡ done (fs, g, ds, e)
+      → judgeFields l m (s .fields) i ≡ done (fs, j) → f j ≡ done (g, k)
+      → judgeDatas l m (s .datas) k ≡ done (ds, e)
+      → judgeBlock l m s f i ≡ done (fs, g, ds, e)
   unfolding judgeBlock _>>=_
   block-next s f i j k e fs g ds a b c = rw (a, b, c) refl
 
@@ -221,7 +262,7 @@ module _ (l m : List ℕ) (v : ℕ) where
     block-judged : (i at : ℕ) (b : Entry) (rest : List ℕ) (to : ℕ) → Each Sound (b .0) → AllSound (b .1)
         → readBlock m v s f 0 n at ≡ done b
         → Stands l (3 * i) (entryListed b rest) to
-        → (j : ℕ) × (judgeBlock l (length m) s f′ i ≡ done (b .0, b .1, b .2, j)) × (Stands l (3 * j) rest to)
+        → (j : ℕ) × (judgeBlock l m s f′ i ≡ done (b .0, b .1, b .2, j)) × (Stands l (3 * j) rest to)
     unfolding readBlock
     block-judged i at b rest to in₁ in₂ e st =
         let p = inv-bind _ _ _ e in
@@ -229,7 +270,7 @@ module _ (l m : List ℕ) (v : ℕ) where
         let k = inv-bind _ _ _ (q .next) in
         let fits : at + n ≤ length m = leb-true (at + n) (length m) (inv-must _ _ _ _ (p .first)) in
         subst (λ (x : Entry). Each Sound (x .0) → AllSound (x .1) → Stands l (3 * i) (entryListed x rest) to
-        → (j : ℕ) × (judgeBlock l (length m) s f′ i ≡ done (x .0, x .1, x .2, j)) × (Stands l (3 * j) rest to))
+        → (j : ℕ) × (judgeBlock l m s f′ i ≡ done (x .0, x .1, x .2, j)) × (Stands l (3 * j) rest to))
         (done-inj (k .next))
         (λ in₁′ in₂′ o.
         let fs = map (readField m v at) (s .fields) in
@@ -250,22 +291,22 @@ module _ (l m : List ℕ) (v : ℕ) where
         )) in₁ in₂ st
 
     entries-next : (k i j e : ℕ) (fs : List Answer) (g : Values) (ds : List Answer) (r : Values)
-        → judgeBlock l (length m) s f′ i ≡ done (fs, g, ds, j)
-        → judgeEntries l (length m) k (judgeBlock l (length m) s f′) j ≡ done (r, e)
-        → judgeEntries l (length m) (suc k) (judgeBlock l (length m) s f′) i ≡ done (entry fs g ds r, e)
+        → judgeBlock l m s f′ i ≡ done (fs, g, ds, j)
+        → judgeEntries l m k (judgeBlock l m s f′) j ≡ done (r, e)
+        → judgeEntries l m (suc k) (judgeBlock l m s f′) i ≡ done (entry fs g ds r, e)
     unfolding judgeEntries _>>=_
     entries-next k i j e fs g ds r a b = rw (a, b) refl
 
-    entries-stop : (i : ℕ) → judgeEntries l (length m) 0 (judgeBlock l (length m) s f′) i ≡ done (nil, i)
+    entries-stop : (i : ℕ) → judgeEntries l m 0 (judgeBlock l m s f′) i ≡ done (nil, i)
     unfolding judgeEntries
     entries-stop i = refl
 
     entries-judged : (k : ℕ) → Agree (readEntries k (readBlock m v s f 0 n))
-        (judgeEntries l (length m) k (judgeBlock l (length m) s f′))
+        (judgeEntries l m k (judgeBlock l m s f′))
     unfolding readEntries AllSound listing
     entries-judged zero at i to r e sound st =
         subst (λ (x : Values × ℕ). Stands l (3 * i) (listing (x .0)) to
-        → Judges (judgeEntries l (length m) 0 (judgeBlock l (length m) s f′)) i to (x .0)) (done-inj e)
+        → Judges (judgeEntries l m 0 (judgeBlock l m s f′)) i to (x .0)) (done-inj e)
         (λ o. (i, omega (arith, o .ends), entries-stop i)) st
     entries-judged (suc k) at i to r e sound st =
         let p = inv-bind _ _ _ e in
@@ -273,7 +314,7 @@ module _ (l m : List ℕ) (v : ℕ) where
         let b = p .value in
         let rest = q .value .0 in
         subst (λ (x : Values × ℕ). AllSound (x .0) → Stands l (3 * i) (listing (x .0)) to
-        → Judges (judgeEntries l (length m) (suc k) (judgeBlock l (length m) s f′)) i to (x .0)) (done-inj (q .next))
+        → Judges (judgeEntries l m (suc k) (judgeBlock l m s f′)) i to (x .0)) (done-inj (q .next))
         (λ sound′ o.
         let w = block-judged i at b (listing rest) to (sound′ .0) (sound′ .1) (p .first) o in
         let z = entries-judged k (b .3) (w .0) to (q .value) (q .first) (sound′ .2) (w .2) in
@@ -281,22 +322,22 @@ module _ (l m : List ℕ) (v : ℕ) where
 
   groups-next : (id since : ℕ) (s : Shape) (inner rest : Groups) (i j k e : ℕ) (es gs : Values) → RecordIs i 4 k 0
       → k < null16
-      → judgeEntries l (length m) k (judgeBlock l (length m) s (judgeGroups l (length m) inner)) (suc i) ≡ done (es, j)
-      → judgeGroups l (length m) rest j ≡ done (gs, e)
-      → judgeGroups l (length m) (more id since s inner rest) i ≡ done (group (Group k) es gs, e)
+      → judgeEntries l m k (judgeBlock l m s (judgeGroups l m inner)) (suc i) ≡ done (es, j)
+      → judgeGroups l m rest j ≡ done (gs, e)
+      → judgeGroups l m (more id since s inner rest) i ≡ done (group (Group k) es gs, e)
   unfolding judgeGroups must _>>=_ _and_
   groups-next id since s inner rest i j k e es gs r h a b =
       rw (r .there, r .is₁, r .is₂, r .is₃, lt-ltb k null16 h, a, b) refl
 
-  groups-stop : (i : ℕ) → judgeGroups l (length m) none i ≡ done (nil, i)
+  groups-stop : (i : ℕ) → judgeGroups l m none i ≡ done (nil, i)
   unfolding judgeGroups
   groups-stop i = refl
 
-  groups-judged : (gs : Groups) → GoodGroups v gs → Agree (readGroups m v gs 0) (judgeGroups l (length m) gs)
+  groups-judged : (gs : Groups) → GoodGroups v gs → Agree (readGroups m v gs 0) (judgeGroups l m gs)
   unfolding GoodGroups AllSound listing recordOf
   groups-judged none good at i to r e sound st =
       subst (λ (x : Values × ℕ). Stands l (3 * i) (listing (x .0)) to
-      → Judges (judgeGroups l (length m) none) i to (x .0)) (done-inj (sym (no-groups m v at) ∙ e))
+      → Judges (judgeGroups l m none) i to (x .0)) (done-inj (sym (no-groups m v at) ∙ e))
       (λ o. (i, omega (arith, o .ends), groups-stop i)) st
   groups-judged (more id since s inner rest) good at i to r e sound st =
       let w = group-read m v id since s inner rest at r (good .0) e in
@@ -305,11 +346,11 @@ module _ (l m : List ℕ) (v : ℕ) where
       let gs = w .others .0 in
       let d = dimension-read m v (need v s) at (w .sizes) (w .dimension) in
       subst (λ (x : Values × ℕ). AllSound (x .0) → Stands l (3 * i) (listing (x .0)) to
-      → Judges (judgeGroups l (length m) (more id since s inner rest)) i to (x .0)) (w .is)
+      → Judges (judgeGroups l m (more id since s inner rest)) i to (x .0)) (w .is)
       (λ sound′ o.
       let o₁ = split-to (4 ∷ k ∷ 0 ∷ []) (listing es ++ listing gs) (3 * suc i) (omega arith) o in
       let o₂ = split-to (listing es) (listing gs) _ refl (o₁ .1) in
-      let a = entries-judged s (readGroups m v inner 0) (judgeGroups l (length m) inner) (w .sizes .0) (good .1)
+      let a = entries-judged s (readGroups m v inner 0) (judgeGroups l m inner) (w .sizes .0) (good .1)
       (d .enough) (groups-judged inner (good .2)) k
       (at + dimensionSize) (suc i) _ (w .entries) (w .reads) (sound′ .0) (o₂ .0) in
       let c = groups-judged rest (good .3) (w .entries .1) (a .0) to (w .others) (w .after) (sound′ .1)
@@ -326,11 +367,11 @@ module _ (l m : List ℕ) (v : ℕ) where
       → AllSound (entry (b .0) (b .1) (b .2) nil)
       → readBlock m v (t .shape) (readGroups m v (t .groups) 0) 0 n at ≡ done b
       → listing (entry (b .0) (b .1) (b .2) nil) ≡ l
-      → judgeListing l (length m) t ≡ done (entry (b .0) (b .1) (b .2) nil)
+      → judgeListing l m t ≡ done (entry (b .0) (b .1) (b .2) nil)
   unfolding judgeListing must _>>=_ AllSound listing
   listing-judged t n at b good gg enough sound e is =
       let w = block-judged (t .shape) (readGroups m v (t .groups) 0)
-      (judgeGroups l (length m) (t .groups)) n good enough (groups-judged (t .groups) gg)
+      (judgeGroups l m (t .groups)) n good enough (groups-judged (t .groups) gg)
       0 at b [] (length l) (sound .0) (sound .1) e
       (subst (λ (x : List ℕ). Stands l 0 x (length l)) (sym is) (all-stands l)) in
       let q : 3 * w .0 ≡ length l = omega (arith, w .2 .ends) in

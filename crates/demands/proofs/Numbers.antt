@@ -6,7 +6,6 @@ use mathlib.Core.Option.{Option, none as no, some}
 use Prim.Native.Nat.{_*_, _+_, _<_, _≤_, suc, zero, ℕ}
 use native.Mathlib.Omega.{arith}
 use lib.Dec.{leb}
-use lib.ListN.{length}
 use borrow.Author.Tests.{leb-false, leb-true}
 use Rattle.layout.specs.Result.{Result, _>>=_, asRefusal, done, must, orRefuse, refused}
 use Rattle.layout.specs.Lists.{NameList}
@@ -17,8 +16,8 @@ use Rattle.layout.specs.Message.{Entry, checkHeader, headerNumbers, headerWhole
 use Rattle.layout.specs.Message.{readDimension, readEntries, readGroup, readGroups, readMessage, readRoot, skipDatas}
 use Rattle.layout.specs.Message.{readWhole, skipGroups, surplusOf}
 use Rattle.layout.specs.Reading.{checkOf, listOf, placeAsked, placeBy, stepsOf}
-use Rattle.layout.specs.Writing.{judgeBlock, judgeDatas, judgeEntries, judgeFields, judgeGroups, judgeListing}
-use Rattle.layout.specs.Writing.{judgeNumber, judgeOctets, writeOf}
+use Rattle.layout.specs.Writing.{judgeArray, judgeBlock, judgeDatas, judgeEntries, judgeFields, judgeGroups}
+use Rattle.layout.specs.Writing.{judgeListing, judgeNull, judgeNumber, judgeOctets, writeOf}
 use Rattle.layout.specs.Contracts.{checked}
 use Rattle.demands.proofs.Outcomes.{Reads, goes-on, not-listed, stops, was-accepted}
 use Rattle.demands.proofs.Written.{lists-within}
@@ -207,27 +206,39 @@ answer-refuses (s ∷ p) x r = answer-refuses p x _
 
 -- ---- 50 to 55
 
-module _ (l : List ℕ) (n : ℕ) where
-  octets-refuse : (fits : Bool) (i : ℕ) → Refuses 50 55 (judgeOctets l n fits i)
+module _ (l pool : List ℕ) where
+  octets-refuse : (fits : Bool) (i : ℕ) → Refuses 50 55 (judgeOctets l pool fits i)
   unfolding judgeOctets
   octets-refuse fits i =
       refuses-unless 50 55 _ 51 i _ (omega arith) λ _.
       refuses-unless 50 55 _ 53 i _ (omega arith) λ _. refuses-done 50 55 _
 
-  number-refuses : (f : Field) (i : ℕ) → Refuses 50 55 (judgeNumber l n f i)
+  number-refuses : (f : Field) (i : ℕ) → Refuses 50 55 (judgeNumber l f i)
   unfolding judgeNumber
   number-refuses f i =
       refuses-unless 50 55 _ 51 i _ (omega arith) λ _.
       refuses-unless 50 55 _ 52 i _ (omega arith) λ _. refuses-done 50 55 _
 
-  judged-fields-refuse : (fs : List Field) (i : ℕ) → Refuses 50 55 (judgeFields l n fs i)
+  null-refuses : (f : Field) (i : ℕ) → Refuses 50 55 (judgeNull l f i)
+  unfolding judgeNull
+  null-refuses f i =
+      refuses-unless 50 55 _ 51 i _ (omega arith) λ _.
+      refuses-unless 50 55 _ 52 i _ (omega arith) λ _. refuses-done 50 55 _
+
+  array-refuses : (f : Field) (i : ℕ) → Refuses 50 55 (judgeArray l pool f i)
+  unfolding judgeArray
+  array-refuses f i =
+      either (Refuses 50 55) _ _ _ (either (Refuses 50 55) _ _ _ (null-refuses f i) (octets-refuse _ i))
+      (octets-refuse _ i)
+
+  judged-fields-refuse : (fs : List Field) (i : ℕ) → Refuses 50 55 (judgeFields l pool fs i)
   unfolding judgeFields
   judged-fields-refuse [] i = refuses-done 50 55 _
   judged-fields-refuse (f ∷ fs) i =
-      refuses-bind 50 55 _ _ (either (Refuses 50 55) _ _ _ (octets-refuse _ i) (number-refuses f i)) λ a.
+      refuses-bind 50 55 _ _ (either (Refuses 50 55) _ _ _ (array-refuses f i) (number-refuses f i)) λ a.
       refuses-bind 50 55 _ _ (judged-fields-refuse fs (suc i)) λ x. refuses-done 50 55 _
 
-  judged-datas-refuse : (ds : List Data) (i : ℕ) → Refuses 50 55 (judgeDatas l n ds i)
+  judged-datas-refuse : (ds : List Data) (i : ℕ) → Refuses 50 55 (judgeDatas l pool ds i)
   unfolding judgeDatas
   judged-datas-refuse [] i = refuses-done 50 55 _
   judged-datas-refuse (d ∷ ds) i =
@@ -235,7 +246,7 @@ module _ (l : List ℕ) (n : ℕ) where
       refuses-bind 50 55 _ _ (judged-datas-refuse ds (suc i)) λ x. refuses-done 50 55 _
 
   judged-block-refuses : (s : Shape) (f : ℕ → Result (Values × ℕ)) (i : ℕ) → ((j : ℕ) → Refuses 50 55 (f j))
-      → Refuses 50 55 (judgeBlock l n s f i)
+      → Refuses 50 55 (judgeBlock l pool s f i)
   unfolding judgeBlock
   judged-block-refuses s f i h =
       refuses-bind 50 55 _ _ (judged-fields-refuse (s .fields) i) λ x.
@@ -243,14 +254,14 @@ module _ (l : List ℕ) (n : ℕ) where
       refuses-bind 50 55 _ _ (judged-datas-refuse (s .datas) (y .1)) λ z. refuses-done 50 55 _
 
   judged-entries-refuse : (k : ℕ) (f : ℕ → Result Entry) (i : ℕ) → ((j : ℕ) → Refuses 50 55 (f j))
-      → Refuses 50 55 (judgeEntries l n k f i)
+      → Refuses 50 55 (judgeEntries l pool k f i)
   unfolding judgeEntries
   judged-entries-refuse zero f i h = refuses-done 50 55 _
   judged-entries-refuse (suc k) f i h =
       refuses-bind 50 55 _ _ (h i) λ x.
       refuses-bind 50 55 _ _ (judged-entries-refuse k f (x .3) h) λ y. refuses-done 50 55 _
 
-  judged-groups-refuse : (gs : Groups) (i : ℕ) → Refuses 50 55 (judgeGroups l n gs i)
+  judged-groups-refuse : (gs : Groups) (i : ℕ) → Refuses 50 55 (judgeGroups l pool gs i)
   unfolding judgeGroups
   judged-groups-refuse none i = refuses-done 50 55 _
   judged-groups-refuse (more id since s inner rest) i =
@@ -260,7 +271,7 @@ module _ (l : List ℕ) (n : ℕ) where
       (judged-entries-refuse _ _ (suc i) λ j. judged-block-refuses s _ j (judged-groups-refuse inner)) λ x.
       refuses-bind 50 55 _ _ (judged-groups-refuse rest (x .1)) λ y. refuses-done 50 55 _
 
-  listing-refuses : (t : Template) → Refuses 50 55 (judgeListing l n t)
+  listing-refuses : (t : Template) → Refuses 50 55 (judgeListing l pool t)
   unfolding judgeListing
   listing-refuses t =
       refuses-bind 50 55 _ _ (judged-block-refuses (t .shape) _ 0 (judged-groups-refuse (t .groups))) λ x.
@@ -324,5 +335,5 @@ unfolding writeOf
 write-refuses book id l pool room b e =
     rw (e, bind-done)
     (refuses-bind 50 55 _ _ (refuses-found 50 55 _ 50 0 (omega arith)) λ t.
-    refuses-bind 50 55 _ _ (listing-refuses l (length pool) t) λ r.
+    refuses-bind 50 55 _ _ (listing-refuses l pool t) λ r.
     refuses-unless 50 55 _ 55 0 _ (omega arith) λ _. refuses-done 50 55 _)

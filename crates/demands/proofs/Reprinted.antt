@@ -6,21 +6,21 @@ use mathlib.Core.List.{List, [], _++_, _∷_, map}
 use Prim.Native.Nat.{_+_, _-_, _≤_, suc, zero, ℕ}
 use native.Mathlib.Omega.{arith}
 use lib.Dec.{eqb}
-use lib.ListN.{length, length-replicate, replicate}
+use lib.ListN.{drop, length, length-replicate, replicate, take}
 use borrow.Author.Tests.{eqb-true, le-leb, leb-true}
 use Rattle.layout.specs.Result.{Each, Result, _and_, done, if_then_else_}
-use Rattle.layout.specs.Octets.{AllOctets, number16, numberAt, octetsOf}
+use Rattle.layout.specs.Octets.{AllOctets, number16, numberAt, octetsOf, textLength}
 use Rattle.layout.specs.Types.{TypeRow, classify, inRange, typeAt, valueOf}
 use Rattle.layout.specs.Lists.{beside}
-use Rattle.layout.specs.Book.{Data, Field, Groups, Shape, dataSinces, end, fieldSinces, isArray, isOptional, more, need}
-use Rattle.layout.specs.Book.{none}
+use Rattle.layout.specs.Book.{Data, Field, Groups, Shape, dataSinces, end, fieldSinces, isArray, isChar, isOptional}
+use Rattle.layout.specs.Book.{more, need, none}
 use Rattle.layout.specs.BookRules.{fieldsGood, lengthGood}
 use Rattle.layout.specs.Values.{Values, entry, group, nil}
-use Rattle.layout.specs.Message.{Entry, dimensionSize, readBlock, readData, readDatas, readEntries, readField}
+use Rattle.layout.specs.Message.{Entry, arrayAt, dimensionSize, readBlock, readData, readDatas, readEntries, readField}
 use Rattle.layout.specs.Message.{readGroups}
 use Rattle.layout.specs.Writing.{blockOctets, dataOctets, datasLength, entriesIn, fieldOctets, rowLength, rowOctets}
 use Rattle.layout.specs.Writing.{spanOf}
-use Rattle.layout.specs.Demands.{AllSound, OwnBlocks, Sound, ZeroPadding, Zeros}
+use Rattle.layout.specs.Demands.{AllSound, OwnBlocks, Sound, ZeroPadding, ZeroTail, Zeros}
 use Rattle.demands.proofs.Read.{DimensionRead, data-read, datas-read, dimension-read, group-read}
 use Rattle.demands.proofs.Reread.{no-datas, no-groups}
 use Rattle.layout.proofs.ListLaws.{beside-sound}
@@ -28,6 +28,7 @@ use Rattle.layout.proofs.Fields.{field-good, size-array, size-plain}
 use Rattle.layout.proofs.Present.{GoodGroups, GoodShape, UpTo}
 use Rattle.layout.proofs.Results.{and-right, done-inj, inv-bind, inv-must}
 use Rattle.layout.proofs.Stands.{AreAt, Stands, join, nothing-stands, numbers-stand, octets-stand, slice-stands}
+use Rattle.layout.proofs.Texts.{text-within}
 use Rattle.layout.proofs.TypeLaws.{octets-value}
 use Rattle.layout.specs.declared.Answer.{Answer}
 use Rattle.layout.specs.declared.Answer.the-variants.{Group, Null, Number, Octets, OutOfRange}
@@ -40,11 +41,11 @@ module _ (m : List ℕ) (v : ℕ) (octets : AllOctets m) where
       let l : length (replicate {A = ℕ} n 0) ≡ b - a = length-replicate {A = ℕ} n 0 ∙ e in
       record { whole = rw (l, e) z; ends = omega (arith, l); fits = k }
 
-  class-stands : (f : Field) (p : ℕ) → let k = typeAt (f .type) in
+  class-stands : (f : Field) (p : ℕ) → isArray f ≡ false → let k = typeAt (f .type) in
       let a = classify k (isOptional f) (valueOf k (numberAt (k .width) m p)) in
       p + k .width ≤ length m → Sound a → Stands m p (fieldOctets m f a) (p + k .width)
   unfolding classify if_then_else_ fieldOctets Sound
-  class-stands f p h s = go (isOptional f and eqb y (k .null)) refl (inRange k y) s
+  class-stands f p plain h s = go (isOptional f and eqb y (k .null)) refl (inRange k y) s
     where
       k : TypeRow
       k = typeAt (f .type)
@@ -57,20 +58,44 @@ module _ (m : List ℕ) (v : ℕ) (octets : AllOctets m) where
           → Stands m p (fieldOctets m f (if b then Null else if c then Number y else OutOfRange y)) (p + k .width)
       go true e c s =
           let n : y ≡ k .null = eqb-true y (k .null) (and-right _ _ e) in
-          octets-stand m octets (k .width) p (k .null) h (ap (octetsOf (k .width)) (sym n) ∙ octets-value (f .type) _)
+          rw plain (octets-stand m octets (k .width) p (k .null) h
+          (ap (octetsOf (k .width)) (sym n) ∙ octets-value (f .type) _))
       go false e true s = octets-stand m octets (k .width) p y h (octets-value (f .type) _)
       go false e false s = absurd s
 
-  array-stands : (f : Field) (p : ℕ) → p + f .length ≤ length m
-      → Stands m p (fieldOctets m f (Octets p (f .length))) (p + f .length)
-  unfolding fieldOctets spanOf
-  array-stands f p h = slice-stands m p (f .length) h
+  array-stands : (f : Field) (at : ℕ) → isArray f ≡ true → at + f .offset + f .length ≤ length m → ZeroTail m at f
+      → let p = at + f .offset in Stands m p (fieldOctets m f (arrayAt m p f)) (p + f .length)
+  unfolding fieldOctets spanOf arrayAt if_then_else_ _and_
+  array-stands f at y h tail = go (isChar f) refl (isOptional f and eqb n 0) refl
+    where
+      p : ℕ
+      p = at + f .offset
+
+      n : ℕ
+      n = textLength (take (f .length) (drop p m))
+
+      zeros : isChar f ≡ true → Zeros m (p + n) (p + f .length)
+      zeros c = tail (rw (y, c) refl)
+
+      go : (c : Bool) → isChar f ≡ c → (b : Bool) → (isOptional f and eqb n 0) ≡ b
+          → Stands m p (fieldOctets m f (if c then (if b then Null else Octets p n) else Octets p (f .length)))
+          (p + f .length)
+      go true c true e =
+          let q : p + n ≡ p = omega (arith, eqb-true n 0 (and-right (isOptional f) (eqb n 0) e)) in
+          rw y (zeros-stand p (p + f .length) (f .length) (rw q at (zeros c)) (omega arith) (omega arith) h)
+      go true c false e =
+          let short = text-within (f .length) (drop p m) in
+          join _ _ (slice-stands m p n (omega arith))
+          (zeros-stand (p + n) (p + f .length) (f .length - n) (zeros c) (omega arith) (omega arith) h)
+      go false c b e =
+          let q : f .length - f .length ≡ 0 = omega arith in
+          rw q (join _ _ (slice-stands m p (f .length) h) (nothing-stands m (p + f .length) h))
 
   field-stands : (f : Field) (at : ℕ) → lengthGood f ≡ true → f .since ≤ v → at + end f ≤ length m
-      → Sound (readField m v at f)
+      → ZeroTail m at f → Sound (readField m v at f)
       → Stands m (at + f .offset) (fieldOctets m f (readField m v at f)) (at + end f)
   unfolding readField if_then_else_
-  field-stands f at g u h s = rw (le-leb (f .since) v u) (go (isArray f) refl (rw (le-leb (f .since) v u) at s))
+  field-stands f at g u h tail s = rw (le-leb (f .since) v u) (go (isArray f) refl (rw (le-leb (f .since) v u) at s))
     where
       k : TypeRow
       k = typeAt (f .type)
@@ -82,30 +107,31 @@ module _ (m : List ℕ) (v : ℕ) (octets : AllOctets m) where
       number = classify k (isOptional f) (valueOf k (numberAt (k .width) m p))
 
       a : Bool → Answer
-      a y = if y then Octets p (f .length) else beside (f .names) number
+      a y = if y then arrayAt m p f else beside (f .names) number
 
       go : (y : Bool) → isArray f ≡ y → Sound (a y) → Stands m p (fieldOctets m f (a y)) (at + end f)
       go true y s =
           let q : p + f .length ≡ at + end f = omega (arith, size-array f g y) in
-          rw (← q) (array-stands f p (omega (arith, q)))
+          rw (← q) (array-stands f at y (omega (arith, q)) tail)
       go false y s =
           let q : p + k .width ≡ at + end f = omega (arith, size-plain f g y) in
           let e = beside-sound (f .names) number s in
-          rw (← q, e) (class-stands f p (omega (arith, q)) (rw e at s))
+          rw (← q, e) (class-stands f p y (omega (arith, q)) (rw e at s))
 
   fields-stand : (fs : List Field) (base len from : ℕ) → fieldsGood len from fs ≡ true → UpTo v (fieldSinces fs)
       → from ≤ len
-      → base + len ≤ length m → ZeroPadding m base len from fs → Each Sound (map (readField m v base) fs)
+      → base + len ≤ length m → ZeroPadding m base len from fs → Each (ZeroTail m base) fs
+      → Each Sound (map (readField m v base) fs)
       → Stands m (base + from) (blockOctets m len from fs (map (readField m v base) fs)) (base + len)
   unfolding Each ZeroPadding blockOctets
-  fields-stand [] base len from g u w h p s =
+  fields-stand [] base len from g u w h p z s =
       zeros-stand (base + from) (base + len) (len - from) p (omega arith) (omega arith) h
-  fields-stand (f ∷ fs) base len from g u w h p s =
+  fields-stand (f ∷ fs) base len from g u w h p z s =
       let k = field-good len from f fs g in
       join _ _ (zeros-stand (base + from) (base + f .offset) (f .offset - from) (p .0) (omega arith)
       (omega (arith, k .placed)) (omega (arith, k .ended)))
-      (join _ _ (field-stands f base (k .length) (u .0) (omega (arith, k .ended)) (s .0))
-      (fields-stand fs base len (end f) (k .rest) (u .1) (k .ended) h (p .1) (s .1)))
+      (join _ _ (field-stands f base (k .length) (u .0) (omega (arith, k .ended)) (z .0) (s .0))
+      (fields-stand fs base len (end f) (k .rest) (u .1) (k .ended) h (p .1) (z .1) (s .1)))
 
   -- ---- data
 
@@ -158,12 +184,12 @@ module _ (m : List ℕ) (v : ℕ) (octets : AllOctets m) where
 
   pub block-stands : (s : Shape) (gs : Groups) (f : ℕ → Result (Values × ℕ)) (at : ℕ) (b : Entry) → GoodShape v s
       → Reprints s gs f
-      → ZeroPadding m at (s .length) 0 (s .fields) → OwnBlocks m s gs (at + s .length) (b .1) → Each Sound (b .0)
-      → AllSound (b .1)
+      → ZeroPadding m at (s .length) 0 (s .fields) → Each (ZeroTail m at) (s .fields)
+      → OwnBlocks m s gs (at + s .length) (b .1) → Each Sound (b .0) → AllSound (b .1)
       → readBlock m v s f 0 (s .length) at ≡ done b
       → Stands m at (entryPrinted s gs b) (b .3) × (b .3 ≡ at + rowLength s gs (entry (b .0) (b .1) (b .2) nil))
   unfolding readBlock rowLength
-  block-stands s gs f at b good ih pad own in₁ in₂ e =
+  block-stands s gs f at b good ih pad tails own in₁ in₂ e =
       let p = inv-bind _ _ _ e in
       let q = inv-bind _ _ _ (p .next) in
       let k = inv-bind _ _ _ (q .next) in
@@ -175,7 +201,7 @@ module _ (m : List ℕ) (v : ℕ) (octets : AllOctets m) where
       let g = ih (at + s .length) (q .value) fits own′ in₂′ (q .first) in
       let d = datas-stand (s .datas) (q .value .1) (k .value) (good .datasIn) (g .0 .fits) (k .first) in (
         join _ _ (to-zero (fields-stand (s .fields) at (s .length) 0 (good .fields) (good .fieldsIn)
-            (omega arith) fits pad in₁′)) (join _ _ (g .0) (d .0)),
+            (omega arith) fits pad tails in₁′)) (join _ _ (g .0) (d .0)),
         omega (arith, g .1, d .1),
       )) own in₁ in₂
     where
@@ -193,9 +219,9 @@ module _ (m : List ℕ) (v : ℕ) (octets : AllOctets m) where
       subst (λ (x : Values × ℕ). OwnBlocks m s gs at (x .0) → AllSound (x .0) → Printed s gs at x)
       (done-inj (q .next))
       (λ o i.
-      let b = block-stands s gs f at (p .value) good ih (o .0) (o .1) (i .0) (i .1) (p .first) in
+      let b = block-stands s gs f at (p .value) good ih (o .0) (o .1) (o .2) (i .0) (i .1) (p .first) in
       let rest = entries-stand s gs f k good ih (p .value .3) (q .value) (b .0 .fits)
-      (subst (λ (x : ℕ). OwnBlocks m s gs x (q .value .0)) (sym (b .1)) (o .2)) (i .2) (q .first) in
+      (subst (λ (x : ℕ). OwnBlocks m s gs x (q .value .0)) (sym (b .1)) (o .3)) (i .2) (q .first) in
       (join _ _ (b .0) (rest .0), omega (arith, b .1, rest .1))) own sound
 
   group-stands : (i since : ℕ) (s : Shape) (inner rest : Groups) (s₀ : Shape) (at : ℕ) (d : ℕ × ℕ)

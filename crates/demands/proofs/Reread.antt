@@ -6,26 +6,27 @@ use Prim.Native.Nat.{_*_, _+_, _-_, _<_, _^_, _≤_, suc, zero, ℕ}
 use native.Mathlib.Nat.{mod-eq-of-lt}
 use native.Mathlib.Omega.{arith}
 use lib.Dec.{eqb}
-use lib.ListN.{drop, length, length-replicate, replicate, take}
-use borrow.Author.Tests.{eq-eqb, le-leb, lt-ltb, ltb-true, not-true}
+use lib.ListN.{drop, length, length-append, length-replicate, replicate, take}
+use borrow.Author.Tests.{eq-eqb, eqb-true, le-leb, leb-true, lt-ltb, ltb-true, not-true}
 use Rattle.layout.specs.Result.{Each, Result, _>>=_, _and_, done, if_then_else_, must}
-use Rattle.layout.specs.Octets.{Numbers64, null16, number16, numberAt, octetsOf}
+use Rattle.layout.specs.Octets.{Numbers64, null16, number16, numberAt, octetsOf, textLength}
 use Rattle.layout.specs.Types.{TypeRow, classify, inRange, typeAt, valueOf}
 use Rattle.layout.specs.Lists.{beside, has}
-use Rattle.layout.specs.Book.{Data, Field, Groups, Shape, dataSinces, end, fieldSinces, isArray, isOptional, more, need}
-use Rattle.layout.specs.Book.{none}
+use Rattle.layout.specs.Book.{Data, Field, Groups, Shape, dataSinces, end, fieldSinces, isArray, isChar, isOptional}
+use Rattle.layout.specs.Book.{more, need, none}
 use Rattle.layout.specs.BookRules.{fieldsGood}
 use Rattle.layout.specs.Values.{Values, entry, group, nil}
-use Rattle.layout.specs.Message.{Entry, dimensionSize, readBlock, readData, readDatas, readDimension, readEntries}
-use Rattle.layout.specs.Message.{readField, readGroup, readGroups, skipDatas, skipGroups}
+use Rattle.layout.specs.Message.{Entry, arrayAt, dimensionSize, readBlock, readData, readDatas, readDimension}
+use Rattle.layout.specs.Message.{readEntries, readField, readGroup, readGroups, skipDatas, skipGroups}
 use Rattle.layout.specs.Writing.{blockOctets, dataOctets, entriesIn, fieldOctets, first, judgeBlock, judgeData}
 use Rattle.layout.specs.Writing.{judgeDatas, judgeEntries, judgeField, judgeFields, judgeGroups, numbers16, rowOctets}
-use Rattle.layout.specs.Writing.{second, spanOctets, spanOf, third}
+use Rattle.layout.specs.Writing.{second, spanOctets, spanOf, textFits, third}
 use Rattle.demands.proofs.Contents.{contentOf, contentsOf, treeContents}
 use Rattle.layout.proofs.ListLaws.{beside-listed}
 use Rattle.layout.proofs.Lengths.{field-long, fields-long, span-long}
 use Rattle.layout.proofs.Present.{GoodGroups, GoodShape, UpTo}
-use Rattle.layout.proofs.Said.{OctetsSaid, array-said, data-said, number-said}
+use Rattle.layout.proofs.Said.{ArraySaid, OctetsSaid, array-said, data-said, null, number-said, plain, text}
+use Rattle.layout.proofs.Texts.{text-filled, text-zeros}
 use Rattle.layout.proofs.Fields.{field-good, need-within}
 use Rattle.layout.proofs.Results.{and-left, and-right, done-inj, inv-bind, inv-both, inv-must}
 use Rattle.layout.proofs.Stands.{AreAt, Stands, length-numbers, length-octets, number-stands, numbers-are, split-to}
@@ -68,12 +69,13 @@ module _ (l pool m : List ℕ) (v : ℕ) (small : Numbers64 l) where
       let k = typeAt (f .type) in
       beside (f .names) (classify k (isOptional f) (valueOf k (numberAt (k .width) m at))) ≡ a
 
-  null-back-at : (f : Field) (at to : ℕ) → isOptional f ≡ true → Stands m at (fieldOctets pool f Null) to
+  null-back-at : (f : Field) (at to : ℕ) → isArray f ≡ false → isOptional f ≡ true
+      → Stands m at (fieldOctets pool f Null) to
       → ReadAs f at Null
-  unfolding fieldOctets beside
-  null-back-at f at to o s =
+  unfolding fieldOctets if_then_else_ beside
+  null-back-at f at to y o s =
       let k = typeAt (f .type) in
-      let e = ap (valueOf k) (number-stands (k .width) (k .null) s) ∙ null-back (f .type) in
+      let e = ap (valueOf k) (number-stands (k .width) (k .null) (rw y at s)) ∙ null-back (f .type) in
       rw (o, e) (ap (beside (f .names)) (class-null k))
 
   number-back-at : (f : Field) (x at to : ℕ) → x < 2 ^ 64
@@ -89,11 +91,11 @@ module _ (l pool m : List ℕ) (v : ℕ) (small : Numbers64 l) where
       ∙ beside-listed (f .names) x (and-right _ _ other))
 
   number-field : (f : Field) (i at to : ℕ) (a : Answer) → isArray f ≡ false
-      → judgeField l (length pool) f i ≡ done a
+      → judgeField l pool f i ≡ done a
       → Stands m at (fieldOctets pool f a) to → ReadAs f at a × (contentOf m a ≡ contentOf pool a)
   unfolding if_then_else_ contentOf
   number-field f i at to a y e s =
-      let q = number-said l (length pool) f i a y e in
+      let q = number-said l pool f i a y e in
       go (eqb (first l i) 1) (q .fits) (q .is)
     where
       k : TypeRow
@@ -102,11 +104,11 @@ module _ (l pool m : List ℕ) (v : ℕ) (small : Numbers64 l) where
       go : (b : Bool) → (if b then isOptional f
           else inRange k (second l i) and not (eqb (second l i) (k .null)) and has (f .names) (second l i)) ≡ true
           → (if b then Null else Number (second l i)) ≡ a → ReadAs f at a × (contentOf m a ≡ contentOf pool a)
-      go true h q = rw (← q) (null-back-at f at to h (rw (← q) at s), refl)
+      go true h q = rw (← q) (null-back-at f at to y h (rw (← q) at s), refl)
       go false h q = rw (← q) (number-back-at f (second l i) at to (small (3 * i + 1)) h (rw (← q) at s), refl)
 
   -- Octets that stand elsewhere are the same octets.
-  octets-same : (a : Answer) (at to i : ℕ) → OctetsSaid l (length pool) i a → Stands m at (spanOctets pool a) to
+  octets-same : (a : Answer) (at to i : ℕ) → OctetsSaid l pool i a → Stands m at (spanOctets pool a) to
       → contentOf m (Octets at (third l i)) ≡ contentOf pool a
   unfolding contentOf spanOf
   octets-same a at to i q s =
@@ -117,16 +119,65 @@ module _ (l pool m : List ℕ) (v : ℕ) (small : Numbers64 l) where
       rw (span-long pool start len (q .within)) at (s′ .whole) in
       rw (← (q .is)) (ap (λ (r : List ℕ). 2 ∷ r) w)
 
-  array-field : (f : Field) (i at to : ℕ) (a : Answer) → isArray f ≡ true → judgeField l (length pool) f i ≡ done a
-      → Stands m at (fieldOctets pool f a) to → contentOf m (Octets at (f .length)) ≡ contentOf pool a
-  unfolding fieldOctets
-  array-field f i at to a y e s =
-      let q = array-said l (length pool) f i a y e in
-      let o : fieldOctets pool f a ≡ spanOctets pool a = rw (← (q .0 .is)) refl in
-      rw (← (q .1)) (octets-same a at to i (q .0) (rw o at s))
+  -- Of an array that was written, the octets that were said stand first.
+  said-stands : (f : Field) (i at to : ℕ) (a : Answer) → OctetsSaid l pool i a → Stands m at (fieldOctets pool f a) to
+      → Stands m at (spanOctets pool a) (at + third l i)
+  unfolding fieldOctets spanOf
+  said-stands f i at to a q s =
+      let start = second l i in
+      let len = third l i in
+      let xs = take len (drop start pool) in
+      rw (← (q .is)) (split-to xs (replicate (f .length - len) 0) (at + len)
+      (omega (arith, span-long pool start len (q .within))) (rw (← (q .is)) at s) .0)
+
+  null-array : (f : Field) (at to : ℕ) → isArray f ≡ true → isChar f ≡ true → isOptional f ≡ true
+      → Stands m at (fieldOctets pool f Null) to → arrayAt m at f ≡ Null
+  unfolding fieldOctets arrayAt if_then_else_ _and_
+  null-array f at to y c o s =
+      let n = f .length in
+      let w : take n (drop at m) ≡ replicate n 0 = rw (length-replicate {A = ℕ} n 0) at (rw y at s .whole) in
+      rw (c, o, w, text-zeros n) refl
+
+  plain-array : (f : Field) (at : ℕ) → isChar f ≡ false → arrayAt m at f ≡ Octets at (f .length)
+  unfolding arrayAt if_then_else_
+  plain-array f at c = rw c refl
+
+  -- A text is read up to where it ended.
+  text-array : (f : Field) (i at to : ℕ) → isChar f ≡ true → textFits l pool f i ≡ true
+      → second l i + third l i ≤ length pool
+      → Stands m at (fieldOctets pool f (Octets (second l i) (third l i))) to
+      → arrayAt m at f ≡ Octets at (third l i)
+  unfolding fieldOctets spanOf arrayAt if_then_else_
+  text-array f i at to c h within s =
+      let n = f .length in
+      let len = third l i in
+      let xs = take len (drop (second l i) pool) in
+      let zs = replicate {A = ℕ} (n - len) 0 in
+      let long : length (xs ++ zs) ≡ n = length-append xs zs
+      ∙ omega (
+        arith,
+        span-long pool (second l i) len within,
+        length-replicate {A = ℕ} (n - len) 0,
+        leb-true len n (and-left _ _ h),
+      ) in
+      let w : take n (drop at m) ≡ xs ++ zs = rw long at (s .whole) in
+      let rest = and-right _ _ h in
+      let ends : textLength (take n (drop at m)) ≡ len =
+      ap textLength w ∙ text-filled xs (n - len) ∙ eqb-true (textLength xs) len (and-left _ _ rest) in
+      rw (c, ends, not-true (isOptional f and eqb len 0) (and-right _ _ rest)) refl
+
+  array-field : (f : Field) (i at to : ℕ) (a : Answer) → isArray f ≡ true → ArraySaid l pool f i a
+      → Stands m at (fieldOctets pool f a) to → contentOf m (arrayAt m at f) ≡ contentOf pool a
+  unfolding contentOf
+  array-field f i at to a y (null c n o e) s = rw (← e, null-array f at to y c o (rw (← e) at s)) refl
+  array-field f i at to a y (text c q h) s =
+      rw (text-array f i at to c h (q .within) (rw (← (q .is)) at s))
+      (octets-same a at (at + third l i) i q (said-stands f i at to a q s))
+  array-field f i at to a y (plain c q h) s =
+      rw (plain-array f at c, ← h) (octets-same a at (at + third l i) i q (said-stands f i at to a q s))
 
   field-back : (f : Field) (i base to : ℕ) (a : Answer) → f .since ≤ v
-      → judgeField l (length pool) f i ≡ done a
+      → judgeField l pool f i ≡ done a
       → Stands m (base + f .offset) (fieldOctets pool f a) to → contentOf m (readField m v base f) ≡ contentOf pool a
   unfolding readField if_then_else_
   field-back f i base to a h e s = rw (le-leb (f .since) v h) (go (isArray f) refl)
@@ -135,9 +186,9 @@ module _ (l pool m : List ℕ) (v : ℕ) (small : Numbers64 l) where
       k = typeAt (f .type)
 
       go : (y : Bool) → isArray f ≡ y
-          → contentOf m (if y then Octets (base + f .offset) (f .length) else beside (f .names) (classify k
+          → contentOf m (if y then arrayAt m (base + f .offset) f else beside (f .names) (classify k
           (isOptional f) (valueOf k (numberAt (k .width) m (base + f .offset))))) ≡ contentOf pool a
-      go true y = array-field f i (base + f .offset) to a y e s
+      go true y = array-field f i (base + f .offset) to a y (array-said l pool f i a y e) s
       go false y =
           let b = number-field f i (base + f .offset) to a y e s in
           ap (contentOf m) (b .0) ∙ b .1
@@ -145,7 +196,7 @@ module _ (l pool m : List ℕ) (v : ℕ) (small : Numbers64 l) where
   -- ---- the fields of a block that starts at base, from its octet `from` on
 
   fields-back : (fs : List Field) (len from i base to : ℕ) (r : List Answer × ℕ) → fieldsGood len from fs ≡ true
-      → UpTo v (fieldSinces fs) → judgeFields l (length pool) fs i ≡ done r
+      → UpTo v (fieldSinces fs) → judgeFields l pool fs i ≡ done r
       → Stands m (base + from) (blockOctets pool len from fs (r .0)) to
       → contentsOf m (map (readField m v base) fs) ≡ contentsOf pool (r .0)
   unfolding Each judgeFields blockOctets
@@ -174,13 +225,13 @@ module _ (l pool m : List ℕ) (v : ℕ) (small : Numbers64 l) where
   data-at at len n a b c = rw (n, le-leb (at + 2) (length m) a, lt-ltb len 65535 b, le-leb (at + 2 + len) (length m) c)
       refl
 
-  data-back : (i at to : ℕ) (a : Answer) (ds : List Answer) → judgeData l (length pool) i ≡ done a
+  data-back : (i at to : ℕ) (a : Answer) (ds : List Answer) → judgeData l pool i ≡ done a
       → Stands m at (dataOctets pool (a ∷ ds)) to
       → (b : Answer × ℕ) × (readData m at ≡ done b) × (contentOf m (b .0) ≡ contentOf pool a)
       × (Stands m (b .1) (dataOctets pool ds) to)
   unfolding dataOctets spanOf
   data-back i at to a ds e s =
-      let d = data-said l (length pool) i a e in
+      let d = data-said l pool i a e in
       let q = d .0 in
       let start = second l i in
       let len = third l i in
@@ -203,7 +254,7 @@ module _ (l pool m : List ℕ) (v : ℕ) (small : Numbers64 l) where
   datas-next d ds at to b w h e q = rw (le-leb (d .since) v h, e, q) refl
 
   datas-back : (ds : List Data) (i at to : ℕ) (r : List Answer × ℕ) → UpTo v (dataSinces ds)
-      → judgeDatas l (length pool) ds i ≡ done r → Stands m at (dataOctets pool (r .0)) to
+      → judgeDatas l pool ds i ≡ done r → Stands m at (dataOctets pool (r .0)) to
       → (b : List Answer) × (readDatas m v ds 0 at ≡ done (b, to)) × (contentsOf m b ≡ contentsOf pool (r .0))
   unfolding judgeDatas Each dataOctets
   datas-back [] i at to r u e s =
@@ -265,8 +316,8 @@ module _ (l pool m : List ℕ) (v : ℕ) (small : Numbers64 l) where
     readOne at = readBlock m v s f 0 (s .length) at
 
     block-forth : (i j k e at to : ℕ) (fs : List Answer) (g : Values) (ds : List Answer)
-        → judgeFields l (length pool) (s .fields) i ≡ done (fs, j) → f′ j ≡ done (g, k)
-        → judgeDatas l (length pool) (s .datas) k ≡ done (ds, e)
+        → judgeFields l pool (s .fields) i ≡ done (fs, j) → f′ j ≡ done (g, k)
+        → judgeDatas l pool (s .datas) k ≡ done (ds, e)
         → Stands m at (entryOctets (fs, g, ds, e)) to → EntryBack (fs, g, ds, e) to (readOne at)
     block-forth i j k e at to fs g ds a b c st =
         let xs = blockOctets pool (s .length) 0 (s .fields) fs in
@@ -290,7 +341,7 @@ module _ (l pool m : List ℕ) (v : ℕ) (small : Numbers64 l) where
           sameDatas = w₃ .2;
         }
 
-    pub block-back : (i at to : ℕ) (b : Entry) → judgeBlock l (length pool) s f′ i ≡ done b
+    pub block-back : (i at to : ℕ) (b : Entry) → judgeBlock l pool s f′ i ≡ done b
         → Stands m at (entryOctets b) to
         → EntryBack b to (readOne at)
     unfolding judgeBlock
@@ -308,7 +359,7 @@ module _ (l pool m : List ℕ) (v : ℕ) (small : Numbers64 l) where
     unfolding readEntries _>>=_
     entries-next k at x to fs g ds r e q = rw (e, q) refl
 
-    entries-forth : (k i at to : ℕ) (b : Entry) (r : Values × ℕ) → judgeBlock l (length pool) s f′ i ≡ done b
+    entries-forth : (k i at to : ℕ) (b : Entry) (r : Values × ℕ) → judgeBlock l pool s f′ i ≡ done b
         → ((x : ℕ) → Stands m x (rowOctets pool s gs (r .0)) to → RowBack (r .0) to (readEntries k readOne x))
         → Stands m at (rowOctets pool s gs (entry (b .0) (b .1) (b .2) (r .0))) to
         → RowBack (entry (b .0) (b .1) (b .2) (r .0)) to (readEntries (suc k) readOne at)
@@ -325,7 +376,7 @@ module _ (l pool m : List ℕ) (v : ℕ) (small : Numbers64 l) where
         }
 
     entries-back : (k i at to : ℕ) (r : Values × ℕ)
-        → judgeEntries l (length pool) k (judgeBlock l (length pool) s f′) i ≡ done r
+        → judgeEntries l pool k (judgeBlock l pool s f′) i ≡ done r
         → Stands m at (rowOctets pool s gs (r .0)) to → RowBack (r .0) to (readEntries k readOne at)
     unfolding judgeEntries
     entries-back zero i at to r e st =
@@ -382,7 +433,7 @@ module _ (l pool m : List ℕ) (v : ℕ) (small : Numbers64 l) where
       }
 
   pub groups-back : (gs : Groups) (s₀ : Shape) (i at to : ℕ) (r : Values × ℕ) → GoodGroups v gs
-      → judgeGroups l (length pool) gs i ≡ done r
+      → judgeGroups l pool gs i ≡ done r
       → Stands m at (rowOctets pool s₀ gs (r .0)) to → RowBack (r .0) to (readGroups m v gs 0 at)
   unfolding judgeGroups GoodGroups
   groups-back none s₀ i at to r good e st =
@@ -398,6 +449,6 @@ module _ (l pool m : List ℕ) (v : ℕ) (small : Numbers64 l) where
       → RowBack (x .0) to (readGroups m v gs 0 at)) (p .is)
       (groups-forth id since s inner rest s₀ k at to (p .value .0) (p .other .0) (good .0) (good .1)
       (ltb-true k null16 (inv-must _ _ _ _ (n .first)))
-      (λ x y o. entries-back s inner (good .1) (judgeGroups l (length pool) inner) (readGroups m v inner 0)
+      (λ x y o. entries-back s inner (good .1) (judgeGroups l pool inner) (readGroups m v inner 0)
       (λ i′ at′ to′ r′ e′ o′. groups-back inner s i′ at′ to′ r′ (good .2) e′ o′) k (suc i) x y (p .value) (p .first) o)
       (λ x y o. groups-back rest s₀ (p .value .1) x y (p .other) (good .3) (p .second) o)) st

@@ -83,7 +83,8 @@ module _ (b : Book) (t : Template) (m : List ℕ) (octets : AllOctets m) (w : Wr
   root-stands x e own sound q =
       let v = b .version in
       let s = block-stands m v octets (t .shape) (t .groups) (readGroups m v (t .groups) 0) headerSize x (w .shape)
-      (groups-stand m v octets (t .groups) (t .shape) (w .groups)) (own .0) (own .1) (sound .0) (sound .1) q .0 in
+      (groups-stand m v octets (t .groups) (t .shape) (w .groups)) (own .0) (own .1) (own .2) (sound .0) (sound .1) q
+      .0 in
       join _ _ (subst (λ (y : ℕ). Stands m headerSize (entryPrinted m v octets (t .shape) (t .groups) x) y) e s)
       (nothing-stands m (length m) (le-refl (length m)))
 
@@ -98,9 +99,9 @@ module _ (b : Book) (t : Template) (m : List ℕ) (octets : AllOctets m) (w : Wr
       stands-all (join _ _ (numbers-stand m octets 0 headerSize (headerOf b t) (omega arith) h
       (a .length, (id, (schema, (a .version, (k .groups-is, (k .datas-is, tt))))))) root)
 
-  judged : (r : Values) → AllSound r → RootRead b t m r → judgeListing (listing r) (length m) t ≡ done r
+  judged : (r : Values) → AllSound r → RootRead b t m r → judgeListing (listing r) m t ≡ done r
   judged r sound k =
-      subst (λ (x : Values). AllSound x → judgeListing (listing x) (length m) t ≡ done x) (k .is)
+      subst (λ (x : Values). AllSound x → judgeListing (listing x) m t ≡ done x) (k .is)
       (λ i. listing-judged _ m (b .version) t (t .shape .length) headerSize (k .root) (w .shape) (w .groups)
       (need-within (b .version) (t .shape .length) 0 0 (t .shape .fields) (w .shape .fields) (omega arith)) i
       (k .reads) refl) sound

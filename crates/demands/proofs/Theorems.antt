@@ -54,8 +54,8 @@ written-reads-back book id l pool room m small e =
     (r .count, r .read, r .lists, r .all, r .long, r .same)
 
 -- "what is read writes back to the same octets if it carries the book's own version and block lengths, has zero padding
--- and no value out of range", and "no kind 6": that is `AsWritten`. "writing back has the message as pool and room for
--- it"
+-- and no value out of range", "no kind 6" and zeros after a text's first NUL: that is `AsWritten`. "writing back has
+-- the message as pool and room for it"
 pub read-writes-back : (book m : List ℕ) (room : ℕ) (b : Book) (t : Template) (r : Values)
     → AllOctets m
     → bookOf book ≡ done b
@@ -71,7 +71,7 @@ read-writes-back = written-back
 pub written-length : (book : List ℕ) (id : ℕ) (l pool : List ℕ) (b : Book) (t : Template) (r : Values)
     → bookOf book ≡ done b
     → findTemplate id (b .templates) ≡ some t
-    → judgeListing l (length pool) t ≡ done r
+    → judgeListing l pool t ≡ done r
     → length (messageOctets b t pool r) ≡ writtenLength t r
 written-length book id l pool b t r e h j = written-long l pool b t r (accepted book b id t e h .1 .layout) j
 

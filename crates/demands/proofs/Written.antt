@@ -131,7 +131,7 @@ module _ (b : Book) (t : Template) (l pool : List ℕ) (small : Numbers64 l) (a 
   message-reads m r h i e = rw (h, i .1 .0, a .there, bind-done, bind-done) e
 
   entry-reads : (x : Entry) → let said = entry (x .0) (x .1) (x .2) nil in
-      judgeBlock l (length pool) (t .shape) (judgeGroups l (length pool) (t .groups)) 0 ≡ done x
+      judgeBlock l pool (t .shape) (judgeGroups l pool (t .groups)) 0 ≡ done x
       → length (messageOctets b t pool said) ≤ 65535 → ReadsBack b (messageOctets b t pool said) pool said
   unfolding rowOctets treeContents
   entry-reads x e few =
@@ -140,11 +140,11 @@ module _ (b : Book) (t : Template) (l pool : List ℕ) (small : Numbers64 l) (a 
       let said = entry (x .0) (x .1) (x .2) nil in
       let m = messageOctets b t pool said in
       let h = header-stands b t pool said whole in
-      let xs = entryOctets l pool m v small (t .shape) (t .groups) (w .shape) (judgeGroups l (length pool) (t .groups))
+      let xs = entryOctets l pool m v small (t .shape) (t .groups) (w .shape) (judgeGroups l pool (t .groups))
       (readGroups m v (t .groups) 0)
       (λ i at to r e′ st. groups-back l pool m v small (t .groups) (t .shape) i at to r (w .groups) e′ st) x in
       let o = split-to xs [] (length m) (omega (arith, h .2 .ends, length-append xs [])) (h .2) in
-      let k = block-back l pool m v small (t .shape) (t .groups) (w .shape) (judgeGroups l (length pool) (t .groups))
+      let k = block-back l pool m v small (t .shape) (t .groups) (w .shape) (judgeGroups l pool (t .groups))
       (readGroups m v (t .groups) 0)
       (λ i at to r e′ st. groups-back l pool m v small (t .groups) (t .shape) i at to r (w .groups) e′ st) 0 headerSize
       (length m) x e (o .0) in
@@ -155,7 +155,7 @@ module _ (b : Book) (t : Template) (l pool : List ℕ) (small : Numbers64 l) (a 
         same = four-same (k .sameFields) (k .sameGroups) (k .sameDatas) refl;
       }
 
-  listing-reads : (said : Values) → judgeListing l (length pool) t ≡ done said
+  listing-reads : (said : Values) → judgeListing l pool t ≡ done said
       → length (messageOctets b t pool said) ≤ 65535
       → ReadsBack b (messageOctets b t pool said) pool said
   unfolding judgeListing
@@ -174,7 +174,7 @@ pub record WrittenBy (book : List ℕ) (id : ℕ) (l pool : List ℕ) (room : �
   pub said : Values
   pub good : bookOf book ≡ done by
   pub found : findTemplate id (by .templates) ≡ some template
-  pub judged : judgeListing l (length pool) template ≡ done said
+  pub judged : judgeListing l pool template ≡ done said
   pub fits : length (messageOctets by template pool said) ≤ room
   pub short : length (messageOctets by template pool said) ≤ 65535
   pub is : messageOctets by template pool said ≡ m
@@ -224,7 +224,7 @@ reads-again book id l pool room m small w =
     let a = accepted book (w .by) id (w .template) (w .good) (w .found) .1 in
     let k = subst (λ (x : List ℕ). ReadsBack (w .by) x pool (w .said)) (w .is)
     (listing-reads (w .by) (w .template) l pool small a (w .said) (w .judged) (w .short)) in
-    let relists = relisted l (length pool) (w .template) (w .said) (w .judged) in
+    let relists = relisted l pool (w .template) (w .said) (w .judged) in
     let count : measure (k .values) ≡ measure (w .said) =
     sym (contents-measure m (k .values)) ∙ ap length (k .same) ∙ contents-measure pool (w .said) in
     let all : 3 * measure (k .values) ≡ length l = omega (arith, count, listing-three (w .said), ap length relists) in

@@ -1,25 +1,26 @@
 -- What a field is, as the code's tests find it.
 use mathlib.Core.Path.{_∙_, _≡_, ap, refl, sym}
 use mathlib.Core.List.{List, [], _∷_}
-use mathlib.Core.Bool.{true}
+use mathlib.Core.Bool.{Bool, false, true}
 use Prim.Native.Nat.{_+_, _-_, _<_, _≤_, suc, zero, ℕ}
 use native.Mathlib.Omega.{arith}
-use native.Mathlib.Nat.{mul-one}
+use native.Mathlib.Nat.{mul-le-mul-right, mul-one}
 use lib.Dec.{eqb, leb}
-use lib.ListN.{length}
-use borrow.Author.Tests.{eqb-true, le-leb, le-ltb, leb-true, lt-leb, lt-ltb}
-use Rattle.layout.specs.Result.{Each, if_then_else_}
-use Rattle.layout.specs.Octets.{numberAt}
+use lib.ListN.{drop, length, take}
+use borrow.Author.Tests.{eqb-true, le-leb, le-ltb, leb-true, lt-leb, lt-ltb, ne-eqb}
+use Rattle.layout.specs.Result.{Each, _and_, if_then_else_}
+use Rattle.layout.specs.Octets.{numberAt, textLength}
 use Rattle.layout.specs.Lists.{beside, noNames}
 use Rattle.layout.specs.Types.{classify, typeAt, valueOf}
 use Rattle.layout.specs.Book.{Field, end, isOptional, needAfter}
 use Rattle.layout.specs.BookRules.{fieldsGood, lengthGood, parseFields, word}
-use Rattle.layout.specs.Message.{readField}
-use Rattle.layout.specs.declared.Answer.the-variants.{Absent, Octets}
+use Rattle.layout.specs.Message.{arrayAt, readField}
+use Rattle.layout.specs.declared.Answer.the-variants.{Absent, Null, Octets}
 use Rattle.layout.specs.declared.Answer.{Answer}
 use Rattle.layout.proofs.ListLaws.{beside-none, read-beside}
 use Rattle.layout.proofs.Fields.{FieldGood, field-good}
 use Rattle.layout.proofs.Results.{and-left, each-way, either, or-right}
+use Rattle.number_types.proofs.Types.{each-width, is-width}
 use Rattle.prepared.specs.Names.{listsAt, namesAt}
 use Rattle.prepared.specs.Positions.{IsField, fieldAt}
 use Rattle.fields.specs.Readable.{Fits, plain}
@@ -30,9 +31,15 @@ module _ (m : List ℕ) (v at : ℕ) (f : Field) where
   field-absent h = rw (lt-leb (f .since) v h) refl
 
   module _ (h : f .since ≤ v) where
-    pub field-octets : 1 < f .length → readField m v at f ≡ Octets (at + f .offset) (f .length)
-    unfolding readField if_then_else_
-    field-octets l = rw (le-leb (f .since) v h, lt-ltb 1 (f .length) l) refl
+    pub field-array : 1 < f .length → readField m v at (plain f) ≡ arrayAt m (at + f .offset) f
+    unfolding readField arrayAt if_then_else_
+    field-array l = rw (le-leb (f .since) v h, lt-ltb 1 (f .length) l) refl
+
+    pub array-inside : Fits m v at f → at + f .offset + f .length ≤ length m
+    array-inside p =
+        let some : 1 ≤ typeAt (f .type) .width =
+        each-width (λ w. 1 ≤ w) (omega arith) (omega arith) (omega arith) (omega arith) _ (is-width (f .type)) in
+        omega (arith, mul-le-mul-right (f .length) some, p .inside h)
 
     module _ (l : f .length ≤ 1) where
       pub field-number : readField m v at (plain f) ≡ classify (typeAt (f .type)) (isOptional f)
@@ -44,6 +51,34 @@ module _ (m : List ℕ) (v at : ℕ) (f : Field) where
       number-inside p =
           let one : f .length ≡ 1 = omega (arith, p .some) in
           omega (arith, rw (one, mul-one) at (p .inside h))
+
+-- ---- arrays
+
+module _ (m : List ℕ) (start : ℕ) (f : Field) where
+  pub array-octets : (f .type ≡ 0 → ⊥) → arrayAt m start f ≡ Octets start (f .length)
+  unfolding arrayAt if_then_else_
+  array-octets other = rw (ne-eqb (f .type) 0 other) refl
+
+  module _ (char : f .type ≡ 0) (n : ℕ) (long : n ≡ textLength (take (f .length) (drop start m))) where
+    pub text-some : 0 < n → arrayAt m start f ≡ Octets start n
+    unfolding arrayAt if_then_else_ _and_
+    text-some some = rw (char, ← long, ne-eqb n 0 (λ e. omega (arith, some, e))) (either-way (isOptional f))
+      where
+        either-way : (b : Bool) → (if b and false then Null else Octets start n) ≡ Octets start n
+        either-way true = refl
+        either-way false = refl
+
+    module _ (nothing : n ≤ 0) where
+      none : n ≡ 0
+      none = omega arith
+
+      pub text-null : f .presence ≡ 1 → arrayAt m start f ≡ Null
+      unfolding arrayAt if_then_else_ _and_
+      text-null optional = rw (char, ← long, none, optional) refl
+
+      pub text-empty : (f .presence ≡ 1 → ⊥) → arrayAt m start f ≡ Octets start 0
+      unfolding arrayAt if_then_else_ _and_
+      text-empty required = rw (char, ← long, none, ne-eqb (f .presence) 1 required) refl
 
 -- ---- the fields of a good block
 

@@ -7,7 +7,7 @@ use native.Mathlib.Nat.{mul-le-mul, mul-zero, sub-self, sub-zero}
 use native.Mathlib.Omega.{arith}
 use lib.Dec.{eqb, leb}
 use lib.ListN.{length}
-use borrow.Author.Tests.{eq-eqb, le-leb, le-ltb, leb-true, lt-leb, lt-ltb, ltb-true, ne-eqb}
+use borrow.Author.Tests.{eq-eqb, eqb-true, le-leb, le-ltb, leb-true, lt-leb, lt-ltb, ltb-true, ne-eqb}
 use borrow.Fn.Enter.{pair≡}
 use Rattle.layout.specs.Result.{Result, done, refused, must, if_then_else_, _and_, _>>=_}
 use Rattle.layout.specs.Octets.{null16}
@@ -16,15 +16,16 @@ use Rattle.layout.specs.Book.{Field, Groups, Shape, Template, more, none}
 use Rattle.layout.specs.BookRules.{parseDatas, parseFields, word}
 use Rattle.layout.specs.Contracts.{refusal}
 use Rattle.layout.specs.Values.{Values, entry, group, nil}
-use Rattle.layout.specs.Writing.{datasLength, first, isGroup, isNumber, isOctets, isThere, judgeBlock, judgeData}
-use Rattle.layout.specs.Writing.{judgeDatas, judgeEntries, judgeField, judgeFields, judgeGroups, judgeListing}
-use Rattle.layout.specs.Writing.{judgeNumber, judgeOctets, numberFits, rowLength, second, spanOf, third}
+use Rattle.layout.specs.Writing.{datasLength, first, isGroup, isNull, isNumber, isOctets, isThere, judgeArray}
+use Rattle.layout.specs.Writing.{judgeBlock, judgeData, judgeDatas, judgeEntries, judgeField, judgeFields, judgeGroups}
+use Rattle.layout.specs.Writing.{judgeListing, judgeNull, judgeNumber, judgeOctets, judgeText, numberFits, rowLength}
+use Rattle.layout.specs.Writing.{second, spanOf, textFits, third}
 use Rattle.layout.specs.declared.Answer.{Answer}
 use Rattle.layout.specs.declared.Answer.the-variants.{Group, Octets}
 use Rattle.layout.specs.declared.Refusal.{Refusal}
-use Rattle.layout.proofs.Results.{Reached, and-assoc, and-left, bind-assoc, bind-done, each-way, none-left}
+use Rattle.layout.proofs.Results.{Reached, and-assoc, and-left, and-right, bind-assoc, bind-done, each-way, none-left}
 use Rattle.layout.proofs.Results.{one-less, some-left}
-use Rattle.layout.proofs.Said.{octets-said}
+use Rattle.layout.proofs.Said.{OctetsSaid, octets-said}
 use Rattle.layout.proofs.TypeLaws.{each-type, inside-not-null}
 use Rattle.number_types.proofs.Types.{in-span}
 use Rattle.prepared.specs.Numbers.{spread}
@@ -86,18 +87,12 @@ pub is-there : (l : List ℕ) (i : ℕ) → i < length l / 3 → isThere l i ≡
 is-there l i h = le-leb (3 * i + 3) (length l) (omega arith)
 
 -- A record whose test holds is there.
-there-is : (l : List ℕ) (i : ℕ) (t : Bool) → (isThere l i and t) ≡ true → i < length l / 3
+pub there-is : (l : List ℕ) (i : ℕ) (t : Bool) → (isThere l i and t) ≡ true → i < length l / 3
 there-is l i t h = omega (arith, leb-true (3 * i + 3) (length l) (and-left _ _ h))
 
-pub number-there : (l : List ℕ) (i : ℕ) → isNumber l i ≡ true → i < length l / 3
-number-there l i h = there-is l i _ h
-
-pub group-there : (l : List ℕ) (i : ℕ) → isGroup l i ≡ true → i < length l / 3
-group-there l i h = there-is l i _ h
-
-module _ (l : List ℕ) (size i : ℕ) where
+module _ (l pool : List ℕ) (i : ℕ) where
   abbrev octetsIs : Result Answer
-  octetsIs = judgeOctets l size true i
+  octetsIs = judgeOctets l pool true i
 
   pub octets-missing : length l / 3 ≤ i → judged (octetsEnd i) octetsIs ≡ Refused (refusal 51 i)
   unfolding judgeOctets judged must _>>=_ _and_
@@ -109,16 +104,16 @@ module _ (l : List ℕ) (size i : ℕ) where
     octets-other k = rw (is-there l i h, ne-eqb (first l i) 2 k) refl
 
     module _ (k : first l i ≡ 2) where
-      pub octets-past : size < second l i + third l i → judged (octetsEnd i) octetsIs ≡ Refused (refusal 53 i)
+      pub octets-past : length pool < second l i + third l i → judged (octetsEnd i) octetsIs ≡ Refused (refusal 53 i)
       unfolding judgeOctets judged must _>>=_ _and_
       octets-past p =
-          rw (is-there l i h, eq-eqb (first l i) 2 k, lt-leb (second l i + third l i) size p)
+          rw (is-there l i h, eq-eqb (first l i) 2 k, lt-leb (second l i + third l i) (length pool) p)
           refl
 
-      pub octets-whole : second l i + third l i ≤ size → judged (octetsEnd i) octetsIs ≡ To (i + 1) (third l i)
+      pub octets-whole : second l i + third l i ≤ length pool → judged (octetsEnd i) octetsIs ≡ To (i + 1) (third l i)
       unfolding judgeOctets judged must _>>=_ _and_ spanOf
       octets-whole p =
-          rw (is-there l i h, eq-eqb (first l i) 2 k, le-leb (second l i + third l i) size p)
+          rw (is-there l i h, eq-eqb (first l i) 2 k, le-leb (second l i + third l i) (length pool) p)
           refl
 
   -- Octets of a length that fits.
@@ -129,32 +124,35 @@ module _ (l : List ℕ) (size i : ℕ) where
   fitting true false fits x = refl
   fitting true true fits x = refl
 
-  octets-fit : (fits : Bool) → judgeOctets l size fits i ≡ (octetsIs >>= λ a. must fits 53 i >>= λ _. done a)
+  octets-fit : (fits : Bool) → judgeOctets l pool fits i ≡ (octetsIs >>= λ a. must fits 53 i >>= λ _. done a)
   unfolding judgeOctets
-  octets-fit fits = fitting (isOctets l i) (leb (second l i + third l i) size) fits (Octets (second l i) (third l i))
+  octets-fit fits =
+      fitting (isOctets l i) (leb (second l i + third l i) (length pool)) fits (Octets (second l i) (third l i))
 
   pub fit-refused : (g : Answer → ℕ × ℕ) (fits : Bool) (z : Refusal) → Refused z ≡ judged (octetsEnd i) octetsIs
-      → judged g (judgeOctets l size fits i) ≡ Refused z
+      → judged g (judgeOctets l pool fits i) ≡ Refused z
   fit-refused g fits z e = rw (octets-fit fits) (stops (octetsEnd i) octetsIs _ g z e)
 
   module _ (x k : ℕ) (e : To x k ≡ judged (octetsEnd i) octetsIs) where
-    octets-reached : Reached (octetsEnd i) octetsIs x k
+    abbrev octets-reached : Reached (octetsEnd i) octetsIs x k
     octets-reached = inv-to (octetsEnd i) octetsIs x k e
+
+    -- The record is octets, and the pool has them.
+    pub octets-good : OctetsSaid l pool i (octets-reached .value)
+    octets-good = octets-said l pool true i _ (octets-reached .is) .0
 
     -- The length is the record's.
     length-said : k ≡ third l i
     unfolding spanOf
-    length-said =
-        let q = octets-reached in
-        sym (q .counted) ∙ ap (λ (a : Answer). spanOf a .1) (sym (octets-said l size true i (q .value) (q .is) .0 .is))
+    length-said = sym (octets-reached .counted) ∙ ap (λ (a : Answer). spanOf a .1) (sym (octets-good .is))
 
     module _ (g : Answer → ℕ × ℕ) (fits : Bool) where
-      pub fit-not : (k ≡ third l i → fits ≡ false) → judged g (judgeOctets l size fits i) ≡ Refused (refusal 53 i)
+      pub fit-not : (k ≡ third l i → fits ≡ false) → judged g (judgeOctets l pool fits i) ≡ Refused (refusal 53 i)
       unfolding must _>>=_ judged
       fit-not t = rw (octets-fit fits, goes-on octets-reached, t length-said) refl
 
       pub fit-whole : (k ≡ third l i → fits ≡ true) → (y : ℕ) → ((a : Answer) → spanOf a .1 ≡ k → g a ≡ (i + 1, y))
-          → judged g (judgeOctets l size fits i) ≡ To x y
+          → judged g (judgeOctets l pool fits i) ≡ To x y
       unfolding must _>>=_
       fit-whole t y o =
           let q = octets-reached in
@@ -164,7 +162,7 @@ module _ (l : List ℕ) (size i : ℕ) where
 
 module _ (l : List ℕ) (f : Field) (i : ℕ) where
   abbrev numberIs : Result Answer
-  numberIs = judgeNumber l 0 f i
+  numberIs = judgeNumber l f i
 
   pub number-other : isNumber l i ≡ false → judged (fieldEnd i) numberIs ≡ Refused (refusal 51 i)
   unfolding judgeNumber judged must _>>=_
@@ -203,24 +201,53 @@ within t x d least far listed small e p q =
 
 -- ---- fields
 
-module _ (l : List ℕ) (size : ℕ) (f : Field) (i : ℕ) where
-  pub field-array : 1 < f .length
-      → judged (fieldEnd i) (judgeField l size f i)
-      ≡ judged (fieldEnd i) (judgeOctets l size (eqb (third l i) (f .length)) i)
+module _ (l pool : List ℕ) (f : Field) (i : ℕ) where
+  abbrev asField : Result Answer → Judged
+  asField r = judged (fieldEnd i) r
+
+  pub field-array : 1 < f .length → asField (judgeField l pool f i) ≡ asField (judgeArray l pool f i)
   unfolding if_then_else_
   field-array h = rw (lt-ltb 1 (f .length) h) refl
 
-  pub field-number : f .length ≤ 1
-      → judged (fieldEnd i) (judgeField l size f i) ≡ judged (fieldEnd i) (judgeNumber l 0 f i)
-  unfolding if_then_else_ judgeNumber
+  pub field-number : f .length ≤ 1 → asField (judgeField l pool f i) ≡ asField (judgeNumber l f i)
+  unfolding if_then_else_
   field-number h = rw (le-ltb 1 (f .length) h) refl
 
-module _ (l : List ℕ) (size : ℕ) (p : List ℕ) where
+  pub array-text : f .type ≡ 0 → asField (judgeArray l pool f i) ≡ asField (judgeText l pool f i)
+  unfolding judgeArray if_then_else_
+  array-text h = rw (eq-eqb (f .type) 0 h) refl
+
+  pub array-plain : (f .type ≡ 0 → ⊥)
+      → asField (judgeArray l pool f i) ≡ asField (judgeOctets l pool (eqb (third l i) (f .length)) i)
+  unfolding judgeArray if_then_else_
+  array-plain h = rw (ne-eqb (f .type) 0 h) refl
+
+  module _ (h : isNull l i ≡ true) where
+    pub null-required : (f .presence ≡ 1 → ⊥) → asField (judgeText l pool f i) ≡ Refused (refusal 52 i)
+    unfolding judgeNull judged must _>>=_ if_then_else_
+    null-required k = rw (h, and-left _ _ (and-right _ _ h), ne-eqb (f .presence) 1 k) refl
+
+    pub null-optional : f .presence ≡ 1 → asField (judgeText l pool f i) ≡ To (i + 1) 0
+    unfolding judgeNull judged must _>>=_ if_then_else_
+    null-optional k = rw (h, and-left _ _ (and-right _ _ h), eq-eqb (f .presence) 1 k) refl
+
+  -- A record of null's kind is no octets.
+  null-kind : eqb (first l i) 1 ≡ true → isOctets l i ≡ false
+  unfolding _and_
+  null-kind e = rw (eqb-true (first l i) 1 e) (each-way (isThere l i) (λ t. rw t refl) (λ t. rw t refl))
+
+  -- A record of null's kind that is no null is 51 either way.
+  pub text-octets : isNull l i ≡ false
+      → asField (judgeText l pool f i) ≡ asField (judgeOctets l pool (textFits l pool f i) i)
+  unfolding judgeNull judgeOctets must _>>=_ if_then_else_
+  text-octets h = each-way (eqb (first l i) 1) (λ e. rw (h, null-kind e, e) refl) (λ e. rw e refl)
+
+module _ (l pool p : List ℕ) where
   abbrev pub fieldsIs : ℕ → ℕ → ℕ → Result (List Answer × ℕ)
-  fieldsIs k f i = judgeFields l size (parseFields (listsAt p) p k f) i
+  fieldsIs k f i = judgeFields l pool (parseFields (listsAt p) p k f) i
 
   fields-step : (k f i : ℕ) → 0 < k → fieldsIs k f i
-      ≡ (judgeField l size (fieldAt p f) i >>= λ a. fieldsIs (k - 1) (f + 7) (i + 1) >>= λ r. done (a ∷ r .0, r .1))
+      ≡ (judgeField l pool (fieldAt p f) i >>= λ a. fieldsIs (k - 1) (f + 7) (i + 1) >>= λ r. done (a ∷ r .0, r .1))
   unfolding judgeFields parseFields
   fields-step k f i h = rw (some-left h, one-less, add-one i) refl
 
@@ -230,11 +257,11 @@ module _ (l : List ℕ) (size : ℕ) (p : List ℕ) where
     fields-end h = rw (none-left h) refl
 
     module _ (h : 0 < k) where
-      pub fields-refused : (z : Refusal) → Refused z ≡ judged (fieldEnd i) (judgeField l size (fieldAt p f) i)
+      pub fields-refused : (z : Refusal) → Refused z ≡ judged (fieldEnd i) (judgeField l pool (fieldAt p f) i)
           → judged fieldsEnd (fieldsIs k f i) ≡ Refused z
       fields-refused z e = rw (fields-step k f i h) (stops (fieldEnd i) _ _ _ z e)
 
-      pub fields-next : (x y : ℕ) → To x y ≡ judged (fieldEnd i) (judgeField l size (fieldAt p f) i)
+      pub fields-next : (x y : ℕ) → To x y ≡ judged (fieldEnd i) (judgeField l pool (fieldAt p f) i)
           → judged fieldsEnd (fieldsIs k f i) ≡ judged fieldsEnd (fieldsIs (k - 1) (f + 7) x)
       fields-next x y e =
           let q = inv-to (fieldEnd i) _ x y e in
@@ -242,12 +269,12 @@ module _ (l : List ℕ) (size : ℕ) (p : List ℕ) where
 
 -- ---- data
 
-module _ (l : List ℕ) (size : ℕ) (p : List ℕ) where
+module _ (l pool p : List ℕ) where
   abbrev pub datasIs : ℕ → ℕ → ℕ → Result (List Answer × ℕ)
-  datasIs k d i = judgeDatas l size (parseDatas p k d) i
+  datasIs k d i = judgeDatas l pool (parseDatas p k d) i
 
   datas-step : (k d i : ℕ) → 0 < k → datasIs k d i
-      ≡ (judgeData l size i >>= λ a. datasIs (k - 1) (d + 2) (i + 1) >>= λ r. done (a ∷ r .0, r .1))
+      ≡ (judgeData l pool i >>= λ a. datasIs (k - 1) (d + 2) (i + 1) >>= λ r. done (a ∷ r .0, r .1))
   unfolding judgeDatas parseDatas
   datas-step k d i h = rw (some-left h, one-less, add-one i) refl
 
@@ -257,20 +284,20 @@ module _ (l : List ℕ) (size : ℕ) (p : List ℕ) where
     datas-end s h = rw (none-left h) (reached (datasEnd seen) ([], i) refl (omega arith))
 
     module _ (h : 0 < k) where
-      pub datas-refused : (z : Refusal) → Refused z ≡ judged (octetsEnd i) (judgeOctets l size true i)
+      pub datas-refused : (z : Refusal) → Refused z ≡ judged (octetsEnd i) (judgeOctets l pool true i)
           → judged (datasEnd seen) (datasIs k d i) ≡ Refused z
       datas-refused z e =
-          rw (datas-step k d i h) (stops (octetsEnd i) _ _ _ z (sym (fit-refused l size i (octetsEnd i) _ z e)))
+          rw (datas-step k d i h) (stops (octetsEnd i) _ _ _ z (sym (fit-refused l pool i (octetsEnd i) _ z e)))
 
-      module _ (x y : ℕ) (e : To x y ≡ judged (octetsEnd i) (judgeOctets l size true i)) where
+      module _ (x y : ℕ) (e : To x y ≡ judged (octetsEnd i) (judgeOctets l pool true i)) where
         pub datas-long : null16 ≤ y → judged (datasEnd seen) (datasIs k d i) ≡ Refused (refusal 53 i)
         datas-long long =
             rw (datas-step k d i h) (stops (octetsEnd i) _ _ _ (refusal 53 i)
-            (sym (fit-not l size i x y e (octetsEnd i) _ (λ q. le-ltb _ null16 (rw q at long)))))
+            (sym (fit-not l pool i x y e (octetsEnd i) _ (λ q. le-ltb _ null16 (rw q at long)))))
 
-        data-reached : y < null16 → Reached (octetsEnd i) (judgeData l size i) x y
+        data-reached : y < null16 → Reached (octetsEnd i) (judgeData l pool i) x y
         data-reached short =
-            inv-to (octetsEnd i) _ x y (sym (fit-whole l size i x y e (octetsEnd i) _
+            inv-to (octetsEnd i) _ x y (sym (fit-whole l pool i x y e (octetsEnd i) _
             (λ q. lt-ltb _ null16 (rw q at short)) y (λ a q. pair≡ refl q)))
 
         pub datas-next : y < null16
@@ -293,9 +320,9 @@ entry-counts : (seen l n g d rest o m : ℕ) → capped (0 + g) ≡ o → capped
 entry-counts seen l n g d rest o m p q = rw (counts seen g o p) (omega (arith, q))
 
 -- k entries of the block s with the groups gs.
-module _ (l : List ℕ) (size : ℕ) (s : Shape) (gs : Groups) where
+module _ (l pool : List ℕ) (s : Shape) (gs : Groups) where
   abbrev pub entriesIs : ℕ → ℕ → Result (Values × ℕ)
-  entriesIs k i = judgeEntries l size k (judgeBlock l size s (judgeGroups l size gs)) i
+  entriesIs k i = judgeEntries l pool k (judgeBlock l pool s (judgeGroups l pool gs)) i
 
   -- The last k of `all` entries: of those before them `seen` octets of groups and data were counted.
   abbrev pub lastIs : ℕ → ℕ → ℕ → ℕ → Judged
@@ -305,7 +332,7 @@ module _ (l : List ℕ) (size : ℕ) (s : Shape) (gs : Groups) where
   entries-all k i = rw (sub-self, mul-zero) refl
 
   entries-step : (k i : ℕ) → 0 < k → entriesIs k i
-      ≡ (judgeBlock l size s (judgeGroups l size gs) i >>= λ e. entriesIs (k - 1) (e .3)
+      ≡ (judgeBlock l pool s (judgeGroups l pool gs) i >>= λ e. entriesIs (k - 1) (e .3)
       >>= λ r. done (entry (e .0) (e .1) (e .2) (r .0), r .1))
   unfolding judgeEntries
   entries-step k i h = rw (some-left h, one-less) refl
@@ -316,34 +343,34 @@ module _ (l : List ℕ) (size : ℕ) (s : Shape) (gs : Groups) where
     entries-end h = rw (none-left h, sub-zero) (reached (rowEnd s gs _) (nil, i) refl (omega arith))
 
     module _ (h : 0 < k) where
-      pub entry-fields : (z : Refusal) → Refused z ≡ judged fieldsEnd (judgeFields l size (s .fields) i)
+      pub entry-fields : (z : Refusal) → Refused z ≡ judged fieldsEnd (judgeFields l pool (s .fields) i)
           → lastIs all seen k i ≡ Refused z
       unfolding judgeBlock judged _>>=_
-      entry-fields z e = rw (entries-step k i h, inv-refused fieldsEnd (judgeFields l size (s .fields) i) z e) refl
+      entry-fields z e = rw (entries-step k i h, inv-refused fieldsEnd (judgeFields l pool (s .fields) i) z e) refl
 
-      module _ (x u : ℕ) (f : To x u ≡ judged fieldsEnd (judgeFields l size (s .fields) i)) where
-        fielded : Reached fieldsEnd (judgeFields l size (s .fields) i) x u
+      module _ (x u : ℕ) (f : To x u ≡ judged fieldsEnd (judgeFields l pool (s .fields) i)) where
+        fielded : Reached fieldsEnd (judgeFields l pool (s .fields) i) x u
         fielded = inv-to fieldsEnd _ x u f
 
-        pub entry-row : (z : Refusal) → Refused z ≡ judged (rowEnd s gs 0) (judgeGroups l size gs x)
+        pub entry-row : (z : Refusal) → Refused z ≡ judged (rowEnd s gs 0) (judgeGroups l pool gs x)
             → lastIs all seen k i ≡ Refused z
         unfolding judgeBlock judged _>>=_
         entry-row z e =
-            let r = inv-refused (rowEnd s gs 0) (judgeGroups l size gs x) z e in
+            let r = inv-refused (rowEnd s gs 0) (judgeGroups l pool gs x) z e in
             rw (entries-step k i h, goes-on fielded, fielded .next, r) refl
 
-        module _ (y o : ℕ) (g : To y o ≡ judged (rowEnd s gs 0) (judgeGroups l size gs x)) where
-          grouped : Reached (rowEnd s gs 0) (judgeGroups l size gs x) y o
+        module _ (y o : ℕ) (g : To y o ≡ judged (rowEnd s gs 0) (judgeGroups l pool gs x)) where
+          grouped : Reached (rowEnd s gs 0) (judgeGroups l pool gs x) y o
           grouped = inv-to (rowEnd s gs 0) _ y o g
 
-          pub entry-datas : (z : Refusal) → Refused z ≡ judged (datasEnd 0) (judgeDatas l size (s .datas) y)
+          pub entry-datas : (z : Refusal) → Refused z ≡ judged (datasEnd 0) (judgeDatas l pool (s .datas) y)
               → lastIs all seen k i ≡ Refused z
           unfolding judgeBlock judged _>>=_
           entry-datas z e =
-              let r = inv-refused (datasEnd 0) (judgeDatas l size (s .datas) y) z e in
+              let r = inv-refused (datasEnd 0) (judgeDatas l pool (s .datas) y) z e in
               rw (entries-step k i h, goes-on fielded, fielded .next, goes-on grouped, grouped .next, r) refl
 
-          pub entry-next : k ≤ all → (z m : ℕ) → To z m ≡ judged (datasEnd 0) (judgeDatas l size (s .datas) y)
+          pub entry-next : k ≤ all → (z m : ℕ) → To z m ≡ judged (datasEnd 0) (judgeDatas l pool (s .datas) y)
               → lastIs all seen k i ≡ lastIs all (capped (capped (seen + o) + m)) (k - 1) z
           unfolding judgeBlock rowLength
           entry-next b z m e =
@@ -373,39 +400,39 @@ module _ (l : List ℕ) (size : ℕ) (s : Shape) (gs : Groups) where
 
 -- ---- groups in a row
 
-module _ (l : List ℕ) (size : ℕ) (s : Shape) (seen : ℕ) where
+module _ (l pool : List ℕ) (s : Shape) (seen : ℕ) where
   pub row-end : (gs : Groups) (i : ℕ) → gs ≡ none → seen ≤ limit
-      → judged (rowEnd s gs seen) (judgeGroups l size gs i) ≡ To i seen
+      → judged (rowEnd s gs seen) (judgeGroups l pool gs i) ≡ To i seen
   unfolding judgeGroups rowLength
   row-end gs i e b = rw e (reached (rowEnd s none seen) (nil, i) refl (omega arith))
 
   -- gs is a group with the block b and the groups `inner`, and then `rest`.
   module _ (gs : Groups) (id since : ℕ) (b : Shape) (inner rest : Groups) (is : gs ≡ more id since b inner rest)
       (i : ℕ) where
-    pub row-other : isGroup l i ≡ false → judged (rowEnd s gs seen) (judgeGroups l size gs i) ≡ Refused (refusal 51 i)
+    pub row-other : isGroup l i ≡ false → judged (rowEnd s gs seen) (judgeGroups l pool gs i) ≡ Refused (refusal 51 i)
     unfolding judgeGroups judged must _>>=_
     row-other h = rw (is, h) refl
 
     module _ (h : isGroup l i ≡ true) (k : ℕ) (e : k ≡ second l i) where
-      pub row-many : null16 ≤ k → judged (rowEnd s gs seen) (judgeGroups l size gs i) ≡ Refused (refusal 54 i)
+      pub row-many : null16 ≤ k → judged (rowEnd s gs seen) (judgeGroups l pool gs i) ≡ Refused (refusal 54 i)
       unfolding judgeGroups judged must _>>=_
       row-many m = rw (is, h, le-ltb (second l i) null16 (rw e at m)) refl
 
       module _ (m : k < null16) where
-        row-step : judgeGroups l size gs i ≡ (entriesIs l size b inner k (i + 1) >>= λ r. judgeGroups l size rest (r .1)
+        row-step : judgeGroups l pool gs i ≡ (entriesIs l pool b inner k (i + 1) >>= λ r. judgeGroups l pool rest (r .1)
             >>= λ g. done (group (Group k) (r .0) (g .0), g .1))
         unfolding judgeGroups must
         row-step =
             let q : i + 1 ≡ suc i = omega arith in
             rw (is, h, q, lt-ltb (second l i) null16 (rw e at m), bind-done, bind-done, e) refl
 
-        pub row-entries : (z : Refusal) → Refused z ≡ judged (rowEnd b inner 0) (entriesIs l size b inner k (i + 1))
-            → judged (rowEnd s gs seen) (judgeGroups l size gs i) ≡ Refused z
+        pub row-entries : (z : Refusal) → Refused z ≡ judged (rowEnd b inner 0) (entriesIs l pool b inner k (i + 1))
+            → judged (rowEnd s gs seen) (judgeGroups l pool gs i) ≡ Refused z
         row-entries z q = rw row-step (stops (rowEnd b inner 0) _ _ _ z q)
 
-        pub row-next : (x y : ℕ) → To x y ≡ judged (rowEnd b inner 0) (entriesIs l size b inner k (i + 1))
-            → judged (rowEnd s gs seen) (judgeGroups l size gs i)
-            ≡ judged (rowEnd s rest (capped (seen + capped (4 + y)))) (judgeGroups l size rest x)
+        pub row-next : (x y : ℕ) → To x y ≡ judged (rowEnd b inner 0) (entriesIs l pool b inner k (i + 1))
+            → judged (rowEnd s gs seen) (judgeGroups l pool gs i)
+            ≡ judged (rowEnd s rest (capped (seen + capped (4 + y)))) (judgeGroups l pool rest x)
         unfolding rowLength
         row-next x y q =
             let r = inv-to (rowEnd b inner 0) _ x y q in
@@ -415,16 +442,16 @@ module _ (l : List ℕ) (size : ℕ) (s : Shape) (seen : ℕ) where
 -- ---- at places of the prepared book
 
 -- `lastIs` of the block at a.
-abbrev pub lastAt : List ℕ → ℕ → ℕ → List ℕ → ℕ → ℕ → ℕ → ℕ → ℕ → Judged
-lastAt p depth a l size all seen k i = lastIs l size (shapeAt p a) (innerAt p depth a) all seen k i
+abbrev pub lastAt : List ℕ → ℕ → ℕ → List ℕ → List ℕ → ℕ → ℕ → ℕ → ℕ → Judged
+lastAt p depth a l pool all seen k i = lastIs l pool (shapeAt p a) (innerAt p depth a) all seen k i
 
 -- An entry of a block that nothing follows.
-pub plain-next : (p : List ℕ) (depth a : ℕ) (l : List ℕ) (size all seen k i x u follow : ℕ) → IsBlock p a
+pub plain-next : (p : List ℕ) (depth a : ℕ) (l pool : List ℕ) (all seen k i x u follow : ℕ) → IsBlock p a
     → follow ≡ word p (a + 7) → follow ≡ 0 → 0 < k → k ≤ all → seen ≤ limit
-    → To x u ≡ judged fieldsEnd (judgeFields l size (shapeAt p a .fields) i)
-    → lastAt p depth a l size all seen k i ≡ lastAt p depth a l size all seen (k - 1) x
-plain-next p depth a l size all seen k i x u follow b w z h m c e =
-    entry-plain l size (shapeAt p a) (innerAt p depth a) all seen k i h x u e
+    → To x u ≡ judged fieldsEnd (judgeFields l pool (shapeAt p a .fields) i)
+    → lastAt p depth a l pool all seen k i ≡ lastAt p depth a l pool all seen (k - 1) x
+plain-next p depth a l pool all seen k i x u follow b w z h m c e =
+    entry-plain l pool (shapeAt p a) (innerAt p depth a) all seen k i h x u e
     (no-groups-at p depth (manyGroups p a) (groupsFrom p a) (omega (arith, b .follow, w, z)))
     (no-datas-at p (manyDatas p a) (datasFrom p a) (omega (arith, b .follow, w, z)))
     m c
@@ -437,17 +464,17 @@ blocks-fit p a l k b w h =
 
 -- ---- a whole listing
 
-module _ (l : List ℕ) (size : ℕ) (t : Template) where
+module _ (l pool : List ℕ) (t : Template) where
   abbrev rootIs : Result (Values × ℕ)
-  rootIs = entriesIs l size (t .shape) (t .groups) 1 0
+  rootIs = entriesIs l pool (t .shape) (t .groups) 1 0
 
   abbrev listingJudged : Judged
-  listingJudged = judged (listingEnd (t .shape) (t .groups) l) (judgeListing l size t)
+  listingJudged = judged (listingEnd (t .shape) (t .groups) l) (judgeListing l pool t)
 
   -- The root is one entry.
-  root-step : judgeListing l size t ≡ (rootIs >>= λ r. must (eqb (3 * r .1) (length l)) 51 (r .1) >>= λ _. done (r .0))
+  root-step : judgeListing l pool t ≡ (rootIs >>= λ r. must (eqb (3 * r .1) (length l)) 51 (r .1) >>= λ _. done (r .0))
   unfolding judgeListing judgeEntries _>>=_
-  root-step = sym (bind-assoc (judgeBlock l size (t .shape) (judgeGroups l size (t .groups)) 0) _ _)
+  root-step = sym (bind-assoc (judgeBlock l pool (t .shape) (judgeGroups l pool (t .groups)) 0) _ _)
 
   pub listing-refused : (z : Refusal) → Refused z ≡ judged (rowEnd (t .shape) (t .groups) 0) rootIs
       → listingJudged ≡ Refused z

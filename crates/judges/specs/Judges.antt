@@ -25,10 +25,10 @@ limit = 65536
 abbrev pub capped : ℕ → ℕ
 capped n = min n limit
 
--- k entries of the block at a, `depth` more levels being left: l is the listing, `size` the pool's length.
-abbrev pub entriesAt : List ℕ → ℕ → ℕ → List ℕ → ℕ → ℕ → ℕ → Result (Values × ℕ)
-entriesAt p depth a l size k i =
-    judgeEntries l size k (judgeBlock l size (shapeAt p a) (judgeGroups l size (innerAt p depth a))) i
+-- k entries of the block at a, `depth` more levels being left: l is the listing.
+abbrev pub entriesAt : List ℕ → ℕ → ℕ → List ℕ → List ℕ → ℕ → ℕ → Result (Values × ℕ)
+entriesAt p depth a l pool k i =
+    judgeEntries l pool k (judgeBlock l pool (shapeAt p a) (judgeGroups l pool (innerAt p depth a))) i
 
 -- ---- where each ends and how many octets it has, `seen` having been counted before
 

@@ -9,8 +9,9 @@ ghost use mathlib.Core.Bool.{true};
 ghost use Prim.Native.Nat.{_+_, _*_, _^_, _<_, _≤_};
 ghost use lib.ListN.{length};
 ghost use Rattle.layout.specs.Contracts.{refusal};
-ghost use Rattle.layout.specs.Writing.{isGroup, isNumber, judgeDatas, judgeField, judgeFields, judgeGroups};
-ghost use Rattle.layout.specs.Writing.{judgeListing, judgeNumber, judgeOctets, numberFits, second};
+ghost use Rattle.layout.specs.Writing.{isGroup, isNull, isNumber, judgeArray, judgeDatas, judgeField, judgeFields};
+ghost use Rattle.layout.specs.Writing.{judgeGroups, judgeListing, judgeNumber, judgeOctets, judgeText, numberFits};
+ghost use Rattle.layout.specs.Writing.{second, textFits, third};
 ghost use Rattle.prepared.specs.Books.{templateAt};
 ghost use Rattle.prepared.specs.Names.{hasLists};
 ghost use Rattle.prepared.specs.Positions.{BlockAt, IsBlock, IsField, fieldAt, innerAt, shapeAt};
@@ -43,9 +44,9 @@ fn plus(length: usize, n: usize) -> usize
     length + n
 }
 
-// Octets of a pool with `size` octets: the length is theirs.
-fn judge_octets(listing: &[u64], size: usize, i: usize) -> Judged
-    ensures { λ r. ⌜ r ≡ judged (octetsEnd i) (judgeOctets (now (listing .entry)) size true i) ⌝ }
+// Octets of the pool: the length is theirs.
+fn judge_octets(listing: &[u64], pool: &[u8], i: usize) -> Judged
+    ensures { λ r. ⌜ r ≡ judged (octetsEnd i) (judgeOctets (now (listing .entry)) (now (pool .entry)) true i) ⌝ }
 {
     if listing.len() / 3 <= i {
         return refuse(51, i);
@@ -55,7 +56,7 @@ fn judge_octets(listing: &[u64], size: usize, i: usize) -> Judged
     }
     let start = listing[3 * i + 1];
     let len = listing[3 * i + 2];
-    let end = size as u64;
+    let end = pool.len() as u64;
     if end < start {
         return refuse(53, i);
     }
@@ -114,7 +115,7 @@ fn number_fits(p: &[u64], f: usize, t: usize, listed: bool, listing: &[u64], i: 
 // A number or null for the field at f, whose table is at t.
 fn judge_number(p: &[u64], f: usize, t: usize, listed: bool, listing: &[u64], i: usize) -> Judged
     requires { ⌜ IsField (now p) f t × (listed ≡ hasLists (now p)) ⌝ }
-    ensures { λ r. ⌜ r ≡ judged (fieldEnd i) (judgeNumber (now (listing .entry)) 0 (fieldAt (now (p .entry)) f) i) ⌝ }
+    ensures { λ r. ⌜ r ≡ judged (fieldEnd i) (judgeNumber (now (listing .entry)) (fieldAt (now (p .entry)) f) i) ⌝ }
 {
     if !is_number(listing, i) {
         return refuse(51, i);
@@ -128,6 +129,87 @@ fn judge_number(p: &[u64], f: usize, t: usize, listed: bool, listing: &[u64], i:
     }
 }
 
+// Whether record i is there and is null.
+fn is_null(listing: &[u64], i: usize) -> bool
+    ensures { λ r. ⌜ r ≡ isNull (now (listing .entry)) i ⌝ }
+{
+    if listing.len() / 3 <= i {
+        return false;
+    }
+    if listing[3 * i] != 1 {
+        return false;
+    }
+    if listing[3 * i + 1] != 0 {
+        return false;
+    }
+    listing[3 * i + 2] == 0
+}
+
+// Whether the octets of the pool that record i is fit the array of char at f: no more than it has, no NUL among them,
+// and some where it is optional.
+fn text_fits(p: &[u64], f: usize, listing: &[u64], pool: &[u8], i: usize) -> bool
+    requires { ⌜ (f + 7 ≤ length (now p)) × (3 * i + 3 ≤ length (now listing))
+        × (second (now listing) i + third (now listing) i ≤ length (now pool)) ⌝ }
+    ensures { λ r. ⌜ r ≡ textFits (now (listing .entry)) (now (pool .entry)) (fieldAt (now (p .entry)) f) i ⌝ }
+{
+    let start = listing[3 * i + 1] as usize;
+    let len = listing[3 * i + 2] as usize;
+    if number(p, f + 2) < len {
+        return false;
+    }
+    if texts::text_length(pool, start, len) != len {
+        return false;
+    }
+    if number(p, f + 4) != 1 {
+        return true;
+    }
+    len != 0
+}
+
+// Text or null for the array of char at f.
+fn judge_text(p: &[u64], f: usize, listing: &[u64], pool: &[u8], i: usize) -> Judged
+    requires { ⌜ f + 7 ≤ length (now p) ⌝ }
+    ensures { λ r. ⌜ r ≡ judged (fieldEnd i) (judgeText (now (listing .entry)) (now (pool .entry)) (fieldAt
+        (now (p .entry)) f) i) ⌝ }
+{
+    if is_null(listing, i) {
+        if number(p, f + 4) == 1 {
+            return Judged::To {
+                next: i + 1,
+                length: 0,
+            };
+        }
+        return refuse(52, i);
+    }
+    let octets = judge_octets(listing, pool, i);
+    let Judged::To { next, .. } = octets else {
+        return octets;
+    };
+    if !text_fits(p, f, listing, pool, i) {
+        return refuse(53, i);
+    }
+    Judged::To { next, length: 0 }
+}
+
+// What the array at f, which has len octets, takes.
+fn judge_array(p: &[u64], f: usize, len: usize, listing: &[u64], pool: &[u8], i: usize) -> Judged
+    requires { ⌜ (f + 7 ≤ length (now p)) × (len ≡ fieldAt (now p) f .length) ⌝ }
+    ensures { λ r. ⌜ r ≡ judged (fieldEnd i) (judgeArray (now (listing .entry)) (now (pool .entry)) (fieldAt
+        (now (p .entry)) f) i) ⌝ }
+{
+    if number(p, f + 1) == 0 {
+        return judge_text(p, f, listing, pool, i);
+    }
+    let octets = judge_octets(listing, pool, i);
+    let Judged::To { next, length } = octets else {
+        return octets;
+    };
+    if length != len {
+        return refuse(53, i);
+    }
+    Judged::To { next, length: 0 }
+}
+
 // The field at f, whose table is at t. Its octets are the block's.
 fn judge_field(
     p: &[u64],
@@ -135,32 +217,25 @@ fn judge_field(
     t: usize,
     listed: bool,
     listing: &[u64],
-    size: usize,
+    pool: &[u8],
     i: usize,
 ) -> Judged
     requires { ⌜ IsField (now p) f t × (listed ≡ hasLists (now p)) ⌝ }
-    ensures { λ r. ⌜ r ≡ judged (fieldEnd i) (judgeField (now (listing .entry)) size (fieldAt (now (p .entry)) f)
-        i) ⌝ }
+    ensures { λ r. ⌜ r ≡ judged (fieldEnd i) (judgeField (now (listing .entry)) (now (pool .entry)) (fieldAt
+        (now (p .entry)) f) i) ⌝ }
 {
     let len = number(p, f + 2);
     if 1 < len {
-        let octets = judge_octets(listing, size, i);
-        let Judged::To { next, length } = octets else {
-            return octets;
-        };
-        if length != len {
-            return refuse(53, i);
-        }
-        return Judged::To { next, length: 0 };
+        return judge_array(p, f, len, listing, pool, i);
     }
     judge_number(p, f, t, listed, listing, i)
 }
 
 // The fields of the block at a.
-fn judge_fields(p: &[u64], a: usize, listing: &[u64], size: usize, start: usize) -> Judged
+fn judge_fields(p: &[u64], a: usize, listing: &[u64], pool: &[u8], start: usize) -> Judged
     requires { ⌜ IsBlock (now p) a ⌝ }
-    ensures { λ r. ⌜ r ≡ judged fieldsEnd (judgeFields (now (listing .entry)) size (shapeAt (now (p .entry)) a .fields)
-        start) ⌝ }
+    ensures { λ r. ⌜ r ≡ judged fieldsEnd (judgeFields (now (listing .entry)) (now (pool .entry))
+        (shapeAt (now (p .entry)) a .fields) start) ⌝ }
 {
     let listed = prepared::has_lists(p);
     let mut left = number(p, a + 3);
@@ -168,7 +243,7 @@ fn judge_fields(p: &[u64], a: usize, listing: &[u64], size: usize, start: usize)
     let mut t = number(p, a + 11);
     let mut i = start;
     while 0 < left {
-        let field = judge_field(p, f, t, listed, listing, size, i);
+        let field = judge_field(p, f, t, listed, listing, pool, i);
         let Judged::To { next, .. } = field else {
             return field;
         };
@@ -181,16 +256,16 @@ fn judge_fields(p: &[u64], a: usize, listing: &[u64], size: usize, start: usize)
 }
 
 // As many data as the block at a has.
-fn judge_datas(p: &[u64], a: usize, listing: &[u64], size: usize, start: usize) -> Judged
+fn judge_datas(p: &[u64], a: usize, listing: &[u64], pool: &[u8], start: usize) -> Judged
     requires { ⌜ IsBlock (now p) a ⌝ }
-    ensures { λ r. ⌜ r ≡ judged (datasEnd 0) (judgeDatas (now (listing .entry)) size (shapeAt (now (p .entry)) a .datas)
-        start) ⌝ }
+    ensures { λ r. ⌜ r ≡ judged (datasEnd 0) (judgeDatas (now (listing .entry)) (now (pool .entry))
+        (shapeAt (now (p .entry)) a .datas) start) ⌝ }
 {
     let mut left = number(p, a + 5);
     let mut i = start;
     let mut seen = 0;
     while 0 < left {
-        let data = judge_octets(listing, size, i);
+        let data = judge_octets(listing, pool, i);
         let Judged::To { next, length } = data else {
             return data;
         };
@@ -235,22 +310,23 @@ fn judge_entries(
     a: usize,
     depth: usize,
     listing: &&[u64],
-    size: usize,
+    pool: &&[u8],
     k: u64,
     start: usize,
 ) -> Judged
     requires { ⌜ BlockAt (now (now p)) depth a × (k ≤ 65535) ⌝ }
     ensures { λ r. ⌜ r ≡ judged (rowEnd (shapeAt (now (now (p .entry))) a) (innerAt (now (now (p .entry))) depth a) 0)
-        (entriesAt (now (now (p .entry))) depth a (now (now (listing .entry))) size k start) ⌝ }
+        (entriesAt (now (now (p .entry))) depth a (now (now (listing .entry))) (now (now (pool .entry))) k start) ⌝ }
 {
     let s = *p;
     let t = *listing;
+    let o = *pool;
     let mut due = k;
     let mut i = start;
     let mut seen = 0;
     while 0 < due {
         due = due - 1;
-        let fields = judge_fields(s, a, t, size, i);
+        let fields = judge_fields(s, a, t, o, i);
         let Judged::To { next, .. } = fields else {
             return fields;
         };
@@ -258,12 +334,12 @@ fn judge_entries(
             i = next;
             continue;
         }
-        let row = judge_row(p, a, depth, listing, size, next);
+        let row = judge_row(p, a, depth, listing, pool, next);
         let Judged::To { next: on, length } = row else {
             return row;
         };
         seen = plus(seen, length);
-        let datas = judge_datas(s, a, t, size, on);
+        let datas = judge_datas(s, a, t, o, on);
         let Judged::To {
             next: end,
             length: more,
@@ -286,12 +362,13 @@ fn judge_row(
     a: usize,
     depth: usize,
     listing: &&[u64],
-    size: usize,
+    pool: &&[u8],
     start: usize,
 ) -> Judged
     requires { ⌜ BlockAt (now (now p)) depth a ⌝ }
     ensures { λ r. ⌜ r ≡ judged (rowEnd (shapeAt (now (now (p .entry))) a) (innerAt (now (now (p .entry))) depth a) 0)
-        (judgeGroups (now (now (listing .entry))) size (innerAt (now (now (p .entry))) depth a) start) ⌝ }
+        (judgeGroups (now (now (listing .entry))) (now (now (pool .entry))) (innerAt (now (now (p .entry))) depth a)
+        start) ⌝ }
 {
     let s = *p;
     let t = *listing;
@@ -309,7 +386,7 @@ fn judge_row(
         if 65535 <= k {
             return refuse(54, i);
         }
-        let entries = judge_entries(p, g, depth - 1, listing, size, k, i + 1);
+        let entries = judge_entries(p, g, depth - 1, listing, pool, k, i + 1);
         let Judged::To { next, length } = entries else {
             return entries;
         };
@@ -324,14 +401,14 @@ fn judge_row(
 }
 
 // A whole listing by the template whose block stands at a: the octets of the message without its header.
-pub fn judge_listing(p: &&[u64], a: usize, listing: &&[u64], size: usize) -> Judged
+pub fn judge_listing(p: &&[u64], a: usize, listing: &&[u64], pool: &&[u8]) -> Judged
     requires { ⌜ BlockAt (now (now p)) 4 a ⌝ }
     ensures { λ r. ⌜ r ≡ judged (listingEnd (shapeAt (now (now (p .entry))) a) (innerAt (now (now (p .entry))) 4 a)
-        (now (now (listing .entry)))) (judgeListing (now (now (listing .entry))) size (templateAt (now (now (p .entry)))
-        a)) ⌝ }
+        (now (now (listing .entry)))) (judgeListing (now (now (listing .entry))) (now (now (pool .entry)))
+        (templateAt (now (now (p .entry))) a)) ⌝ }
 {
     let t = *listing;
-    let root = judge_entries(p, a, 4, listing, size, 1, 0);
+    let root = judge_entries(p, a, 4, listing, pool, 1, 0);
     let Judged::To { next, .. } = root else {
         return root;
     };

@@ -1,6 +1,6 @@
 -- "Its length is 12 plus the declared root block, 4 per group record, ..": what is written has the length that the
 -- formula says.
-use mathlib.Core.Path.{_∙_, _≡_, refl, subst, sym}
+use mathlib.Core.Path.{_∙_, _≡_, ap, refl, subst, sym}
 use mathlib.Core.Bool.{Bool, false, true}
 use mathlib.Core.List.{List, [], _++_, _∷_}
 use Prim.Native.Nat.{_+_, _-_, _≤_, suc, zero, ℕ}
@@ -8,6 +8,7 @@ use native.Mathlib.Omega.{arith}
 use lib.Dec.{eqb}
 use lib.ListN.{drop, length, length-append, length-drop, length-replicate, replicate, take}
 use lib.Seq.{length-take-le}
+use borrow.Author.Tests.{leb-true}
 use Rattle.layout.specs.Result.{Result, done, if_then_else_}
 use Rattle.layout.specs.Octets.{octetsOf}
 use Rattle.layout.specs.Types.{typeAt}
@@ -20,7 +21,7 @@ use Rattle.layout.specs.Writing.{blockOctets, dataOctets, datasLength, e
 use Rattle.layout.specs.Writing.{judgeData, judgeDatas, judgeEntries, judgeField, judgeFields, judgeGroups}
 use Rattle.layout.specs.Writing.{judgeListing, messageOctets, numbers16, rowLength, rowOctets, second, spanOctets}
 use Rattle.layout.specs.Writing.{spanOf, third, writtenLength}
-use Rattle.layout.proofs.Said.{array-said, data-said, number-said}
+use Rattle.layout.proofs.Said.{ArraySaid, array-said, data-said, null, number-said, plain, text}
 use Rattle.layout.proofs.Fields.{field-good, size-array, size-plain}
 use Rattle.layout.proofs.Results.{and-left, and-right, done-inj, each-way, inv-bind, inv-both}
 use Rattle.layout.proofs.Stands.{length-numbers, length-octets}
@@ -30,32 +31,48 @@ use Rattle.layout.specs.declared.Answer.the-variants.{Null, Number, Octe
 pub span-long : (pool : List ℕ) (start len : ℕ) → start + len ≤ length pool → length (take len (drop start pool)) ≡ len
 span-long pool start len h = length-take-le len (drop start pool) (rw length-drop (omega arith))
 
+filled-long : (xs : List ℕ) (n x : ℕ) → length (xs ++ replicate n x) ≡ length xs + n
+filled-long xs n x = length-append xs (replicate n x) ∙ ap (λ k. length xs + k) (length-replicate n x)
+
 module _ (l pool : List ℕ) where
   -- ---- fields
 
-  array-long : (f : Field) (start len : ℕ) → start + len ≤ length pool
-      → length (fieldOctets pool f (Octets start len)) ≡ len
+  array-long : (f : Field) (start len : ℕ) → start + len ≤ length pool → len ≤ f .length
+      → length (fieldOctets pool f (Octets start len)) ≡ f .length
   unfolding fieldOctets spanOf
-  array-long f start len h = span-long pool start len h
+  array-long f start len h k =
+      filled-long (take len (drop start pool)) (f .length - len) _ ∙ omega (arith, span-long pool start len h)
 
-  number-long : (f : Field) (b : Bool) (x : ℕ)
+  null-long : (f : Field) → isArray f ≡ true → length (fieldOctets pool f Null) ≡ f .length
+  unfolding fieldOctets if_then_else_
+  null-long f y = rw y (length-replicate {A = ℕ} (f .length) _)
+
+  said-long : (f : Field) (i : ℕ) (a : Answer) → isArray f ≡ true → ArraySaid l pool f i a
+      → length (fieldOctets pool f a) ≡ f .length
+  said-long f i a y (null c n o e) = rw (← e) (null-long f y)
+  said-long f i a y (text c q h) =
+      rw (← (q .is))
+      (array-long f (second l i) (third l i) (q .within) (leb-true (third l i) (f .length) (and-left _ _ h)))
+  said-long f i a y (plain c q h) =
+      rw (← (q .is)) (array-long f (second l i) (third l i) (q .within) (omega arith))
+
+  number-long : (f : Field) (b : Bool) (x : ℕ) → isArray f ≡ false
       → length (fieldOctets pool f (if b then Null else Number x)) ≡ typeAt (f .type) .width
   unfolding fieldOctets if_then_else_
-  number-long f true x = length-octets _ _
-  number-long f false x = length-octets _ _
+  number-long f true x y = rw y (length-octets _ _)
+  number-long f false x y = length-octets _ _
 
-  pub field-long : (f : Field) (i : ℕ) (a : Answer) → lengthGood f ≡ true → judgeField l (length pool) f i ≡ done a
+  pub field-long : (f : Field) (i : ℕ) (a : Answer) → lengthGood f ≡ true → judgeField l pool f i ≡ done a
       → length (fieldOctets pool f a) ≡ size f
   field-long f i a g e =
       each-way (isArray f)
-      (λ y. let s = array-said l (length pool) f i a y e in
-      rw (← (s .0 .is)) (array-long f (second l i) (third l i) (s .0 .within) ∙ s .1 ∙ sym (size-array f g y)))
-      (λ y. rw (← (number-said l (length pool) f i a y e .is))
-      (number-long f (eqb (first l i) 1) (second l i) ∙ sym (size-plain f g y)))
+      (λ y. said-long f i a y (array-said l pool f i a y e) ∙ sym (size-array f g y))
+      (λ y. rw (← (number-said l pool f i a y e .is))
+      (number-long f (eqb (first l i) 1) (second l i) y ∙ sym (size-plain f g y)))
 
   pub fields-long : (fs : List Field) (len from i : ℕ) (r : List Answer × ℕ) → fieldsGood len from fs ≡ true
       → from ≤ len
-      → judgeFields l (length pool) fs i ≡ done r → from + length (blockOctets pool len from fs (r .0)) ≡ len
+      → judgeFields l pool fs i ≡ done r → from + length (blockOctets pool len from fs (r .0)) ≡ len
   unfolding judgeFields blockOctets
   fields-long [] len from i r g h e = rw (length-replicate {A = ℕ} (len - from)) (omega arith)
   fields-long (f ∷ fs) len from i r g h e =
@@ -80,13 +97,13 @@ module _ (l pool : List ℕ) where
 
   -- ---- data
 
-  pub data-long : (i : ℕ) (a : Answer) → judgeData l (length pool) i ≡ done a → length (spanOctets pool a) ≡ spanOf a .1
+  pub data-long : (i : ℕ) (a : Answer) → judgeData l pool i ≡ done a → length (spanOctets pool a) ≡ spanOf a .1
   unfolding spanOf
   data-long i a e =
-      let s = data-said l (length pool) i a e .0 in
+      let s = data-said l pool i a e .0 in
       rw (← (s .is)) (span-long pool (second l i) (third l i) (s .within))
 
-  datas-long : (ds : List Data) (i : ℕ) (r : List Answer × ℕ) → judgeDatas l (length pool) ds i ≡ done r
+  datas-long : (ds : List Data) (i : ℕ) (r : List Answer × ℕ) → judgeDatas l pool ds i ≡ done r
       → length (dataOctets pool (r .0)) ≡ datasLength (r .0)
   unfolding judgeDatas dataOctets datasLength
   datas-long [] i r e = subst (λ (x : List Answer × ℕ). length (dataOctets pool (x .0)) ≡ datasLength (x .0))
@@ -130,7 +147,7 @@ module _ (l pool : List ℕ) where
 
   module _ (s : Shape) (gs : Groups) (good : fieldsGood (s .length) 0 (s .fields) ≡ true) (f : ℕ → Result (Values × ℕ))
       (ih : (i : ℕ) (r : Values × ℕ) → f i ≡ done r → Long s gs (r .0)) where
-    block-long : (i : ℕ) (b : Entry) (rest : Values) → judgeBlock l (length pool) s f i ≡ done b → Long s gs rest
+    block-long : (i : ℕ) (b : Entry) (rest : Values) → judgeBlock l pool s f i ≡ done b → Long s gs rest
         → Long s gs (entry (b .0) (b .1) (b .2) rest)
     unfolding judgeBlock
     block-long i b rest e h =
@@ -142,7 +159,7 @@ module _ (l pool : List ℕ) where
         (ih (p .value .1) (q .value) (q .first)) (datas-long (s .datas) (q .value .1) (q .other) (q .second)) h)
 
     entries-long : (k i : ℕ) (r : Values × ℕ)
-        → judgeEntries l (length pool) k (judgeBlock l (length pool) s f) i ≡ done r
+        → judgeEntries l pool k (judgeBlock l pool s f) i ≡ done r
         → Long s gs (r .0)
     unfolding judgeEntries
     entries-long zero i r e = subst (λ (x : Values × ℕ). Long s gs (x .0)) (done-inj e)
@@ -163,7 +180,7 @@ module _ (l pool : List ℕ) where
       rw (length-append (numbers16 d) (xs ++ ys), length-append xs ys, length-numbers d, x, y) (omega arith)
 
   groups-long : (gs : Groups) (s₀ : Shape) (i : ℕ) (r : Values × ℕ) → groupsGood gs ≡ true
-      → judgeGroups l (length pool) gs i ≡ done r → Long s₀ gs (r .0)
+      → judgeGroups l pool gs i ≡ done r → Long s₀ gs (r .0)
   unfolding judgeGroups groupsGood
   groups-long none s₀ i r g e = subst (λ (x : Values × ℕ). Long s₀ none (x .0)) (done-inj e)
       (unfold rowOctets rowLength in refl)
@@ -172,20 +189,20 @@ module _ (l pool : List ℕ) where
       let h = and-right _ _ g in
       subst (λ (x : Values × ℕ). Long s₀ (more id since s inner rest) (x .0)) (p .is)
       (group-long id since s inner rest s₀ _ (p .value .0) (p .other .0)
-      (entries-long s inner (and-right _ _ (and-left _ _ g)) (judgeGroups l (length pool) inner)
+      (entries-long s inner (and-right _ _ (and-left _ _ g)) (judgeGroups l pool inner)
       (λ j x z. groups-long inner s j x (and-left _ _ h) z) (second l i) (suc i) (p .value) (p .first))
       (groups-long rest s₀ (p .value .1) (p .other) (and-right _ _ h) (p .second)))
 
   -- The whole message.
   pub written-long : (b : Book) (t : Template) (r : Values) → layoutGood t ≡ true
-      → judgeListing l (length pool) t ≡ done r
+      → judgeListing l pool t ≡ done r
       → length (messageOctets b t pool r) ≡ writtenLength t r
   unfolding judgeListing messageOctets
   written-long b t r g e =
       let p = inv-both _ _ _ _ e in
       let x = p .value in
       let long = block-long (t .shape) (t .groups) (and-right _ _ (and-left _ _ g))
-      (judgeGroups l (length pool) (t .groups))
+      (judgeGroups l pool (t .groups))
       (λ j y z. groups-long (t .groups) (t .shape) j y (and-right _ _ g) z) 0 x nil (p .first)
       (unfold rowOctets rowLength in refl) in
       subst (λ (y : Values). length (messageOctets b t pool y) ≡ writtenLength t y) (p .is)

@@ -13,9 +13,9 @@ use Rattle.layout.specs.Lists.{KeepsNames, Kind, Names, beside, enumerat
 use Rattle.layout.specs.Lists.{missing, noNames, onlyBits, set}
 use Rattle.layout.specs.Book.{Field, withNames}
 use Rattle.layout.specs.BookRules.{climbing, greatest}
-use Rattle.layout.specs.Message.{readField}
+use Rattle.layout.specs.Message.{arrayAt, readField}
 use Rattle.layout.specs.Demands.{Sound}
-use Rattle.layout.proofs.Results.{and-left, and-right, or-right}
+use Rattle.layout.proofs.Results.{and-left, and-right, either, or-right}
 use Rattle.layout.specs.declared.Answer.{Answer}
 use Rattle.layout.specs.declared.Answer.the-variants.{Absent, Group, Null, Number, Octets, OutOfRange, Unlisted}
 
@@ -134,17 +134,26 @@ greatest-bounds low k (n ∷ n′ ∷ ns) c h =
 -- ---- fields of a message
 
 module _ (l l′ : Names) (twice : (a : Answer) → beside l (beside l′ a) ≡ beside l a) where
+  -- An array has no list.
+  array-beside : (m : List ℕ) (start : ℕ) (f : Field)
+      → arrayAt m start (withNames f l) ≡ beside l (arrayAt m start (withNames f l′))
+  unfolding arrayAt beside
+  array-beside m start f = either Same _ _ _ (either Same _ _ _ refl refl) refl
+    where
+      Same : Answer → Type 0
+      Same a = a ≡ beside l a
+
   -- Whether the field is present, and whether it is an array.
-  choice-beside : (b y : Bool) (start len : ℕ) (a : Answer)
-      → (if b then (if y then Octets start len else beside l a) else Absent)
-      ≡ beside l (if b then (if y then Octets start len else beside l′ a) else Absent)
+  choice-beside : (b y : Bool) (x x′ a : Answer) → x ≡ beside l x′
+      → (if b then (if y then x else beside l a) else Absent)
+      ≡ beside l (if b then (if y then x′ else beside l′ a) else Absent)
   unfolding beside if_then_else_
-  choice-beside true true start len a = refl
-  choice-beside true false start len a = sym (twice a)
-  choice-beside false y start len a = refl
+  choice-beside true true x x′ a e = e
+  choice-beside true false x x′ a e = sym (twice a)
+  choice-beside false y x x′ a e = refl
 
   -- What a field is with the names l is what it is with the names l′, seen beside l, where l lacks what l′ lacks.
   pub read-beside : (m : List ℕ) (v at : ℕ) (f : Field)
       → readField m v at (withNames f l) ≡ beside l (readField m v at (withNames f l′))
   unfolding readField
-  read-beside m v at f = choice-beside _ _ _ _ _
+  read-beside m v at f = choice-beside _ _ _ _ _ (array-beside m _ f)

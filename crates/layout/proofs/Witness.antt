@@ -21,10 +21,10 @@ use Rattle.layout.specs.Writing.{writeOf}
 use Rattle.layout.specs.Extension.{AddedGroups, AddsGroups, AllAbove, Extends, ExtendsFields, ExtendsGroups}
 use Rattle.layout.specs.Extension.{ExtendsShape}
 use Rattle.layout.specs.All.{all}
-use Rattle.layout.specs.Cases.{bookA, bookB, bookFew, bookMany, messageM, minus5, with16}
+use Rattle.layout.specs.Cases.{bookA, bookB, bookFew, bookMany, bookT, messageM, messageT, minus5, with16}
 use Rattle.layout.specs.Demands.{AllSound, AsWritten, OwnBlocks, Sound, ZeroPadding}
 use Rattle.layout.proofs.ListLaws.{or-either}
-use Rattle.layout.specs.declared.Answer.the-variants.{Group, Number, Octets}
+use Rattle.layout.specs.declared.Answer.the-variants.{Group, Null, Number, Octets, Unlisted}
 
 -- ---- A and B as trees
 
@@ -458,13 +458,21 @@ pub M-is : readMessage treeA messageM ≡ done valuesM
 unfolding all valuesM
 M-is = refl
 
+no-text : {A : Type 0} → false ≡ true → A
+no-text e = absurd (false≢true e)
+
 pub M-as-written : AsWritten treeA templateA messageM valuesM
 unfolding all valuesM Each ZeroPadding OwnBlocks Sound AllSound
 M-as-written =
     record {
       version = refl;
       length = refl;
-      blocks = ((refl, (refl, refl)), (refl, ((refl, refl), tt, ((refl, refl), tt, tt)), tt), tt);
+      blocks = (
+        (refl, (refl, refl)),
+        (no-text, (no-text, tt)),
+        (refl, ((refl, refl), (no-text, tt), tt, ((refl, refl), (no-text, tt), tt, tt)), tt),
+        tt,
+      );
       sound = ((tt, (tt, tt)), (((tt, tt), tt, ((tt, tt), tt, tt)), tt), tt);
     }
 
@@ -482,9 +490,101 @@ pub unlisted-not-written : writeOf bookFew 1 (listing valuesM) messageM 32 ≡ r
 unfolding all valuesM
 unlisted-not-written = refl
 
+unfoldable pub valuesFew : Values
+valuesFew =
+    entry (Unlisted 1000 ∷ Number minus5 ∷ [])
+    (group (Group 2) (entry (Number 1 ∷ []) nil [] (entry (Unlisted 3 ∷ []) nil [] nil)) nil)
+    (Octets 30 2 ∷ []) nil
+
+pub Few-reads : readMessage treeFew messageM ≡ done valuesFew
+unfolding all valuesFew
+Few-reads = refl
+
+pub unlisted-not-as-written : ¬ AsWritten treeFew templateFew messageM valuesFew
+unfolding valuesFew Each Sound AllSound
+unlisted-not-as-written a = a .sound .0 .0
+
 pub kind-6-not-written : writeOf bookFew 1 (6 ∷ 1000 ∷ 0 ∷ []) messageM 32 ≡ refused 51 0
 unfolding all
 kind-6-not-written = refl
+
+-- ---- text
+
+-- "B" in the first text and nothing in the second, with an octet x after the first's NUL.
+abbrev textB : ℕ → List ℕ
+textB x = messageT (0x42 ∷ 0 ∷ x ∷ 0 ∷ 0 ∷ 0 ∷ 0 ∷ 0 ∷ [])
+
+abbrev textField : ℕ → ℕ → ℕ → Field
+textField id offset presence =
+    record {
+      id = id;
+      type = 0;
+      length = 4;
+      offset = offset;
+      presence = presence;
+      since = 0;
+      list = 0;
+      names = noNames;
+    }
+
+abbrev templateT : Template
+templateT =
+    record {
+      id = 1;
+      shape = record { length = 8; fields = textField 55 0 0 ∷ textField 65 4 1 ∷ []; datas = [] };
+      groups = none;
+    }
+
+abbrev treeT : Book
+treeT = record { schema = 7; version = 0; lists = []; templates = templateT ∷ [] }
+
+pub T-is : bookOf bookT ≡ done treeT
+unfolding all
+T-is = refl
+
+unfoldable pub valuesT : Values
+valuesT = entry (Octets 12 1 ∷ Null ∷ []) nil [] nil
+
+-- What follows the NUL is skipped, and is not written back.
+pub text-is : (x : ℕ) → readMessage treeT (textB x) ≡ done valuesT
+unfolding all valuesT
+text-is x = refl
+
+pub text-written-back : writeOf bookT 1 (listing valuesT) (textB 7) 20 ≡ done (textB 0)
+unfolding all valuesT
+text-written-back = refl
+
+pub text-as-written : AsWritten treeT templateT (textB 0) valuesT
+unfolding all valuesT Each ZeroPadding OwnBlocks Sound AllSound
+text-as-written =
+    record {
+      version = refl;
+      length = refl;
+      blocks = ((refl, (refl, refl)), ((λ e. refl), ((λ e. refl), tt)), tt, tt);
+      sound = ((tt, (tt, tt)), tt, tt);
+    }
+
+pub tail-not-as-written : ¬ AsWritten treeT templateT (textB 7) valuesT
+unfolding all valuesT Each OwnBlocks
+tail-not-as-written a = omega (arith, ap (λ (s : List ℕ). getD s 1 0) (a .blocks .1 .0 refl))
+
+-- "53 for a text longer than its field, with a NUL in it, or empty for an optional field, which now takes null; 52 for
+-- null in a required one".
+pub text-too-long : writeOf bookT 1 (2 ∷ 0 ∷ 5 ∷ []) (0x41 ∷ 0x42 ∷ 0x43 ∷ 0x44 ∷ 0x45 ∷ []) 20 ≡ refused 53 0
+unfolding all
+text-too-long = refl
+
+pub text-with-nul : writeOf bookT 1 (2 ∷ 0 ∷ 2 ∷ []) (0x41 ∷ 0 ∷ []) 20 ≡ refused 53 0
+unfolding all
+text-with-nul = refl
+
+pub text-empty : writeOf bookT 1 (2 ∷ 0 ∷ 0 ∷ 2 ∷ 0 ∷ 0 ∷ []) [] 20 ≡ refused 53 1
+unfolding all
+text-empty = refl
+
+pub text-null : writeOf bookT 1 (1 ∷ 0 ∷ 0 ∷ []) [] 20 ≡ refused 52 0
+unfolding all
+text-null = refl
 
 -- ---- "Readings that look right": two of the worked cases shut out the first and the third, and these the others
 

@@ -1,6 +1,6 @@
 -- Everything that computes, under one name: what says `unfolding all` is evaluated to its answer.
 use Rattle.layout.specs.Result.{_>>=_, must, orRefuse, asRefusal, _and_, _or_, if_then_else_}
-use Rattle.layout.specs.Octets.{numberOf, octetsOf, wordsOf}
+use Rattle.layout.specs.Octets.{numberOf, octetsOf, textLength, wordsOf}
 use Rattle.layout.specs.Types.{typeAt, valueOf, inRange, classify}
 use Rattle.layout.specs.Lists.{findNames, isOneOf, onlyBits, isListed, beside}
 use Rattle.layout.specs.Book.{findTemplate, needAfter, groupSinces, present}
@@ -10,28 +10,28 @@ use Rattle.layout.specs.BookRules.{parseContents, contentsEnd, checkCont
 use Rattle.layout.specs.Values.{recordOf, recordsOf, listing, measure, groupOf, entriesOf, entriesFrom}
 use Rattle.layout.specs.Values.{groupsIn, elementOf, elementIn, answerAt}
 use Rattle.layout.specs.Message.{readData, skipDatas, readDimension, skipGroups, readEntries, readField}
-use Rattle.layout.specs.Message.{readDatas, readBlock, readGroup, readGroups, headerWhole, checkHeader}
+use Rattle.layout.specs.Message.{arrayAt, readDatas, readBlock, readGroup, readGroups, headerWhole, checkHeader}
 use Rattle.layout.specs.Message.{countGood, surplusOf, readWhole, readRoot, readMessage}
 use Rattle.layout.specs.Reading.{checkOf, listOf, hasElement, groupHas, hasPlace, placeAsked, placeBy, placeOf}
 use Rattle.layout.specs.Reading.{stepsOf, wholeSteps}
 use Rattle.layout.specs.Writing.{judgeOctets, judgeNumber, judgeFields, judgeDatas, judgeEntries, judgeBlock}
 use Rattle.layout.specs.Writing.{judgeGroups, judgeListing, numbers16, spanOf, entriesIn, fieldOctets}
 use Rattle.layout.specs.Writing.{blockOctets, dataOctets, rowOctets, messageOctets, datasLength, rowLength}
-use Rattle.layout.specs.Writing.{writeOf}
+use Rattle.layout.specs.Writing.{writeOf, judgeNull, judgeArray}
 
 unfoldable pub all : Unit {0}
 unfolding
     _>>=_ must orRefuse asRefusal _and_ _or_ if_then_else_
-    numberOf octetsOf wordsOf
+    numberOf octetsOf textLength wordsOf
     typeAt valueOf inRange classify
     findNames isOneOf onlyBits isListed beside
     findTemplate needAfter groupSinces present
     parseFields parseDatas parseShape parseGroups parseBody climbing kindGood fieldsGood groupsGood rising
     fieldsSince groupsSince parseContents contentsEnd checkContents parseBodies eachMust bookOf
     recordOf recordsOf listing measure groupOf entriesOf entriesFrom groupsIn elementOf elementIn answerAt
-    readData skipDatas readDimension skipGroups readEntries readField readDatas readBlock readGroup readGroups
+    readData skipDatas readDimension skipGroups readEntries arrayAt readField readDatas readBlock readGroup readGroups
     headerWhole checkHeader countGood surplusOf readWhole readRoot readMessage
     checkOf listOf hasElement groupHas hasPlace placeAsked placeOf stepsOf wholeSteps placeBy
-    judgeOctets judgeNumber judgeFields judgeDatas judgeEntries judgeBlock judgeGroups judgeListing
+    judgeOctets judgeNumber judgeNull judgeArray judgeFields judgeDatas judgeEntries judgeBlock judgeGroups judgeListing
     numbers16 spanOf entriesIn fieldOctets blockOctets dataOctets rowOctets messageOctets datasLength rowLength writeOf
 all = tt

@@ -4,7 +4,7 @@ use mathlib.Core.List.{List, [], _∷_, map}
 use mathlib.Core.Option.{Option, none as no, some}
 use Prim.Native.Nat.{ℕ, _+_, _*_}
 use lib.Dec.{leb, ltb, eqb}
-use Rattle.layout.specs.Result.{if_then_else_}
+use Rattle.layout.specs.Result.{_and_, if_then_else_}
 use Rattle.layout.specs.Types.{typeAt}
 use Rattle.layout.specs.Lists.{NameList, Names}
 
@@ -75,9 +75,15 @@ size f = typeAt (f .type) .width * f .length
 abbrev pub end : Field → ℕ
 end f = f .offset + size f
 
--- "types 0 and 2 may have 2 to 1,024, and such an array is plain octets"
+-- "types 0 and 2 may have 2 to 1,024": an array, which of char is text and otherwise "is plain octets".
 abbrev pub isArray : Field → Bool
 isArray f = ltb 1 (f .length)
+
+abbrev pub isChar : Field → Bool
+isChar f = eqb (f .type) 0
+
+abbrev pub isText : Field → Bool
+isText f = isArray f and isChar f
 
 abbrev pub isOptional : Field → Bool
 isOptional f = eqb (f .presence) 1

@@ -1,4 +1,5 @@
--- The cases that document 01 marks P, and four of name lists: one table, one theorem, which the checker computes.
+-- The cases that document 01 marks P, and some of name lists and of text: one table, one theorem, which the checker
+-- computes.
 use mathlib.Core.Path.{_≡_, refl}
 use mathlib.Core.Bool.{Bool, true, false}
 use mathlib.Core.List.{List, [], _∷_, _++_, map}
@@ -120,6 +121,20 @@ pub nine-rows : map typeAt (0 ∷ 1 ∷ 2 ∷ 3 ∷ 4 ∷ 5 ∷ 6 ∷ 7 ∷ 8 �
 unfolding typeAt if_then_else_ _and_
 nine-rows = refl
 
+-- Two texts of four octets, the second optional, and a message of them.
+abbrev pub bookT : List ℕ
+bookT =
+    words
+    (7 ∷ 0 ∷ 1 ∷ 26 ∷ 0
+    ∷ 1 ∷ 8 ∷ 18
+    ∷ 8 ∷ 2 ∷ 0 ∷ 0
+    ∷ 55 ∷ 0 ∷ 4 ∷ 0 ∷ 0 ∷ 0 ∷ 0
+    ∷ 65 ∷ 0 ∷ 4 ∷ 4 ∷ 1 ∷ 0 ∷ 0
+    ∷ [])
+
+abbrev pub messageT : List ℕ → List ℕ
+messageT texts = 0x08 ∷ 0 ∷ 0x01 ∷ 0 ∷ 0x07 ∷ 0 ∷ 0 ∷ 0 ∷ 0 ∷ 0 ∷ 0 ∷ 0 ∷ texts
+
 pub data Case : Type 0 where
   -- a book and a message, listed by the program's room
   listed : List ℕ → List ℕ → Case
@@ -159,6 +174,9 @@ table =
     done (0 ∷ 1000 ∷ 0 ∷ 0 ∷ minus5 ∷ 0 ∷ 4 ∷ 2 ∷ 0 ∷ 0 ∷ 1 ∷ 0 ∷ 0 ∷ 3 ∷ 0 ∷ 2 ∷ 30 ∷ 2 ∷ []))
     ∷ (listed (bookL 0 (3 ∷ 3 ∷ []) (1 ∷ [])) messageM says refused 4 1)
     ∷ (listed (bookL 0 (3 ∷ 32 ∷ []) (1 ∷ [])) messageM says refused 5 0)
+    ∷ (listed bookT (messageT (0x4d ∷ 0x53 ∷ 0x46 ∷ 0x54 ∷ 0x42 ∷ 0 ∷ 0x43 ∷ 0 ∷ [])) says
+    done (2 ∷ 12 ∷ 4 ∷ 2 ∷ 16 ∷ 1 ∷ []))
+    ∷ (listed bookT (messageT (0 ∷ 0x53 ∷ 0 ∷ 0 ∷ 0 ∷ 0x42 ∷ 0 ∷ 0 ∷ [])) says done (2 ∷ 12 ∷ 0 ∷ 1 ∷ 0 ∷ 0 ∷ []))
     ∷ (listed bookA (take 31 messageM) says refused 16 28)
     ∷ (listed bookA (messageM ++ (0 ∷ [])) says refused 20 32)
     ∷ (listed bookA [] says refused 10 0)

@@ -1,14 +1,14 @@
 -- The words in which demands 2 and 3 are said.
 use mathlib.Core.Path.{_≡_}
-use mathlib.Core.Bool.{false}
+use mathlib.Core.Bool.{false, true}
 use mathlib.Core.List.{List, [], _∷_, map}
 use Prim.Native.Nat.{_+_, _-_, suc, zero, ℕ}
 use lib.Dec.{eqb}
 use lib.ListN.{drop, getD, replicate, take}
 use Rattle.layout.specs.Result.{Each, if_then_else_}
-use Rattle.layout.specs.Octets.{number16}
+use Rattle.layout.specs.Octets.{number16, textLength}
 use Rattle.layout.specs.Lists.{Names, beside, has, noNames}
-use Rattle.layout.specs.Book.{Book, Field, Groups, Shape, Template, end, more, none}
+use Rattle.layout.specs.Book.{Book, Field, Groups, Shape, Template, end, isText, more, none}
 use Rattle.layout.specs.Values.{Step, Values, entry, group, nil}
 use Rattle.layout.specs.Message.{blockLength, dimensionSize, headerSize, versionOf}
 use Rattle.layout.specs.Writing.{rowLength}
@@ -41,12 +41,20 @@ unfoldable pub ZeroPadding : List ℕ → ℕ → ℕ → ℕ → List Field →
 ZeroPadding m at l e [] = Zeros m (at + e) (at + l)
 ZeroPadding m at l e (f ∷ fs) = Zeros m (at + e) (at + f .offset) × ZeroPadding m at l (end f) fs
 
--- A row at `at` has the book's own block lengths and zero padding. Each entry or group therefore starts where the ones
--- before it end by the formula of the written length.
+-- "Octets after the first NUL are skipped, so demand 2's writing back also asks that they be zero": those of the field
+-- f of the block at `at`, if it is text.
+abbrev pub ZeroTail : List ℕ → ℕ → Field → Type 0
+ZeroTail m at f =
+    let start = at + f .offset in
+    isText f ≡ true → Zeros m (start + textLength (take (f .length) (drop start m))) (start + f .length)
+
+-- A row at `at` has the book's own block lengths, zero padding, and zeros after each text. Each entry or group
+-- therefore starts where the ones before it end by the formula of the written length.
 unfoldable pub OwnBlocks : List ℕ → Shape → Groups → ℕ → Values → Type 0
 OwnBlocks m s gs at nil = Unit {0}
 OwnBlocks m s gs at (entry fs g ds rest) =
     ZeroPadding m at (s .length) 0 (s .fields)
+    × Each (ZeroTail m at) (s .fields)
     × OwnBlocks m s gs (at + s .length) g
     × OwnBlocks m s gs (at + rowLength s gs (entry fs g ds nil)) rest
 OwnBlocks m s none at (group a es rest) = Unit {0}

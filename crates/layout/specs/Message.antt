@@ -4,16 +4,16 @@ use mathlib.Core.Bool.{Bool}
 use mathlib.Core.List.{List, [], _∷_, map}
 use Prim.Native.Nat.{ℕ, zero, suc, _+_, _-_, _*_}
 use lib.Dec.{leb, ltb, eqb}
-use lib.ListN.{length}
+use lib.ListN.{drop, length, take}
 use Rattle.layout.specs.Result.{Result, done, must, orRefuse, if_then_else_, _and_, _>>=_}
-use Rattle.layout.specs.Octets.{numberAt, number16, null16}
+use Rattle.layout.specs.Octets.{numberAt, number16, null16, textLength}
 use Rattle.layout.specs.Types.{typeAt, valueOf, classify}
 use Rattle.layout.specs.Lists.{beside}
 use Rattle.layout.specs.Book.{Field, Data, Shape, Groups, none, more, Template, Book, findTemplate, isArray}
-use Rattle.layout.specs.Book.{isOptional, need, dataSinces, groupSinces, present}
+use Rattle.layout.specs.Book.{isChar, isOptional, need, dataSinces, groupSinces, present}
 use Rattle.layout.specs.Values.{Values, nil, entry, group}
 use Rattle.layout.specs.declared.Answer.{Answer}
-use Rattle.layout.specs.declared.Answer.the-variants.{Octets, Absent, Group}
+use Rattle.layout.specs.declared.Answer.the-variants.{Null, Octets, Absent, Group}
 
 -- "Header, six 16-bit numbers: block length, template id, schema id, version, number of groups, number of data."
 abbrev pub headerNumbers : ℕ
@@ -98,15 +98,27 @@ readEntries (suc n) f at = do
   (rest, y) ← readEntries n f x
   done (entry fs gs ds rest, y)
 
+module _ (m : List ℕ) where
+  -- "A char array's text now ends before its first NUL; an optional one that starts with NUL is null, a required one is
+  -- empty text."
+  abbrev pub textAt : ℕ → Field → Answer
+  textAt start f =
+      let n = textLength (take (f .length) (drop start m)) in
+      if isOptional f and eqb n 0 then Null else Octets start n
+
+  -- An array, which but for text "is plain octets, never null and not range-checked".
+  unfoldable pub arrayAt : ℕ → Field → Answer
+  arrayAt start f = if isChar f then textAt start f else Octets start (f .length)
+
 -- "Let v be the message's version."
 module _ (m : List ℕ) (v : ℕ) where
-  -- A field that is present in the block at `at`. "such an array is plain octets, never null and not range-checked"
+  -- A field that is present in the block at `at`.
   abbrev pub presentField : ℕ → Field → Answer
   presentField at f =
       let k = typeAt (f .type) in
       let start = at + f .offset in
       let value = valueOf k (numberAt (k .width) m start) in
-      if isArray f then Octets start (f .length) else beside (f .names) (classify k (isOptional f) value)
+      if isArray f then arrayAt m start f else beside (f .names) (classify k (isOptional f) value)
 
   -- "An element with since above v is absent, even where the block has octets for it."
   unfoldable pub readField : ℕ → Field → Answer

@@ -2,7 +2,9 @@
 -- listing's pool is read by `numberAt` and written by `octetsOf`.
 use mathlib.Core.List.{List, [], _∷_}
 use Prim.Native.Nat.{_%_, _*_, _+_, _/_, _<_, _^_, suc, zero, ℕ}
+use lib.Dec.{eqb}
 use lib.ListN.{drop, getD, take}
+use Rattle.layout.specs.Result.{if_then_else_}
 
 -- The number that the octets are.
 unfoldable pub numberOf : List ℕ → ℕ
@@ -25,6 +27,11 @@ number16 m at = numberAt 2 m at
 -- The greatest 16-bit number, which no block length, id, version, count or length may be.
 abbrev pub null16 : ℕ
 null16 = 65535
+
+-- "A char array's text now ends before its first NUL": how many octets that is.
+unfoldable pub textLength : List ℕ → ℕ
+textLength [] = 0
+textLength (b ∷ bs) = if eqb b 0 then 0 else suc (textLength bs)
 
 -- "Words are 16-bit, least significant octet first."
 unfoldable pub wordsOf : List ℕ → List ℕ

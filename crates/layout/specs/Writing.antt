@@ -5,11 +5,11 @@ use Prim.Native.Nat.{_*_, _+_, _-_, suc, zero, ℕ}
 use lib.Dec.{eqb, leb, ltb}
 use lib.ListN.{drop, getD, length, replicate, take}
 use Rattle.layout.specs.Result.{Result, _>>=_, _and_, _or_, done, if_then_else_, must, orRefuse}
-use Rattle.layout.specs.Octets.{null16, octetsOf}
+use Rattle.layout.specs.Octets.{null16, octetsOf, textLength}
 use Rattle.layout.specs.Types.{inRange, typeAt}
 use Rattle.layout.specs.Lists.{has}
 use Rattle.layout.specs.Book.{Field, Data, Shape, Groups, none, more, Template, Book, findTemplate, end, isArray}
-use Rattle.layout.specs.Book.{isOptional, groupSinces}
+use Rattle.layout.specs.Book.{isChar, isOptional, groupSinces}
 use Rattle.layout.specs.BookRules.{bookOf}
 use Rattle.layout.specs.Values.{Values, entry, group, nil}
 use Rattle.layout.specs.Message.{Entry, dimensionSize, headerSize}
@@ -33,9 +33,12 @@ module _ (l : List ℕ) where
   isThere i = leb (3 * i + 3) (length l)
 
   -- "wrong kind for its element (3 and 5 always, 1 for an array), or an unused number not 0"; "the writer takes 6 as
-  -- 51"
+  -- 51", and a char array takes 1
   abbrev pub isNumber : ℕ → Bool
   isNumber i = isThere i and eqb (third i) 0 and (eqb (first i) 0 or (eqb (first i) 1 and eqb (second i) 0))
+
+  abbrev pub isNull : ℕ → Bool
+  isNull i = isThere i and eqb (first i) 1 and eqb (second i) 0 and eqb (third i) 0
 
   abbrev pub isOctets : ℕ → Bool
   isOctets i = isThere i and eqb (first i) 2
@@ -50,25 +53,46 @@ module _ (l : List ℕ) where
       if eqb (first i) 1 then isOptional f
       else inRange k (second i) and not (eqb (second i) (k .null)) and has (f .names) (second i)
 
--- ---- 51 to 54, in the listing's order, `size` being the pool's length
+-- ---- 51 to 54, in the listing's order
 
-module _ (l : List ℕ) (size : ℕ) where
-  -- "53: start plus length past the pool's end, length not the field's, or data over 65,534": octets, whose length
-  -- `fits`.
-  unfoldable pub judgeOctets : Bool → ℕ → Result Answer
-  judgeOctets fits i = do
-    _ ← must (isOctets l i) 51 i
-    _ ← must (leb (second l i + third l i) size and fits) 53 i
-    done (Octets (second l i) (third l i))
-
+module _ (l : List ℕ) where
   unfoldable pub judgeNumber : Field → ℕ → Result Answer
   judgeNumber f i = do
     _ ← must (isNumber l i) 51 i
     _ ← must (numberFits l f i) 52 i
     done (if eqb (first l i) 1 then Null else Number (second l i))
 
+  -- An optional text "now takes null; 52 for null in a required one".
+  unfoldable pub judgeNull : Field → ℕ → Result Answer
+  judgeNull f i = do
+    _ ← must (isNull l i) 51 i
+    _ ← must (isOptional f) 52 i
+    done Null
+
+-- Octets are those of a pool.
+module _ (l pool : List ℕ) where
+  -- "53: start plus length past the pool's end, length not the field's, or data over 65,534": octets, whose length
+  -- `fits`.
+  unfoldable pub judgeOctets : Bool → ℕ → Result Answer
+  judgeOctets fits i = do
+    _ ← must (isOctets l i) 51 i
+    _ ← must (leb (second l i + third l i) (length pool) and fits) 53 i
+    done (Octets (second l i) (third l i))
+
+  -- "53 for a text longer than its field, with a NUL in it, or empty for an optional field"
+  abbrev pub textFits : Field → ℕ → Bool
+  textFits f i =
+      leb (third l i) (f .length) and eqb (textLength (take (third l i) (drop (second l i) pool))) (third l i)
+      and not (isOptional f and eqb (third l i) 0)
+
+  abbrev pub judgeText : Field → ℕ → Result Answer
+  judgeText f i = if eqb (first l i) 1 then judgeNull l f i else judgeOctets (textFits f i) i
+
+  unfoldable pub judgeArray : Field → ℕ → Result Answer
+  judgeArray f i = if isChar f then judgeText f i else judgeOctets (eqb (third l i) (f .length)) i
+
   abbrev pub judgeField : Field → ℕ → Result Answer
-  judgeField f i = if isArray f then judgeOctets (eqb (third l i) (f .length)) i else judgeNumber f i
+  judgeField f i = if isArray f then judgeArray f i else judgeNumber l f i
 
   abbrev pub judgeData : ℕ → Result Answer
   judgeData i = judgeOctets (ltb (third l i) null16) i
@@ -151,10 +175,12 @@ module _ (pool : List ℕ) where
   abbrev pub spanOctets : Answer → List ℕ
   spanOctets a = take (spanOf a .1) (drop (spanOf a .0) pool)
 
+  -- A text is filled with NUL: "The writer fills with NUL."
   unfoldable pub fieldOctets : Field → Answer → List ℕ
   fieldOctets f (Number x) = octetsOf (typeAt (f .type) .width) x
-  fieldOctets f Null = octetsOf (typeAt (f .type) .width) (typeAt (f .type) .null)
-  fieldOctets f (Octets start len) = spanOctets (Octets start len)
+  fieldOctets f Null =
+      if isArray f then replicate (f .length) 0 else octetsOf (typeAt (f .type) .width) (typeAt (f .type) .null)
+  fieldOctets f (Octets start len) = spanOctets (Octets start len) ++ replicate (f .length - len) 0
   fieldOctets f Absent = []
   fieldOctets f (Group k) = []
   fieldOctets f (OutOfRange x) = []
@@ -209,7 +235,7 @@ writtenLength t r = headerSize + rowLength (t .shape) (t .groups) r
 abbrev pub writeIn : Book → ℕ → List ℕ → List ℕ → ℕ → Result (List ℕ)
 writeIn b id l pool room = do
   t ← orRefuse (findTemplate id (b .templates)) 50 0
-  r ← judgeListing l (length pool) t
+  r ← judgeListing l pool t
   let m = messageOctets b t pool r
   _ ← must (leb (length m) room and leb (length m) 65535) 55 0
   done m

@@ -10,7 +10,7 @@ use Rattle.layout.specs.Writing.{judgeListing, messageOctets}
 -- 51 to 55: l is the listing, and `room` is how many octets there is room for.
 unfoldable pub writtenBy : Book → Template → List ℕ → List ℕ → ℕ → Result (List ℕ)
 writtenBy b t l pool room = do
-  r ← judgeListing l (length pool) t
+  r ← judgeListing l pool t
   let m = messageOctets b t pool r
   _ ← must (leb (length m) room and leb (length m) 65535) 55 0
   done m

@@ -162,7 +162,7 @@ fn write_by(p: &[u64], a: usize, listing: &[u64], pool: &[u8], room: &mut [u8]) 
     let q = &p[0..];
     let l = &listing[0..];
     let o = &pool[0..];
-    match judges::judge_listing(&q, a, &l, pool.len()) {
+    match judges::judge_listing(&q, a, &l, &o) {
         Judged::Refused(refusal) => Counted::Refused(refusal),
         Judged::To { length, .. } => {
             let n = 12 + length;

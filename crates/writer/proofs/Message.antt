@@ -51,7 +51,7 @@ header-laid d r₁ r₂ r₃ a b c e f g p q s =
 -- ---- one part after the other: what is judged good is written as the definition says
 
 module _ (l pool : List ℕ) where
-  fields-are : (n at : ℕ) (fs : List Field) (i : ℕ) (r : List Answer × ℕ) → judgeFields l (length pool) fs i ≡ done r
+  fields-are : (n at : ℕ) (fs : List Field) (i : ℕ) (r : List Answer × ℕ) → judgeFields l pool fs i ≡ done r
       → fieldsPart l pool n at fs i ≡ got (r .1) (blockOctets pool n at fs (r .0))
   unfolding judgeFields fieldsPart valuePart printed andThen prepend blockOctets
   fields-are n at [] i r is = rw (← (done-inj is)) refl
@@ -59,7 +59,7 @@ module _ (l pool : List ℕ) where
       step _ _ _ is λ a one next. step _ _ _ next λ z rest e.
       rw (one, fields-are n (end f) fs (i + 1) z (rw (add-one i) rest), ← (done-inj e)) refl
 
-  datas-are : (ds : List Data) (i : ℕ) (r : List Answer × ℕ) → judgeDatas l (length pool) ds i ≡ done r
+  datas-are : (ds : List Data) (i : ℕ) (r : List Answer × ℕ) → judgeDatas l pool ds i ≡ done r
       → datasPart l pool (length ds) i ≡ got (r .1) (dataOctets pool (r .0))
   unfolding judgeDatas datasPart dataPart printed andThen prepend dataOctets
   datas-are [] i r is = rw (← (done-inj is)) refl
@@ -71,7 +71,7 @@ module _ (l pool : List ℕ) where
   module _ (s : Shape) (gs : Groups) (f : ℕ → Result (Values × ℕ)) (row : ℕ → Printed)
       (rows : (i : ℕ) (r : Values × ℕ) → f i ≡ done r → row i ≡ got (r .1) (rowOctets pool s gs (r .0))) where
     entries-are : (k i : ℕ) (r : Values × ℕ)
-        → judgeEntries l (length pool) k (judgeBlock l (length pool) s f) i ≡ done r
+        → judgeEntries l pool k (judgeBlock l pool s f) i ≡ done r
         → entriesPart l pool s row k i ≡ got (r .1) (rowOctets pool s gs (r .0))
     unfolding judgeEntries judgeBlock entriesPart andThen prepend rowOctets
     entries-are zero i r is = rw (← (done-inj is)) refl
@@ -87,7 +87,7 @@ module _ (l pool : List ℕ) where
           ← (done-inj e),
         ) (simp append-assoc)
 
-  groups-are : (s : Shape) (gs : Groups) (i : ℕ) (r : Values × ℕ) → judgeGroups l (length pool) gs i ≡ done r
+  groups-are : (s : Shape) (gs : Groups) (i : ℕ) (r : Values × ℕ) → judgeGroups l pool gs i ≡ done r
       → groupsPart l pool gs i ≡ got (r .1) (rowOctets pool s gs (r .0))
   unfolding judgeGroups groupsPart andThen prepend rowOctets entriesIn if_then_else_ _and_
   groups-are s none i r is = rw (← (done-inj is)) refl
@@ -111,16 +111,16 @@ module _ (l pool : List ℕ) where
         prepend (numbers16 (headerOf b t)) (entriesPart l pool (t .shape) (groupsPart l pool (t .groups)) 1 0)
 
     root-entry : (e : Entry)
-        → judgeBlock l (length pool) (t .shape) (judgeGroups l (length pool) (t .groups)) 0 ≡ done e
+        → judgeBlock l pool (t .shape) (judgeGroups l pool (t .groups)) 0 ≡ done e
         → rootPart ≡ got (e .3) (messageOctets b t pool (entry (e .0) (e .1) (e .2) nil))
     unfolding judgeEntries messageOctets prepend _>>=_
     root-entry e is =
         let gs = t .groups in
-        rw (entries-are (t .shape) gs (judgeGroups l (length pool) gs) (groupsPart l pool gs) (groups-are (t .shape) gs)
+        rw (entries-are (t .shape) gs (judgeGroups l pool gs) (groupsPart l pool gs) (groups-are (t .shape) gs)
         1 0 (entry (e .0) (e .1) (e .2) nil, e .3) (rw is refl)) refl
 
     -- The message of a listing that was judged.
-    module _ (r : Values) (is : judgeListing l (length pool) t ≡ done r) where
+    module _ (r : Values) (is : judgeListing l pool t ≡ done r) where
       message-is : messagePart l pool b t ≡ got 0 (messageOctets b t pool r)
       unfolding messagePart printed
       message-is = rw is refl
@@ -140,7 +140,7 @@ module _ (l pool : List ℕ) where
           step _ _ _ is λ e one next. passed _ _ _ _ _ next λ counted whole.
           (e .3, root-entry e one ∙ ap (λ (z : Values). got (e .3) (messageOctets b t pool z)) (done-inj whole))
 
-    message-judged : Accepted (messagePart l pool b t) → Done (judgeListing l (length pool) t)
+    message-judged : Accepted (messagePart l pool b t) → Done (judgeListing l pool t)
     unfolding messagePart
     message-judged r = was-done _ _ _ r
 

@@ -4,6 +4,7 @@ use mathlib.Core.Path.{_≡_, refl, sym, ap, _∙_}
 use mathlib.Core.List.{List, [], _∷_, _++_, append-nil}
 use mathlib.Core.Bool.{Bool, true, false}
 use Prim.Native.Nat.{ℕ, zero, suc, _+_, _-_, _*_, _/_, _≤_, _<_}
+use native.Mathlib.Nat.{sub-zero}
 use native.Mathlib.Omega.{arith}
 use lib.Dec.{eqb, ltb}
 use lib.ListN.{drop, length, length-append, replicate, take}
@@ -17,9 +18,10 @@ use Rattle.layout.specs.Book.{Field, Groups, Shape, end, isArray, more, size}
 use Rattle.layout.specs.BookRules.{fieldsGood, lengthGood, parseFields, word}
 use Rattle.layout.specs.Writing.{fieldOctets, first, isGroup, isNumber, isThere, judgeData, judgeField}
 use Rattle.layout.specs.Writing.{numbers16, second, spanOf, third}
+use Rattle.layout.specs.declared.Answer.{Answer}
 use Rattle.layout.proofs.Results.{and-left, and-right, each-way, none-left, one-less, or-right, some-left}
 use Rattle.layout.proofs.Fields.{field-good}
-use Rattle.layout.proofs.Said.{array-said, data-said, number-said}
+use Rattle.layout.proofs.Said.{ArraySaid, OctetsSaid, array-said, data-said, null, number-said, plain, text}
 use Rattle.layout.proofs.Lengths.{field-long, span-long}
 use Rattle.layout.proofs.Stands.{length-octets}
 use Rattle.octets.proofs.Joined.{sets-append}
@@ -42,28 +44,60 @@ not-zero : (l : List ℕ) (i : ℕ) → isNumber l i ≡ true → (first l i ≡
 not-zero l i h k =
     eqb-true (first l i) 1 (and-left _ _ (or-right _ _ (and-right _ _ (and-right _ _ h)) (ne-eqb (first l i) 0 k)))
 
+module _ (l pool : List ℕ) (i : ℕ) where
+  -- The octets that record i names.
+  abbrev spanAt : List ℕ
+  spanAt = take (third l i) (drop (second l i) pool)
+
+  -- The array f is these octets, none if it is null, and zeros after them.
+  record ArrayIs (f : Field) (a : Answer) : Type 0 where
+    there : i < length l / 3
+    within : second l i + third l i ≤ length pool
+    octets : fieldOctets pool f a ≡ spanAt ++ replicate (f .length - third l i) 0
+
+  octets-are : {f : Field} {a : Answer} → OctetsSaid l pool i a → ArrayIs f a
+  unfolding fieldOctets spanOf
+  octets-are s = record { there = there-is l i _ (s .kind); within = s .within; octets = rw (← (s .is)) refl }
+
+  array-is : (f : Field) (a : Answer) → isArray f ≡ true → ArraySaid l pool f i a → ArrayIs f a
+  unfolding fieldOctets if_then_else_
+  array-is f a y (null c n o e) =
+      let unused = and-right _ _ (and-right _ _ n) in
+      let start = eqb-true (second l i) 0 (and-left _ _ unused) in
+      let none = eqb-true (third l i) 0 (and-right _ _ unused) in
+      record { there = there-is l i _ n; within = omega arith; octets = rw (← e, y, none, sub-zero) refl }
+  array-is f a y (text c s h) = octets-are s
+  array-is f a y (plain c s h) = octets-are s
+
 -- ---- one field
 
 module _ (l pool : List ℕ) (f : Field) (i k : ℕ) (r : Room (valuePart l pool f i) 0 k) where
-  value-done : Done (judgeField l (length pool) f i)
+  value-done : Done (judgeField l pool f i)
   unfolding valuePart
   value-done = was-done _ _ _ (r .whole)
+
+  array-done : isArray f ≡ true → ArrayIs l pool i f (value-done .value)
+  array-done y = array-is l pool i f _ y (array-said l pool f i _ y (value-done .is))
 
   -- Its record is there.
   pub value-there : i < length l / 3
   value-there =
-      each-way (isArray f) (λ y. there-is l i _ (array-said l (length pool) f i _ y (value-done .is) .0 .kind))
-      (λ y. there-is l i _ (number-said l (length pool) f i _ y (value-done .is) .kind))
+      each-way (isArray f) (λ y. array-done y .there)
+      (λ y. there-is l i _ (number-said l pool f i _ y (value-done .is) .kind))
 
-  -- The octets that it has, n in number.
+  value-same : valuePart l pool f i ≡ got (i + 1) (fieldOctets pool f (value-done .value))
+  unfolding valuePart printed
+  value-same = rw (value-done .is) refl
+
+  -- The octets that it has, and n of them fit.
   pub record ValueOpen (e : List ℕ) (n : ℕ) : Type 0 where
     pub same : valuePart l pool f i ≡ got (i + 1) e
     pub fits : n ≤ k
 
-  value-open : {e : List ℕ} {n : ℕ} → length e ≡ n → fieldOctets pool f (value-done .value) ≡ e → ValueOpen e n
-  unfolding valuePart printed numbersOf
-  value-open {e} h q =
-      let same : valuePart l pool f i ≡ got (i + 1) e = rw (value-done .is, q) refl in
+  value-open : {e : List ℕ} {n : ℕ} → n ≤ length e → fieldOctets pool f (value-done .value) ≡ e → ValueOpen e n
+  unfolding numbersOf
+  value-open h q =
+      let same = rw q at value-same in
       record { same = same; fits = omega (arith, rw same at (r .fits), h) }
 
   -- It is as long as its size says.
@@ -71,32 +105,32 @@ module _ (l pool : List ℕ) (f : Field) (i k : ℕ) (r : Room (valuePart l pool
       → Stored (valuePart l pool f i) 0 d (i + 1) (size f) d′
   unfolding endOf numbersOf
   value-stored g q =
-      let same = value-open refl refl .same in
       let long = field-long l pool f i (value-done .value) g (value-done .is) in
-      record { place = rw same refl; taken = rw same (omega (arith, long)); room = q }
+      record { place = rw value-same refl; taken = rw value-same (omega (arith, long)); room = q }
 
-  -- An array is octets of the pool.
-  module _ (n : ℕ) (is : n ≡ f .length) (h : 1 < n) where
-    pub array-within : second l i + n ≤ length pool
-    array-within =
-        let s = array-said l (length pool) f i _ (lt-ltb 1 (f .length) (rw is at h)) (value-done .is) in
-        omega (arith, s .0 .within, s .1, is)
+  -- An array is octets of the pool, and zeros.
+  pub record ArrayOpen : Type 0 where
+    pub within : second l i + third l i ≤ length pool
+    pub value : ValueOpen (spanAt l pool i ++ replicate (f .length - third l i) 0) (third l i)
 
-    pub array-open : ValueOpen (take n (drop (second l i) pool)) n
-    unfolding fieldOctets spanOf
-    array-open =
-        let s = array-said l (length pool) f i _ (lt-ltb 1 (f .length) (rw is at h)) (value-done .is) in
-        value-open (span-long pool (second l i) n array-within) (rw (← (s .0 .is), s .1, is) refl)
+  pub array-open : 1 < f .length → ArrayOpen
+  array-open h =
+      let s = array-done (lt-ltb 1 (f .length) h) in
+      let both = length-append (spanAt l pool i) (replicate (f .length - third l i) 0) in
+      let long = span-long pool (second l i) (third l i) (s .within) in
+      record { within = s .within; value = value-open (omega (arith, both, long)) (s .octets) }
 
   -- A number, or the type's null x.
   pub number-open : f .length ≤ 1 → (n x : ℕ) → n ≡ typeAt (f .type) .width → x ≡ typeAt (f .type) .null
       → ValueOpen (octetsOf n (numberOr l i x)) n
   unfolding if_then_else_ fieldOctets
   number-open h n x is e =
-      let said = number-said l (length pool) f i _ (le-ltb 1 (f .length) h) (value-done .is) in
-      value-open (length-octets n _) (rw (← (said .is), is, e) (each-way (eqb (first l i) 0)
+      let single = le-ltb 1 (f .length) h in
+      let said = number-said l pool f i _ single (value-done .is) in
+      value-open (omega (arith, length-octets n (numberOr l i x)))
+      (rw (← (said .is), is, e) (each-way (eqb (first l i) 0)
       (λ z. rw (z, eqb-true (first l i) 0 z) refl)
-      (λ z. rw (z, not-zero l i (said .kind) (eqb-false (first l i) 0 z)) refl)))
+      (λ z. rw (z, not-zero l i (said .kind) (eqb-false (first l i) 0 z)) (rw single refl))))
 
 -- ---- fields in a row
 
@@ -168,18 +202,15 @@ module _ (l pool : List ℕ) where
 
   -- ---- data
 
-  abbrev spanAt : ℕ → List ℕ
-  spanAt i = take (third l i) (drop (second l i) pool)
-
   -- The data of record i, and a room of k octets.
   pub record DataOpen (i k : ℕ) : Type 0 where
     pub there : i < length l / 3
     pub within : second l i + third l i ≤ length pool
-    pub long : length (spanAt i) ≡ third l i
+    pub long : length (spanAt l pool i) ≡ third l i
     pub fits : 2 + third l i ≤ k
-    pub same : dataPart l pool i ≡ got (i + 1) (octetsOf 2 (third l i) ++ spanAt i)
+    pub same : dataPart l pool i ≡ got (i + 1) (octetsOf 2 (third l i) ++ spanAt l pool i)
 
-  data-done : (i : ℕ) → Accepted (dataPart l pool i) → Done (judgeData l (length pool) i)
+  data-done : (i : ℕ) → Accepted (dataPart l pool i) → Done (judgeData l pool i)
   unfolding dataPart
   data-done i r = was-done _ _ _ r
 
@@ -187,11 +218,11 @@ module _ (l pool : List ℕ) where
   unfolding dataPart printed spanOf numbersOf
   data-open {i} r =
       let d = data-done i (r .whole) in
-      let s = data-said l (length pool) i (d .value) (d .is) .0 in
-      let same : dataPart l pool i ≡ got (i + 1) (octetsOf 2 (third l i) ++ spanAt i) =
+      let s = data-said l pool i (d .value) (d .is) .0 in
+      let same : dataPart l pool i ≡ got (i + 1) (octetsOf 2 (third l i) ++ spanAt l pool i) =
       rw (d .is ∙ ap done (sym (s .is))) refl in
       let long = span-long pool (second l i) (third l i) (s .within) in
-      let both = length-append (octetsOf 2 (third l i)) (spanAt i) in
+      let both = length-append (octetsOf 2 (third l i)) (spanAt l pool i) in
       record {
         there = there-is l i _ (s .kind);
         within = s .within;
@@ -202,19 +233,19 @@ module _ (l pool : List ℕ) where
 
   -- Its length is stored, and its octets in the part that follows.
   pub data-laid : {i : ℕ} {d₀ d ys : List ℕ} → DataOpen i (length d₀) → d ≡ sets d₀ 0 (octetsOf 2 (third l i))
-      → ys ≡ sets (partOf 2 d) 0 (spanAt i)
+      → ys ≡ sets (partOf 2 d) 0 (spanAt l pool i)
       → Stored (dataPart l pool i) 0 d₀ (i + 1) (2 + third l i) (putMid 2 (length d - 2) d ys)
   unfolding endOf numbersOf
   data-laid {i} {d₀} {d} {ys} o p q =
       let n = octetsOf 2 (third l i) in
       let long = ap length p ∙ length-sets d₀ 0 n in
-      let both = length-append n (spanAt i) in
+      let both = length-append n (spanAt l pool i) in
       let two = length-octets 2 (third l i) in
       record {
         place = rw (o .same) refl;
         taken = rw (o .same) (omega (arith, both, two, o .long));
-        room = part-put 2 d (spanAt i) ys (omega (arith, o .fits, o .long, long)) q
-            ∙ rw (o .same, sets-append d₀ 0 n (spanAt i), two, ← p) refl;
+        room = part-put 2 d (spanAt l pool i) ys (omega (arith, o .fits, o .long, long)) q
+            ∙ rw (o .same, sets-append d₀ 0 n (spanAt l pool i), two, ← p) refl;
       }
 
   pub datas-step : (n i : ℕ) → 0 < n → datasPart l pool n i ≡ andThen (dataPart l pool i) (datasPart l pool (n - 1))

@@ -6,9 +6,10 @@ use native.Mathlib.Nat.{zero-add}
 use native.Mathlib.Numerals.{add-one}
 use native.Mathlib.Omega.{arith}
 use lib.ListN.{drop, drop-of-length-le, getD, length, length-drop, length-replicate, replicate, set, take}
-use lib.Seq.{drop-cons, drop-drop, drop-length, getD-set-other, set-getD, sets, sets-eq, take-at}
+use lib.Seq.{drop-cons, drop-drop, drop-length, getD-drop, getD-set-other, set-getD, sets, sets-eq, take-at}
 use lib.Seq.{take-length}
 use borrow.Rule.Slice.PartMut.{putMid}
+use Rattle.octets.proofs.Joined.{sets-append}
 use Rattle.prints.specs.Prints.{Printed, Room, Stored, numbersOf, prepend}
 use Rattle.prints.proofs.Going.{Going, going-put}
 use Rattle.writer.specs.Zeros.{Zeros, ZerosFrom}
@@ -60,6 +61,11 @@ module _ {n : ℕ} {d : List ℕ} (z : ZerosFrom n d) where
   zeros-past e long q =
       record { each = λ i h. rw q (sets-before e d n i (omega (arith, long)) ∙ z .each i (omega (arith, long))) }
 
+  -- Zeros after what is stored stand already.
+  pub zeros-fill : (e : List ℕ) (k : ℕ) → sets d n (e ++ replicate k 0) ≡ sets d n e
+  zeros-fill e k =
+      sets-append d n e (replicate k 0) ∙ zeros-over k (sets d n e) (n + length e) (zeros-past e refl refl .each)
+
   pub zeros-on : {x : Printed} {a k : ℕ} {d′ : List ℕ} → Stored x n d a k d′ → ZerosFrom k d′
   zeros-on {x} t = zeros-past (numbersOf x) (t .taken) (t .room)
 
@@ -88,6 +94,9 @@ module _ (n : ℕ) (d : List ℕ) where
 
   pub part-room : {x : Printed} → Room x n (length d) → Room x 0 (length partOf)
   part-room r = record { whole = r .whole; fits = rw part-long (omega (arith, r .fits)) }
+
+  pub part-zeros : ZerosFrom n d → ZerosFrom 0 partOf
+  part-zeros z = record { each = λ i h. rw part-is (getD-drop n d i 0 ∙ z .each (n + i) (omega arith)) }
 
   -- e was stored from the part's start.
   pub part-put : (e ys : List ℕ) → n + length e ≤ length d → ys ≡ sets partOf 0 e

@@ -18,7 +18,7 @@ numberOr l i x = if eqb (first l i) 0 then second l i else x
 module _ (l pool : List ℕ) where
   -- A field from record i.
   unfoldable pub valuePart : Field → ℕ → Printed
-  valuePart f i = printed (λ a. i + 1) (fieldOctets pool f) (judgeField l (length pool) f i)
+  valuePart f i = printed (λ a. i + 1) (fieldOctets pool f) (judgeField l pool f i)
 
   -- Fields of a block of n octets, from its octet `at` on: zeros before each one, and zeros up to the block's end.
   unfoldable pub fieldsPart : ℕ → ℕ → List Field → ℕ → Printed
@@ -28,7 +28,7 @@ module _ (l pool : List ℕ) where
 
   unfoldable pub dataPart : ℕ → Printed
   dataPart i =
-      printed (λ a. i + 1) (λ a. octetsOf 2 (spanOf a .1) ++ spanOctets pool a) (judgeData l (length pool) i)
+      printed (λ a. i + 1) (λ a. octetsOf 2 (spanOf a .1) ++ spanOctets pool a) (judgeData l pool i)
 
   unfoldable pub datasPart : ℕ → ℕ → Printed
   datasPart zero i = got i []
@@ -54,4 +54,4 @@ module _ (l pool : List ℕ) where
 
   -- The whole message.
   unfoldable pub messagePart : Book → Template → Printed
-  messagePart b t = printed (λ r. 0) (messageOctets b t pool) (judgeListing l (length pool) t)
+  messagePart b t = printed (λ r. 0) (messageOctets b t pool) (judgeListing l pool t)

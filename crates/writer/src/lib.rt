@@ -87,7 +87,8 @@ fn number_for(p: &[u64], t: usize, listing: &[u64], i: usize) -> u64
     p[t + 3]
 }
 
-// The field at f, whose table is at t, from record i.
+// The field at f, whose table is at t, from record i. Of an array the octets that the record names are copied, and
+// null's record names none: the NULs after them stand already.
 fn write_value(
     p: &[u64],
     f: usize,
@@ -97,14 +98,15 @@ fn write_value(
     pool: &[u8],
     room: &mut [u8],
 )
-    requires { ⌜ IsField (now p) f t ⌝ }
+    requires { ⌜ IsField (now p) f t × ZerosFrom 0 (now room) ⌝ }
     requires { ⌜ Room (valuePart (now listing) (now pool) (fieldAt (now p) f) i) 0 (length (now room)) ⌝ }
     ensures { λ _. ⌜ now (room .exit) ≡ sets (now (room .entry)) 0 (numbersOf (valuePart (now (listing .entry))
         (now (pool .entry)) (fieldAt (now (p .entry)) f) i)) ⌝ }
 {
-    let len = number(p, f + 2);
-    if 1 < len {
-        put_octets(room, pool, number_of(listing, i, 1) as usize, len);
+    if 1 < number(p, f + 2) {
+        let start = number_of(listing, i, 1) as usize;
+        let len = number_of(listing, i, 2) as usize;
+        put_octets(room, pool, start, len);
         return;
     }
     let x = number_for(p, t, listing, i);

@@ -1,10 +1,10 @@
 -- The field's numbers and the tests on them are the definition's case.
-use mathlib.Core.Path.{sym}
+use mathlib.Core.Path.{_∙_, sym}
 use Prim.Native.Nat.{_≤_}
 use borrow.Author.Needs.{needs}
 use Rattle.layout.specs.Book.{Field}
 use Rattle.prepared.specs.Positions.{fieldAt}
-use Rattle.fields.proofs.Fields.{field-absent, field-number, field-octets, number-inside}
+use Rattle.fields.proofs.Fields.{array-inside, field-absent, field-array, field-number, number-inside}
 use Rattle.fields.proofs.read_plain.Statement.{statement}
 use Rattle.fields.proofs.read_plain.Tie as tie
 
@@ -24,11 +24,21 @@ add-start c =
     let since = c .before .before in
     search (needs, since .before .before .before .before .pre .1 .inside (present since))
 
+read-array-requires : tie.Need-read-array-requires
+read-array-requires c κs =
+    let len = c .before .before in
+    let pre = len .before .before .before .before .before .pre in (
+      pre .0,
+      len .number2 .ensures,
+      rw (c .before .number3 .ensures, len .number2 .ensures) (array-inside _ _ _ _ (present (len .before)) (pre .1)),
+    )
+
 returns-2 : tie.Need-returns-2
 returns-2 c =
-    let len = c .before .before in
-    rw (c .before .number3 .ensures, len .number2 .ensures)
-    (sym (field-octets _ _ _ _ (present (len .before)) (rw (len .number2 .ensures) at (c .if2 .taken))))
+    let array = c .before in
+    let len = array .before .before in
+    rw (array .before .number3 .ensures) at (c .read-array .ensures)
+    ∙ sym (field-array _ _ _ _ (present (len .before)) (rw (len .number2 .ensures) at (array .if2 .taken)))
 
 read-requires : tie.Need-read-requires
 read-requires c κs =
@@ -54,5 +64,5 @@ read-plain-spec =
     tie.close
     (tie.spec (λ c. search needs) (λ c κs. search needs)
     (λ c. sym (field-absent _ _ _ _ (rw (c .before .number .ensures) at (c .if1 .taken)))) (λ c. search needs)
-    (λ c κs. search needs) (λ c. search needs) (λ c κs. search needs) add-start returns-2 (λ c. search needs)
-    (λ c κs. search needs) (λ c. search needs) (λ c κs. search needs) read-requires returns-3)
+    (λ c κs. search needs) (λ c. search needs) (λ c κs. search needs) add-start read-array-requires returns-2
+    (λ c. search needs) (λ c κs. search needs) (λ c. search needs) (λ c κs. search needs) read-requires returns-3)

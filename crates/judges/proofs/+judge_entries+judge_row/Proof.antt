@@ -31,40 +31,40 @@ use Rattle.judges.proofs.+judge_entries+judge_row.Lts-judge_row as row-
 use Rattle.judges.proofs.+judge_entries+judge_row.{statement}
 use Rattle.judges.proofs.+judge_entries+judge_row.Tie.{close}
 
-abbrev entries-μ : Measures 4 entries-kinds.ps ℕ
+abbrev entries-μ : Measures 6 entries-kinds.ps ℕ
 entries-μ κs a = 2 * a .1 .1 .0 + 1
 
-abbrev row-μ : Measures 4 row-kinds.ps ℕ
+abbrev row-μ : Measures 6 row-kinds.ps ℕ
 row-μ κs a = 2 * a .1 .1 .0
 
 abbrev entries-Inv : entries-lts.InvT-loop
-entries-Inv p a depth listing size k start s t due₀ i₀ seen₀ due i seen =
+entries-Inv p a depth listing pool k start s t o due₀ i₀ seen₀ due i seen =
     BlockAt (p .now) depth a × (seen ≤ limit) × (due ≤ k)
     × (judged (rowEnd (shapeAt (p .now) a) (innerAt (p .now) depth a) 0)
-    (entriesAt (p .now) depth a (listing .now) size k start)
-    ≡ lastAt (p .now) depth a (listing .now) size k seen due i)
+    (entriesAt (p .now) depth a (listing .now) (pool .now) k start)
+    ≡ lastAt (p .now) depth a (listing .now) (pool .now) k seen due i)
 
 abbrev entries-μ-loop : entries-lts.MeasureT-loop
-entries-μ-loop p a depth listing size k start s t due₀ i₀ seen₀ due i seen = due
+entries-μ-loop p a depth listing pool k start s t o due₀ i₀ seen₀ due i seen = due
 
 abbrev row-Inv : row-lts.InvT-loop
-row-Inv p a depth listing size start s t g₀ left₀ i₀ seen₀ g left i seen =
+row-Inv p a depth listing pool start s t g₀ left₀ i₀ seen₀ g left i seen =
     let b = shapeAt (p .now) a in
     let gs = innerAt (p .now) depth a in
     let rest = groupsAt (p .now) depth left g in
     IsRow (p .now) depth left g × (seen ≤ limit)
-    × (judged (rowEnd b gs 0) (judgeGroups (listing .now) size gs start)
-    ≡ judged (rowEnd b rest seen) (judgeGroups (listing .now) size rest i))
+    × (judged (rowEnd b gs 0) (judgeGroups (listing .now) (pool .now) gs start)
+    ≡ judged (rowEnd b rest seen) (judgeGroups (listing .now) (pool .now) rest i))
 
 abbrev row-μ-loop : row-lts.MeasureT-loop
-row-μ-loop p a depth listing size start s t g₀ left₀ i₀ seen₀ g left i seen = left
+row-μ-loop p a depth listing pool start s t g₀ left₀ i₀ seen₀ g left i seen = left
 
 module _ (t : ℕ) where
-  abbrev entries-at : In 4 entries-kinds.ps
-  entries-at = and 4 entries-kinds.ps (is 4 entries-kinds.ps entries-μ t) entries-reads.Pre
+  abbrev entries-at : In 6 entries-kinds.ps
+  entries-at = and 6 entries-kinds.ps (is 6 entries-kinds.ps entries-μ t) entries-reads.Pre
 
-  abbrev row-at : In 4 row-kinds.ps
-  row-at = and 4 row-kinds.ps (is 4 row-kinds.ps row-μ t) row-reads.Pre
+  abbrev row-at : In 6 row-kinds.ps
+  row-at = and 6 row-kinds.ps (is 6 row-kinds.ps row-μ t) row-reads.Pre
 
   abbrev entries-claims : entries-lts.Claims
   entries-claims = (
@@ -72,7 +72,7 @@ module _ (t : ℕ) where
     judge-fields-reads.Learnt,
     number-reads.Asked,
     number-reads.Learnt,
-    and 4 row-kinds.ps (falls 4 row-kinds.ps _<_ row-μ t) row-reads.Pre,
+    and 6 row-kinds.ps (falls 6 row-kinds.ps _<_ row-μ t) row-reads.Pre,
     row-reads.Post,
     plus-reads.Asked,
     plus-reads.Learnt,
@@ -80,7 +80,7 @@ module _ (t : ℕ) where
     judge-datas-reads.Learnt,
   )
 
-  abbrev entries-Need : (entries-lts.Claims → In 4 entries-lts.ps → Out 4 entries-lts.ps entries-lts.r
+  abbrev entries-Need : (entries-lts.Claims → In 6 entries-lts.ps → Out 6 entries-lts.ps entries-lts.r
       → entries-lts.InvT-loop → entries-lts.MeasureT-loop → Type 0) → Type 0
   entries-Need n = n entries-claims entries-at entries-reads.Post entries-Inv entries-μ-loop
 
@@ -165,7 +165,7 @@ module _ (t : ℕ) where
 
   entries-mul-plus : entries-Need entries-lts.Need-mul-plus
   entries-mul-plus c =
-      let pre = c .before .before .before .before .before .pre .1 in
+      let pre = c .before .before .before .before .before .before .pre .1 in
       omega (arith, blocks-fit _ _ _ _ (pre .0 .block) (c .number2 .ensures) (pre .1))
 
   entries-returns-4 : entries-Need entries-lts.Need-returns-4
@@ -186,13 +186,13 @@ module _ (t : ℕ) where
     refuse-reads.Learnt,
     entries-in-reads.Asked,
     entries-in-reads.Learnt,
-    and 4 entries-kinds.ps (falls 4 entries-kinds.ps _<_ entries-μ t) entries-reads.Pre,
+    and 6 entries-kinds.ps (falls 6 entries-kinds.ps _<_ entries-μ t) entries-reads.Pre,
     entries-reads.Post,
     plus-reads.Asked,
     plus-reads.Learnt,
   )
 
-  abbrev row-Need : (row-lts.Claims → In 4 row-lts.ps → Out 4 row-lts.ps row-lts.r → row-lts.InvT-loop
+  abbrev row-Need : (row-lts.Claims → In 6 row-lts.ps → Out 6 row-lts.ps row-lts.r → row-lts.InvT-loop
       → row-lts.MeasureT-loop → Type 0) → Type 0
   row-Need n = n row-claims row-at row-reads.Post row-Inv row-μ-loop
 
@@ -263,7 +263,7 @@ pub +judge-entries+judge-row-spec : {M : Type 1} → statement M
     close entries-μ row-μ
     (λ t.
     entries-lts.spec (entries-claims t) (entries-at t) entries-reads.Post entries-Inv entries-μ-loop
-    (λ c. (c .before .before .pre .1 .0, omega arith, omega arith, entries-all _ _ _ _ _ _))
+    (λ c. (c .before .before .before .pre .1 .0, omega arith, omega arith, entries-all _ _ _ _ _ _))
     (λ c. omega arith)
     (λ c κs. c .before .loop .inv .0 .block)
     (λ c. search needs)

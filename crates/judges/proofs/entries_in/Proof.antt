@@ -3,12 +3,12 @@ use mathlib.Core.Path.{refl}
 use Prim.Native.Nat.{_/_, _<_}
 use native.Mathlib.Omega.{arith}
 use lib.ListN.{length}
-use Rattle.judges.proofs.Judging.{group-there}
+use Rattle.judges.proofs.Judging.{there-is}
 use Rattle.judges.proofs.entries_in.Statement.{statement}
 use Rattle.judges.proofs.entries_in.Tie as tie
 
 there : (c : tie.Start) → c .args .i < length (c .args .listing .now) / 3
-there c = group-there (c .args .listing .now) _ (c .pre)
+there c = there-is (c .args .listing .now) _ _ (c .pre)
 
 pub entries-in-spec : {M : Type 1} → statement M
 entries-in-spec =

@@ -13,16 +13,16 @@ use Rattle.judges.proofs.judge_datas.Tie as tie
 
 -- The data that are left stand at d.
 abbrev Inv-loop : tie.InvT-loop
-Inv-loop p a listing size start left₀ i₀ seen₀ left i seen =
-    (seen ≤ limit) × ((d : ℕ) × (judged (datasEnd 0) (judgeDatas listing size (shapeAt p a .datas) start)
-    ≡ judged (datasEnd seen) (judgeDatas listing size (parseDatas p left d) i)))
+Inv-loop p a listing pool start left₀ i₀ seen₀ left i seen =
+    (seen ≤ limit) × ((d : ℕ) × (judged (datasEnd 0) (judgeDatas listing pool (shapeAt p a .datas) start)
+    ≡ judged (datasEnd seen) (judgeDatas listing pool (parseDatas p left d) i)))
 
 abbrev μ-loop : tie.MeasureT-loop
-μ-loop p a listing size start left₀ i₀ seen₀ left i seen = left
+μ-loop p a listing pool start left₀ i₀ seen₀ left i seen = left
 
 loop-holds : tie.Need-loop-holds Inv-loop μ-loop
 loop-holds c =
-    let a = c .before .before .before .args in
+    let a = c .before .before .before .before .args in
     (omega arith, (datasFrom (a .p .now) (a .a), rw (c .number .ensures) refl))
 
 returns : tie.Need-returns Inv-loop μ-loop

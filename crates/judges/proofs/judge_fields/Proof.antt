@@ -14,19 +14,19 @@ use Rattle.judges.proofs.judge_fields.Statement.{statement}
 use Rattle.judges.proofs.judge_fields.Tie as tie
 
 abbrev Inv-loop : tie.InvT-loop
-Inv-loop p a listing size start listed left₀ f₀ t₀ i₀ left f t i =
+Inv-loop p a listing pool start listed left₀ f₀ t₀ i₀ left f t i =
     IsBlock p a × (left ≤ manyFields p a) × (f + 7 * left ≡ fieldsFrom p a + 7 * manyFields p a)
     × (t + 6 * left ≡ tableFrom p a + 6 * manyFields p a)
-    × (judged fieldsEnd (judgeFields listing size (shapeAt p a .fields) start)
-    ≡ judged fieldsEnd (judgeFields listing size (parseFields (listsAt p) p left f) i))
+    × (judged fieldsEnd (judgeFields listing pool (shapeAt p a .fields) start)
+    ≡ judged fieldsEnd (judgeFields listing pool (parseFields (listsAt p) p left f) i))
 
 abbrev μ-loop : tie.MeasureT-loop
-μ-loop p a listing size start listed left₀ f₀ t₀ i₀ left f t i = left
+μ-loop p a listing pool start listed left₀ f₀ t₀ i₀ left f t i = left
 
 loop-holds : tie.Need-loop-holds Inv-loop μ-loop
 loop-holds c =
     let count = c .before .number .ensures in
-    (c .before .before .before .before .before .pre, omega arith, omega arith, omega arith, rw count refl)
+    (c .before .before .before .before .before .before .pre, omega arith, omega arith, omega arith, rw count refl)
 
 judge-field-requires : tie.Need-judge-field-requires Inv-loop μ-loop
 judge-field-requires c κs =

@@ -7,7 +7,7 @@ use lib.ListN.{length}
 use borrow.Author.Needs.{needs}
 use borrow.Author.Tests.{not-false, not-true}
 use Rattle.layout.specs.Writing.{isNumber}
-use Rattle.judges.proofs.Judging.{number-other, number-outside, number-there, number-whole}
+use Rattle.judges.proofs.Judging.{number-other, number-outside, number-whole, there-is}
 use Rattle.judges.proofs.judge_number.Statement.{statement}
 use Rattle.judges.proofs.judge_number.Tie as tie
 
@@ -21,7 +21,7 @@ is : (c : tie.Else1) → let a = c .before .before .before .before .args in isNu
 is c = sym (c .before .is-number .ensures) ∙ not-false _ (c .if1 .left)
 
 there : (c : tie.Else1) → let a = c .before .before .before .before .args in 3 * a .i + 3 ≤ length (a .listing .now)
-there c = omega (arith, number-there (c .before .before .before .before .args .listing .now) _ (is c))
+there c = omega (arith, there-is (c .before .before .before .before .args .listing .now) _ _ (is c))
 
 returns-2 : tie.Need-returns-2
 returns-2 c =

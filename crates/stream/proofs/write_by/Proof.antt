@@ -12,7 +12,7 @@ use Rattle.stream.proofs.write_by.Statement.{statement}
 use Rattle.stream.proofs.write_by.Tie as tie
 
 abbrev start : tie.After-judge-listing → tie.Start
-start c = c .before .before .before .before .before .before .before .before .before .before
+start c = c .before .before .before .before .before .before .before .before .before .before .before
 
 good : (c : tie.After-known-told2) → let a = start (c .before .before .before) .args in
     IsGood (a .p .now) (a .a) (a .listing .now) (a .pool .now) (a .room .now) (c .before .length .given .0 .0)
@@ -61,7 +61,7 @@ write-by-spec =
     tie.close
     (tie.spec (λ c. search needs) (λ c. search needs) (λ c. search needs) (λ c. search needs) (λ c. search needs)
     (λ c. search needs) (λ c. search needs) (λ c. search needs) (λ c. search needs)
-    (λ c κs. rw anew (c .before .before .before .before .before .before .before .before .before .pre))
+    (λ c κs. rw anew (c .before .before .before .before .before .before .before .before .before .before .pre))
     (λ c. search needs) (λ c. search needs) (λ c. omega (arith, write-small (good c))) (λ c κs. search needs)
     (λ c. rw (c .refuse .ensures) (write-long (good (c .before .before)) (c .before .if1 .taken)))
     (λ c κs. search needs)

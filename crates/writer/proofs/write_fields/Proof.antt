@@ -14,7 +14,7 @@ use Rattle.writer.specs.Zeros.{ZerosFrom}
 use Rattle.writer.specs.Parts.{fieldsPart, valuePart}
 use Rattle.writer.proofs.Parts.{FieldNext, FieldsLeft, field-next, fields-end, fields-left, fields-step}
 use Rattle.writer.proofs.Parts.{value-stored, value-there}
-use Rattle.writer.proofs.Zeros.{going-pad, part-room, part-stored, zeros-after, zeros-on}
+use Rattle.writer.proofs.Zeros.{going-pad, part-room, part-stored, part-zeros, zeros-after, zeros-on}
 use Rattle.writer.proofs.write_fields.Statement.{statement}
 use Rattle.writer.proofs.write_fields.Tie as tie
 
@@ -61,10 +61,17 @@ padded c =
     going-pad (inv .2) (inv .3) (word p (l .f + 3) - inv .0) (fields-step _ _ _ _ _ _ _ _ (i .loop-test .taken))
     (omega (arith, c .number .ensures, next i .placed))
 
+-- The room from there on is zeros.
+zeros : (c : tie.After-number Inv-loop μ-loop)
+    → let a = c .before .before .before .before .before .before .before .args in
+    ZerosFrom (a .c .at + c .number .result) (c .before .before .loop .room)
+zeros c = zeros-after (c .before .before .loop .inv .1 .2) (omega (arith, c .number .ensures, next (c .before) .placed))
+
 write-value-requires : tie.Need-write-value-requires Inv-loop μ-loop
 write-value-requires c κs =
     let at = c .before in
-    (next (at .before) .here, part-room _ (at .before .before .loop .room) (going-first (padded at) _ refl))
+    let room = at .before .before .loop .room in
+    ((next (at .before) .here, part-zeros _ room (zeros at)), part-room _ room (going-first (padded at) _ refl))
 
 add-i : tie.Need-add-i Inv-loop μ-loop
 add-i c =
@@ -87,8 +94,7 @@ loop-again c =
     let q : a .c .at + at .number .result + size field ≡ a .c .at + end field = omega (arith, at .number .ensures) in
     let stored = rw q at (part-stored _ (l .room) room
     (value-stored _ _ _ _ _ (part-room _ (l .room) room) (o .whole) (call .write-value .ensures))) in
-    let zeros = zeros-on (zeros-after (l .inv .1 .2) (omega (arith, at .number .ensures, o .placed))) stored in
-    (l .inv .0, (end field, o .rest, zeros, going-call way _ refl stored))
+    (l .inv .0, (end field, o .rest, zeros-on (zeros at) stored, going-call way _ refl stored))
 
 returns : tie.Need-returns Inv-loop μ-loop
 returns c =

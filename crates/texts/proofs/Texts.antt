@@ -1,0 +1,74 @@
+-- How many of the n octets from `start` on are text, once i of them are known to be.
+use mathlib.Core.Path.{_∙_, _≡_, refl}
+use mathlib.Core.List.{List, _∷_}
+use Prim.Native.Nat.{_+_, _-_, _<_, _≤_, min, suc, zero, ℕ}
+use native.Mathlib.Omega.{arith}
+use lib.Dec.{ltb}
+use lib.ListN.{drop, getD, length, take}
+use lib.Seq.{drop-cons}
+use borrow.Author.Tests.{ltb-false, ltb-true, ne-eqb}
+use Rattle.layout.specs.Result.{if_then_else_}
+use Rattle.layout.specs.Octets.{textLength}
+use Rattle.layout.proofs.Results.{each-way}
+use Rattle.texts.specs.Least.{least1, least16, least2, least4, least8}
+
+module _ (s : List ℕ) where
+  -- ---- one octet
+
+  module _ (start n i : ℕ) where
+    abbrev pub left : ℕ
+    left = textLength (take (n - i) (drop (start + i) s))
+
+    module _ (h : i < n) (inside : start + i < length s) where
+      opened : take (n - i) (drop (start + i) s) ≡ getD s (start + i) 0 ∷ take (n - (i + 1)) (drop (start + (i + 1)) s)
+      opened =
+          let q : n - i ≡ suc (n - (i + 1)) = omega arith in
+          let r : suc (start + i) ≡ start + (i + 1) = omega arith in
+          rw (q, drop-cons s (start + i) 0 inside, r) refl
+
+      pub text-here : getD s (start + i) 0 ≡ 0 → left ≡ 0
+      unfolding textLength if_then_else_
+      text-here e = rw (opened, e) refl
+
+    pub text-end : n ≤ i → left ≡ 0
+    unfolding textLength
+    text-end h = let q : n - i ≡ 0 = omega arith in rw q refl
+
+  pub text-next : (start n i : ℕ) → i < n → start + i < length s → (getD s (start + i) 0 ≡ 0 → ⊥)
+      → i + left start n i ≡ (i + 1) + left start n (i + 1)
+  unfolding textLength if_then_else_
+  text-next start n i h inside e = rw (opened start n i h inside, ne-eqb (getD s (start + i) 0) 0 e) (omega arith)
+
+  -- ---- as many as are not NUL
+
+  -- None of the w octets from `at` on is NUL.
+  abbrev Clear : ℕ → ℕ → Type 0
+  Clear w at = (j : ℕ) → at ≤ j → j < at + w → getD s j 0 ≡ 0 → ⊥
+
+  pub text-past : (start n w i : ℕ) → i + w ≤ n → start + n ≤ length s → Clear w (start + i)
+      → i + left start n i ≡ (i + w) + left start n (i + w)
+  text-past start n zero i h inside clear = let q : i + 0 ≡ i = omega arith in rw q refl
+  text-past start n (suc w) i h inside clear =
+      let q : i + 1 + w ≡ i + suc w = omega arith in
+      text-next start n i (omega arith) (omega arith) (clear (start + i) (omega arith) (omega arith))
+      ∙ rw q at (text-past start n w (i + 1) (omega arith) inside
+      (λ j low high. clear j (omega (arith, low)) (omega (arith, high))))
+
+  -- Two halves whose least is not 0.
+  halves : (f : ℕ → ℕ) (w : ℕ) → ((at : ℕ) → 0 < f at → Clear w at)
+      → (at : ℕ) → 0 < min (f at) (f (at + w)) → Clear (w + w) at
+  halves f w each at h j low high =
+      each-way (ltb j (at + w)) (λ t. each at (omega arith) j low (ltb-true j (at + w) t))
+      (λ t. each (at + w) (omega arith) j (ltb-false j (at + w) t) (omega arith))
+
+  one : (at : ℕ) → 0 < least1 s at → Clear 1 at
+  one at h j low high e =
+      let q : j ≡ at = omega arith in
+      omega (arith, rw q at e)
+
+  four : (at : ℕ) → 0 < least4 s at → Clear 4 at
+  unfolding least4
+  four = halves (least2 s) 2 (halves (least1 s) 1 one)
+
+  pub clear16 : (at : ℕ) → 0 < least16 s at → Clear 16 at
+  clear16 = halves (least8 s) 8 (halves (least4 s) 4 four)
