@@ -12,17 +12,17 @@ from schema_book import block, book, data, enumeration, field, flags, group
 # ---- The books: a fill, and the fill with a quantity where there was padding, and with one condition more ----
 
 SCHEMA, FILL = 7, 1
-BLOCK = 20  # octets of a fill's block, in both books
+BLOCK = 28  # octets of a fill's block, in both books
 SIDES, CONDITIONS = 54, 277  # ids of lists
 
 FIELDS = [
-    field(37, "char", offset=0, length=8),  # the order: eight characters
-    field(44, "int32", offset=8),  # the price: cents a tonne over the exchange's, or under it
-    field(64, "uint8", offset=12, presence="optional"),  # the week of delivery; null while none is agreed
-    field(54, "char", offset=13, list=SIDES),  # the side: a code
-    field(277, "uint16", offset=14, list=CONDITIONS),  # the conditions: a flag for each
+    field(37, "char", offset=0, length=16),  # the order: a text of up to 16 characters
+    field(44, "int32", offset=16),  # the price: cents a tonne over the exchange's, or under it
+    field(64, "uint8", offset=20, presence="optional"),  # the week of delivery; null while none is agreed
+    field(54, "char", offset=21, list=SIDES),  # the side: a code
+    field(277, "uint16", offset=22, list=CONDITIONS),  # the conditions: a flag for each
 ]
-QUANTITY = field(32, "uint32", offset=16, since=1)  # the filled quantity, in tonnes
+QUANTITY = field(32, "uint32", offset=24, since=1)  # the filled quantity, in tonnes
 
 MILLS = group(78, block(4, [
     field(79, "uint16", offset=0),  # a mill
@@ -58,15 +58,17 @@ def message(version, root, mills, note):
 
 
 def root(order, price, week, side, conditions, quantity=0):
-    """The root block. In a message of version 0 its last four octets are padding, and zeros."""
-    return struct.pack("<8siBcHI", order, price, week, side, sum(1 << bit for bit in conditions), quantity)
+    """The root block. An order that is shorter than its field has NULs behind it. In a message of version 0 the last
+    four octets are padding, and zeros."""
+    return struct.pack("<16siBcHI", order, price, week, side, sum(1 << bit for bit in conditions), quantity)
 
 
 OLDER_FILL = message(0, root(b"B7-10423", -125, NO_WEEK, BUY, []), [(12, 60), (31, 40)], b"May delivery")
 NEWER_FILL = message(1, root(b"C2-00917", 340, 23, BUY, [IN_PART], 500), [(12, 100)], b"300 t to come")
 
 ALL_MILLS = [(mill, 2 + mill % 2) for mill in range(1, 41)]
-FORTY_MILLS = message(1, root(b"C2-00918", 335, 24, BUY, [BY_WEIGHT_AT_MILL], 2000), ALL_MILLS, b"all mills")
+LONG_ORDER = b"C2-00918-40MILLS"  # as long as an order may be: no NUL behind it
+FORTY_MILLS = message(1, root(LONG_ORDER, 335, 24, BUY, [BY_WEIGHT_AT_MILL], 2000), ALL_MILLS, b"all mills")
 
 TWO_CONDITIONS = [IN_PART, PRICE_TO_BE_FIXED]
 UNLISTED_FILL = message(1, root(b"C2-00919", 338, 25, SELL_SHORT, TWO_CONDITIONS, 250), [(31, 100)], b"price on Friday")

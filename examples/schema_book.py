@@ -8,8 +8,8 @@ PRESENCES = ["required", "optional"]
 
 
 def field(id, type, offset, length=1, presence="required", since=0, list=None):
-    """Seven words. A char or uint8 of a length over 1 is an array: plain octets. The id is a label, such as a FIX tag.
-    The list is the id of one in the book."""
+    """Seven words. A char of a length over 1 is a text of up to so many octets, a uint8 of a length over 1 is so many
+    plain octets. The id is a label, such as a FIX tag. The list is the id of one in the book."""
     names = 0 if list is None else list + 1
     return [id, number(type, TYPES), length, offset, number(presence, PRESENCES), since, names]
 

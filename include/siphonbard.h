@@ -98,8 +98,8 @@ extern "C" {
 /* When a number is null, out of range or unlisted, or null stands for a required field. Place: the record's number. */
 #define SIPHONBARD_REFUSED_VALUE_WRONG 52
 /*
- * When octets run past the pool's end, are not as many as the field's, or are data over 65,534. Place: the record's
- * number.
+ * When octets run past the pool's end, are not as many as a uint8 array's, or are data over 65,534; or a text is longer
+ * than its field, has a NUL in it, or is empty for an optional field. Place: the record's number.
  */
 #define SIPHONBARD_REFUSED_OCTETS_WRONG 53
 /* When a group has over 65,534 entries. Place: the record's number. */
@@ -114,6 +114,10 @@ extern "C" {
  * there. Out of range is a number outside its type's range, or null where the field is required. Unlisted is a number
  * in its type's range that the field's name list lacks, or that has a bit 1 which the list lacks: a code or flags of
  * which the book does not say what they mean.
+ *
+ * Octets are an array or a data. Those of a char array, which is text, end before its first NUL. A text that starts
+ * with NUL is null if the field is optional; else it has no octets, and starts where the field does. A text that fills
+ * its field has no NUL behind it: it is no string of C.
  *
  *                                      Second number                      Third number
  */
@@ -201,7 +205,10 @@ siphonbard_found siphonbard_place(const uint8_t *book, size_t book_len, const ui
  * The listing of a message is written back with that message as the pool.
  *
  * The message has the book's version, its declared block lengths and its counts, and zeros where a block has no
- * field. Octets of the room past it are left as they were; after a refusal all of them are. `listing_len` counts
+ * field. A text may have fewer octets than its field, which is filled with NUL; an optional one that would have none is
+ * given as SIPHONBARD_IS_NULL.
+ *
+ * Octets of the room past the message are left as they were; after a refusal all of them are. `listing_len` counts
  * numbers, not records; a `template_id` over 65535 is answered 50.
  */
 siphonbard_counted siphonbard_write(const uint8_t *book, size_t book_len, uint64_t template_id,

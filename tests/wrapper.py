@@ -1,7 +1,7 @@
 #!/usr/bin/env python3
 """wrapper.py: tries examples/python/siphonbard.py over the shared object that SIPHONBARD_SO names: listings of none to
-many records, a place, a message that is written back, a number that its list lacks, a book whose octets are gone, the
-largest book, and refusals with their words.
+many records, a place, a message that is written back, a number that its list lacks, texts, a book whose octets are
+gone, the largest book, and refusals with their words.
 
 Prints what is wrong. The last line is 'wrapper: N passed, 0 failed'."""
 import struct
@@ -12,12 +12,16 @@ ROOT = Path(__file__).resolve().parent.parent
 sys.path[:0] = [str(ROOT / "examples"), str(ROOT / "examples" / "python")]
 
 from schema_book import block, book, enumeration, field, group
-from siphonbard import FIRST, Book, Element, Kind, Refused
+from siphonbard import FIRST, Book, Element, Kind, Refused, text
 
 EMPTY = book(7, 0, {1: block(0)})
 ENTRIES = book(7, 0, {1: block(0, groups=[group(1, block(2, [field(2, "uint16", offset=0)]))])})
 LISTED = book(7, 0, {1: block(1, [field(1, "uint8", offset=0, list=4)])}, {4: enumeration([1])})
 NO_NAMES = book(7, 0, {1: block(0)}, {4: enumeration([])})
+TEXTS = book(7, 0, {1: block(10, [
+    field(55, "char", offset=0, length=6),
+    field(311, "char", offset=6, length=4, presence="optional"),
+])})
 
 
 def of_records(count):
@@ -64,6 +68,43 @@ def refuses_unlisted():
     write = Book(LISTED).write
     kinds = Kind.UNLISTED, Kind.NUMBER
     return [refuses(write, 1, [(kind, 2, 0)], b"")[0] for kind in kinds], [51, 52]
+
+
+def of_texts(block):
+    """The message by TEXTS whose root block is this."""
+    return struct.pack("<6H", 10, 1, 7, 0, 0, 0) + block
+
+
+def reads_texts():
+    """Records, and what they are as text: a full one, a shorter one, an empty one and null."""
+    by, came = Book(TEXTS), []
+    for message in map(of_texts, [b"MEAL\0?SOYA", b"SOYBED\0\0\0\0", b"\0\0\0\0\0\0M\0\0\0"]):
+        came.append([(record, text(record, message)) for record in by.list(message)])
+    return came, [
+        [((Kind.OCTETS, 12, 4), "MEAL"), ((Kind.OCTETS, 18, 4), "SOYA")],
+        [((Kind.OCTETS, 12, 6), "SOYBED"), ((Kind.NULL, 0, 0), None)],
+        [((Kind.OCTETS, 12, 0), ""), ((Kind.OCTETS, 18, 1), "M")],
+    ]
+
+
+def tells_what_is_no_text():
+    """A number, octets that are not ASCII, and octets that the message lacks."""
+    records = [(Kind.NUMBER, 0, 0), (Kind.OCTETS, 1, 1), (Kind.OCTETS, 0, 3)]
+    return [text(record, b"M\x80") for record in records], [None] * 3
+
+
+def writes_texts():
+    """Filled with NUL, empty, and null."""
+    write = Book(TEXTS).write
+    records = [(Kind.OCTETS, 0, 4), (Kind.OCTETS, 4, 1)], [(Kind.OCTETS, 0, 0), (Kind.NULL, 0, 0)]
+    return [write(1, two, b"MEALS") for two in records], [of_texts(b"MEAL\0\0S\0\0\0"), of_texts(bytes(10))]
+
+
+def refuses_texts():
+    """Number and place of the refusal: null for the required one; then one that is too long, has a NUL, is empty."""
+    good, write = (Kind.OCTETS, 0, 4), Book(TEXTS).write
+    wrong = [((Kind.NULL, 0, 0), good), *((good, (Kind.OCTETS, *span)) for span in [(0, 5), (4, 2), (0, 0)])]
+    return [refuses(write, 1, two, b"MEALS\0")[:2] for two in wrong], [(52, 0), (53, 1), (53, 1), (53, 1)]
 
 
 def outlives_its_octets():
@@ -122,7 +163,8 @@ def refuses_a_room():
 
 COUNTS = [0, 1, FIRST - 1, FIRST, FIRST + 1, 2 * FIRST, 5000]
 TESTS = [(lists, count) for count in COUNTS] + [
-    (places,), (writes_back,), (tells_unlisted,), (writes_listed,), (refuses_unlisted,), (outlives_its_octets,),
+    (places,), (writes_back,), (tells_unlisted,), (writes_listed,), (refuses_unlisted,), (reads_texts,),
+    (tells_what_is_no_text,), (writes_texts,), (refuses_texts,), (outlives_its_octets,),
     (prepares_the_largest,), (refuses_a_book,), (refuses_a_template,), (refuses_a_list,), (refuses_a_message,),
     (refuses_a_room,),
 ]

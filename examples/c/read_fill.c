@@ -69,7 +69,8 @@ static const char *const MEANING[] = {
     [SIPHONBARD_REFUSED_VALUE_WRONG] =
         "a number is null, out of range or unlisted, or null stands for a required field",
     [SIPHONBARD_REFUSED_OCTETS_WRONG] =
-        "octets run past the pool's end, are not as many as the field's, or are data over 65,534",
+        "octets run past the pool's end, are not as many as a uint8 array's, or are data over 65,534; or a text is "
+        "longer than its field, has a NUL in it, or is empty for an optional field",
     [SIPHONBARD_REFUSED_ENTRIES_TOO_MANY] = "a group has over 65,534 entries",
     [SIPHONBARD_REFUSED_MESSAGE_TOO_LONG] = "the message is longer than the room or than 65,535 octets",
 };

@@ -58,7 +58,8 @@ class Book:
         return found.first, found.second, found.third
 
     def write(self, template_id, records, pool):
-        """A message of the template from the records, whose starts refer to the pool."""
+        """A message of the template from the records, whose starts refer to the pool. A text may be shorter than its
+        field; an optional one that would be empty is given as NULL."""
         listing, room = numbers(records), ctypes.create_string_buffer(LONGEST)
         written = write(*self._book, template_id, listing, len(listing), pool, len(pool), room, LONGEST)
         return room.raw[:written.count]
@@ -68,6 +69,15 @@ class Book:
         room = (Number * (3 * most))()
         listed = list_into(*self._book, message, len(message), room, len(room))
         return [tuple(room[at:at + 3]) for at in range(0, 3 * listed.count, 3)]
+
+
+def text(record, message):
+    """The octets of an OCTETS record in the message that it is of, as a str, where all of them are ASCII; else None. A
+    char array's end before its first NUL."""
+    first, start, length = record
+    octets = message[start:start + length]
+    is_text = first == Kind.OCTETS and len(octets) == length and octets.isascii()
+    return octets.decode("ascii") if is_text else None
 
 
 class Refused(Exception):
@@ -143,7 +153,8 @@ class Refusal(enum.IntEnum):
     )
     OCTETS_WRONG = (
         53,
-        "octets run past the pool's end, are not as many as the field's, or are data over 65,534",
+        "octets run past the pool's end, are not as many as a uint8 array's, or are data over 65,534; or a text is "
+        "longer than its field, has a NUL in it, or is empty for an optional field",
         "the record's number",
     )
     ENTRIES_TOO_MANY = 54, "a group has over 65,534 entries", "the record's number"

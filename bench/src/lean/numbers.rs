@@ -1,4 +1,5 @@
-//! Fields, and their numbers in octets: eight octets are read or stored at once, whatever the width.
+//! Fields, and their numbers in octets: eight octets are read or stored at once, whatever the width. Of a text the first
+//! NUL is looked for octet by octet.
 
 use super::names::Names;
 use super::{Record, NULL, NUMBER, OCTETS, OUT_OF_RANGE, UNLISTED};
@@ -6,7 +7,9 @@ use plain::NameList;
 
 pub struct Field {
     pub since: u16,
-    pub array: bool,
+    array: bool,
+    /// An array whose octets end before the first NUL.
+    text: bool,
     optional: bool,
     signed: bool,
     /// 64 less the bits of a number.
@@ -26,6 +29,7 @@ impl Field {
         Field {
             since: field.since,
             array: field.is_array(),
+            text: field.is_text(),
             optional: field.is_optional(),
             signed: kind.signed,
             shift: 64 - 8 * kind.octets as u32,
@@ -47,7 +51,7 @@ impl Field {
     pub fn read(&self, message: &[u8], start: usize) -> Record {
         let at = start + self.offset;
         if self.array {
-            return [OCTETS, at as u64, self.octets as u64];
+            return self.read_array(message, at);
         }
         let top = eight(message, at) << self.shift;
         let value = if self.signed { ((top as i64) >> self.shift) as u64 } else { top >> self.shift };
@@ -55,6 +59,19 @@ impl Field {
         let listed = if self.names.have(value) { NUMBER } else { UNLISTED };
         let kind = if self.holds(value) { listed } else { OUT_OF_RANGE };
         [if null { NULL } else { kind }, if null { 0 } else { value }, 0]
+    }
+
+    #[inline]
+    fn read_array(&self, message: &[u8], at: usize) -> Record {
+        if !self.text {
+            return [OCTETS, at as u64, self.octets as u64];
+        }
+        let octets = &message[at..at + self.octets];
+        match octets.iter().position(|&octet| octet == 0) {
+            None => [OCTETS, at as u64, self.octets as u64],
+            Some(0) if self.optional => [NULL, 0, 0],
+            Some(length) => [OCTETS, at as u64, length as u64],
+        }
     }
 
     #[inline]
@@ -66,13 +83,26 @@ impl Field {
     #[inline]
     pub fn takes(&self, record: &[u64], pool: &[u8]) -> bool {
         let (kind, second, third) = (record[0], record[1], record[2]);
+        if self.array && kind == NULL {
+            return self.text && self.optional && second == 0 && third == 0;
+        }
         if self.array {
             let within = second.checked_add(third).map_or(false, |end| end <= pool.len() as u64);
-            return kind == OCTETS && third == self.octets as u64 && within;
+            return kind == OCTETS && within && self.fits(&pool[second as usize..][..third as usize]);
         }
         let number = kind == NUMBER && self.holds(second) && self.names.have(second);
         let null = kind == NULL && self.optional && second == 0;
         (number || null) && third == 0
+    }
+
+    /// Whether the octets can be written for the array.
+    #[inline]
+    fn fits(&self, octets: &[u8]) -> bool {
+        if !self.text {
+            return octets.len() == self.octets;
+        }
+        let least = usize::from(self.optional);
+        least <= octets.len() && octets.len() <= self.octets && !octets.contains(&0)
     }
 
     /// The refusal's number for a record that the field does not take.
@@ -80,19 +110,20 @@ impl Field {
     pub fn fault(&self, record: &[u64]) -> u32 {
         match (self.array, record) {
             (true, [OCTETS, ..]) => 53,
+            (true, [NULL, 0, 0]) if self.text => 52,
             (false, [NUMBER, _, 0]) | (false, [NULL, 0, 0]) => 52,
             _ => 51,
         }
     }
 
-    /// Stores the field of a record that it takes. A number may leave zeros in the seven octets after it, so fields
-    /// are stored in their order.
+    /// Stores the field of a record that it takes, in a room whose octets from there on are zero. A number may leave
+    /// zeros in the seven octets after it, so fields are stored in their order. A text that is null has no octets.
     #[inline]
     pub fn write(&self, record: &[u64], pool: &[u8], room: &mut [u8], start: usize) {
         let at = start + self.offset;
         if self.array {
-            let first = record[1] as usize;
-            return room[at..at + self.octets].copy_from_slice(&pool[first..first + self.octets]);
+            let (first, length) = (record[1] as usize, record[2] as usize);
+            return room[at..at + length].copy_from_slice(&pool[first..first + length]);
         }
         let value = if record[0] == NUMBER { record[1] } else { self.null };
         let octets = (value << self.shift >> self.shift).to_le_bytes();

@@ -26,8 +26,13 @@ const fn optional(kind: u16) -> Field {
     Field { presence: 1, ..one(kind) }
 }
 
-const fn array(length: u16) -> Field {
+/// A required text.
+const fn text(length: u16) -> Field {
     Field { length, ..one(CHAR) }
+}
+
+const fn optional_text(length: u16) -> Field {
+    Field { presence: 1, ..text(length) }
 }
 
 /// A required field with the list of this id.
@@ -79,7 +84,7 @@ pub fn flat() -> Book {
 /// Groups in groups, to depth four; the entries at depth two have a data.
 pub fn deep() -> Book {
     let fourth = block(&[one(UINT32), optional(INT64)], 0);
-    let third = Block { groups: vec![group(fourth)], ..block(&[one(UINT16), array(6)], 0) };
+    let third = Block { groups: vec![group(fourth)], ..block(&[one(UINT16), text(6)], 0) };
     let second = Block { groups: vec![group(third)], data: vec![DATA], ..block(&[one(UINT64), one(UINT8)], 3) };
     let first = Block { groups: vec![group(second)], ..block(&[one(UINT32), one(CHAR)], 3) };
     book(vec![Block { groups: vec![group(first)], data: vec![DATA], ..block(&[one(UINT64), one(UINT32)], 0) }])
@@ -113,7 +118,7 @@ pub fn listed() -> Book {
         named(UINT16, CONDITIONS),
         named(UINT64, PARTS),
     ];
-    let root = block(&[one(UINT64), array(12), named(CHAR, SIDES), one(UINT32)], 3);
+    let root = block(&[one(UINT64), text(12), named(CHAR, SIDES), one(UINT32)], 3);
     Book {
         lists: vec![
             codes(SIDES, b"1256"),
@@ -124,6 +129,20 @@ pub fn listed() -> Book {
         ],
         ..book(vec![Block { groups: vec![group(block(&fill, 2))], ..root }])
     }
+}
+
+/// An order with three symbols: of what is bought or sold, of what that stands for, if anything, and of the market.
+pub fn symbols() -> Book {
+    const SYMBOL: u16 = 8;
+    let order = [one(UINT64), text(SYMBOL), optional_text(SYMBOL), text(SYMBOL), one(INT64), one(UINT32), one(CHAR)];
+    book(vec![block(&order, 3)])
+}
+
+/// Four texts, each as long as a text may be.
+pub fn texts() -> Book {
+    const LONGEST: u16 = 1024;
+    let notes = [one(UINT64), text(LONGEST), text(LONGEST), optional_text(LONGEST), text(LONGEST), one(UINT32)];
+    book(vec![block(&notes, 0)])
 }
 
 /// Of one uint8.
@@ -170,7 +189,7 @@ pub fn session() -> Book {
 
 const ORDER: [Field; 10] = [
     one(UINT64),
-    array(16),
+    text(16),
     one(UINT32),
     one(CHAR),
     one(INT64),
@@ -207,6 +226,6 @@ fn snapshot() -> Block {
 fn allocation() -> Block {
     let part = block(&[one(UINT32), one(INT64), one(UINT8)], 0);
     let account = Block { groups: vec![group(part)], data: vec![DATA], ..block(&[one(UINT32), one(UINT64)], 0) };
-    let root = block(&[one(UINT64), one(UINT32), array(12)], 0);
+    let root = block(&[one(UINT64), one(UINT32), text(12)], 0);
     Block { groups: vec![group(account)], data: vec![DATA], ..root }
 }

@@ -9,9 +9,14 @@ pub struct Fill {
     pub entries: RangeInclusive<usize>,
     /// How many octets a data may have.
     pub data: RangeInclusive<usize>,
+    /// How many characters a text may have, where its field is not shorter.
+    pub text: RangeInclusive<usize>,
 }
 
 const NULLS_PERCENT: usize = 20;
+
+/// Characters of a text that fills its field: as many as any field has.
+pub const FULL: RangeInclusive<usize> = 1024..=1024;
 
 impl Fill {
     /// A message of the template, as the book's writer has it.
@@ -39,12 +44,16 @@ impl Fill {
     }
 
     fn field(&mut self, field: &Field, list: Option<&NameList>, draft: &mut Draft) {
-        if field.is_array() {
+        if field.is_array() && !field.is_text() {
             return self.octets(field.octets(), draft);
         }
         let kind = field.kind();
         if field.is_optional() && self.rng.chance(NULLS_PERCENT) {
             return draft.listing.extend([1, 0, 0]);
+        }
+        if field.is_text() {
+            let characters = self.between(self.text.clone()).min(field.octets());
+            return self.characters(characters, draft);
         }
         let value = match list {
             None => (kind.least + i128::from(self.rng.draw()) % (kind.greatest - kind.least + 1)) as u64,
@@ -57,6 +66,11 @@ impl Fill {
     fn octets(&mut self, count: usize, draft: &mut Draft) {
         draft.listing.extend([2, draft.pool.len() as u64, count as u64]);
         draft.pool.extend(self.rng.octets(count));
+    }
+
+    fn characters(&mut self, count: usize, draft: &mut Draft) {
+        draft.listing.extend([2, draft.pool.len() as u64, count as u64]);
+        draft.pool.extend((0..count).map(|_| self.rng.word(b'A'.into(), b'Z'.into()) as u8));
     }
 
     fn between(&mut self, range: RangeInclusive<usize>) -> usize {

@@ -1,6 +1,6 @@
 //! Fills whose codes and flags are listed, and the same with some that are not.
 
-use super::{books, Fill, Workload, SEED};
+use super::{books, Fill, Workload, FULL, SEED};
 use crate::rivals::Asked;
 use plain::{Book, Rng};
 use siphonbard::Element;
@@ -15,7 +15,7 @@ const CONDITIONS: usize = 6;
 
 pub fn fills() -> Workload {
     let book = books::listed();
-    let mut fill = Fill { rng: Rng::new(SEED), entries: ENTRIES..=ENTRIES, data: 0..=0 };
+    let mut fill = Fill { rng: Rng::new(SEED), entries: ENTRIES..=ENTRIES, data: 0..=0, text: FULL };
     let message = fill.message(&book, &book.templates[0]);
     let last = Asked::new(vec![(0, ENTRIES as u64 - 1)], Element::Field(CONDITIONS));
     let mut workload = Workload::new(&book, vec![last]);

@@ -5,10 +5,11 @@ mod fill;
 mod listed;
 mod sized;
 mod stream;
+mod texts;
 
 use crate::rivals::Asked;
 use crate::timing::{Rooms, LAP_MESSAGES};
-use fill::Fill;
+use fill::{Fill, FULL};
 use plain::{Book, Draft, Message, Rng};
 use siphonbard::Element;
 
@@ -18,7 +19,7 @@ pub use sized::SIZED;
 pub type Entry = (&'static str, &'static str, fn() -> Workload);
 
 /// All but those of the growth and of the book's size.
-pub const ALL: [Entry; 8] = [
+pub const ALL: [Entry; 10] = [
     ("m", "message M under book A", m),
     ("flat", "an order of ten fields", flat),
     ("entries", "M's shape with 400 entries", || m_with(400)),
@@ -26,11 +27,13 @@ pub const ALL: [Entry; 8] = [
     ("long", "M's shape, as long as it may be", || of_size(64)),
     ("market", "price levels of eight fields, as many as fit", market),
     ("lists", "40 fills, of whose eight fields five have lists; and the same with some unlisted codes", listed::fills),
+    ("symbols", "16 orders of seven fields, three of them symbols of 3 to 6 characters in 8 octets", texts::symbols),
+    ("texts", "four texts of 1,024 octets, full; and the same up to 24 octets shorter", texts::long),
     ("stream", "eight templates in a random mix; one message in 100 is damaged", stream::stream),
 ];
 
 /// The same, the stream by its first messages, and the large books: what is called once to be counted.
-pub const COUNTED: [Entry; 10] = [
+pub const COUNTED: [Entry; 12] = [
     ALL[0],
     ALL[1],
     ALL[2],
@@ -38,6 +41,8 @@ pub const COUNTED: [Entry; 10] = [
     ALL[4],
     ALL[5],
     ALL[6],
+    ALL[7],
+    ALL[8],
     ("stream", "its first messages", || stream::first(STREAM_START)),
     SIZED[0][1],
     SIZED[1][1],
@@ -127,7 +132,7 @@ fn market() -> Workload {
 
 /// A message of the book's only template, so many entries in each of its groups.
 fn filled(book: &Book, entries: usize, asked: Asked) -> Workload {
-    let mut fill = Fill { rng: Rng::new(SEED), entries: entries..=entries, data: 2..=2 };
+    let mut fill = Fill { rng: Rng::new(SEED), entries: entries..=entries, data: 2..=2, text: FULL };
     let message = fill.message(book, &book.templates[0]);
     Workload::of_one(book, &message, asked)
 }

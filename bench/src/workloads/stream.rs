@@ -1,7 +1,7 @@
 //! A stream of a session's messages, in a random mix that is always the same. One in a hundred is damaged.
 
 use super::books::{session, VERSION};
-use super::fill::Fill;
+use super::fill::{Fill, FULL};
 use super::{Workload, SEED};
 use crate::rivals::Asked;
 use plain::{Book, Rng, Template};
@@ -24,7 +24,7 @@ pub fn stream() -> Workload {
 /// So many messages of the stream, from its start on.
 pub fn first(messages: usize) -> Workload {
     let book = session();
-    let mut fill = Fill { rng: Rng::new(SEED), entries: 1..=6, data: 4..=40 };
+    let mut fill = Fill { rng: Rng::new(SEED), entries: 1..=6, data: 4..=40, text: FULL };
     let mut workload = Workload::new(&book, places());
     for _ in 0..messages {
         let number = template(&mut fill.rng);

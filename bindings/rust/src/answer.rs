@@ -22,9 +22,10 @@ pub enum Answer {
     /// A value in its type's range, and in the field's list if it has one. Negative ones are 2^64 + value: see
     /// [`Answer::signed`].
     Number(u64),
-    /// An optional field that holds its type's null.
+    /// An optional field that holds its type's null, or a text that starts with NUL.
     Null,
-    /// An array or a data: where its octets stand in the message.
+    /// An array or a data: where its octets stand in the message. Those of a char array, which is text, end before its
+    /// first NUL: see [`Answer::text`].
     Octets {
         /// Counted from the message's first octet.
         start: usize,
@@ -35,7 +36,7 @@ pub enum Answer {
     Absent,
     /// A group, with the number of its entries.
     Group(u64),
-    /// A required field that holds null, or a char outside 32 to 126. The number is as for `Number`.
+    /// A required number that is null, or a char outside 32 to 126. The number is as for `Number`. A text has no range.
     OutOfRange(u64),
     /// A value in its type's range that the field's list lacks, or that has a bit 1 which the list lacks. The number is
     /// as for `Number`.
@@ -107,6 +108,29 @@ impl Answer {
             Answer::Octets { start, len } => message.get(start..start.checked_add(len)?),
             _ => None,
         }
+    }
+
+    /// The octets of an `Octets` in the message that it answers for, where all of them are ASCII.
+    ///
+    /// ```
+    /// use siphonbard::{Answer, Book, Element};
+    ///
+    /// // One template: a symbol, a required text in six octets, and another, an optional one in four.
+    /// let words: [u16; 26] =
+    ///     [7, 0, 1, 26, 0, 1, 8, 18, 10, 2, 0, 0, 55, 0, 6, 0, 0, 0, 0, 311, 0, 4, 6, 1, 0, 0];
+    /// let octets: Vec<u8> = words.iter().flat_map(|word| word.to_le_bytes()).collect();
+    /// let book = Book::checked(&octets)?;
+    ///
+    /// let message = b"\x0a\0\x01\0\x07\0\0\0\0\0\0\0MEAL\0\0\0\0\0\0";
+    /// let symbol = book.place(message, &[], Element::Field(0))?;
+    /// assert_eq!(symbol, Answer::Octets { start: 12, len: 4 });
+    /// assert_eq!(symbol.text(message), Some("MEAL"));
+    /// assert_eq!(book.place(message, &[], Element::Field(1))?, Answer::Null);
+    /// # Ok::<(), siphonbard::Refusal>(())
+    /// ```
+    pub fn text<'m>(&self, message: &'m [u8]) -> Option<&'m str> {
+        let octets = self.octets(message).filter(|octets| octets.is_ascii())?;
+        std::str::from_utf8(octets).ok()
     }
 
     /// How many entries a `Group` has.

@@ -101,7 +101,8 @@ pub fn place(book: &[u8], message: &[u8], steps: &[Step], element: Element) -> R
 ///
 /// The listing is as [`list`] gives it, three numbers a record, a record for every element of the book's template.
 /// Starts refer to the pool: a listing of a message is written back with that message as the pool. The message has
-/// the book's version, its declared block lengths and zero padding.
+/// the book's version, its declared block lengths and zero padding, and a text that is shorter than its field is filled
+/// with NUL.
 pub fn write(book: &[u8], template_id: u16, listing: &[u64], pool: &[u8], room: &mut [u8]) -> Result<usize, Refusal> {
     ffi::write(book, template_id, listing, pool, room)
 }

@@ -58,12 +58,13 @@ impl Listing {
         self.number(value as u64)
     }
 
-    /// The null of an optional field.
+    /// The null of an optional field, also of a text.
     pub fn null(&mut self) -> &mut Listing {
         self.push(Answer::Null.record())
     }
 
-    /// The octets of an array, as many as the field has, or of a data. They are copied into the pool.
+    /// The octets of a uint8 array, as many as the field has; of a text, which has no NUL and may be shorter than its
+    /// field; or of a data. They are copied into the pool. An optional text without octets is [`Listing::null`].
     pub fn octets(&mut self, octets: &[u8]) -> &mut Listing {
         let start = self.pool.len();
         self.pool.extend_from_slice(octets);

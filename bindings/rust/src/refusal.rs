@@ -88,7 +88,8 @@ refusals! {
         "the record's number";
     VALUE_WRONG = 52, "a number is null, out of range or unlisted, or null stands for a required field",
         "the record's number";
-    OCTETS_WRONG = 53, "octets run past the pool's end, are not as many as the field's, or are data over 65,534",
+    OCTETS_WRONG = 53, "octets run past the pool's end, are not as many as a uint8 array's, or are data over 65,534; \
+        or a text is longer than its field, has a NUL in it, or is empty for an optional field",
         "the record's number";
     ENTRIES_TOO_MANY = 54, "a group has over 65,534 entries", "the record's number";
     MESSAGE_TOO_LONG = 55, "the message is longer than the room or than 65,535 octets", "0";

@@ -157,7 +157,7 @@ fn text_fits(p: &[u64], f: usize, listing: &[u64], pool: &[u8], i: usize) -> boo
     if number(p, f + 2) < len {
         return false;
     }
-    if texts::text_length(pool, start, len) != len {
+    if !texts::is_text(pool, start, len) {
         return false;
     }
     if number(p, f + 4) != 1 {

@@ -1,4 +1,4 @@
--- The least of 1, 2, 4, 8 and 16 octets: each number of them is two of the one before.
+-- The least of 1, 2, 4, 8, 16 and 32 octets: each number of them is two of the one before.
 use mathlib.Core.List.{List}
 use Prim.Native.Nat.{ℕ, _+_, min}
 use lib.ListN.{getD}
@@ -16,5 +16,8 @@ module _ (s : List ℕ) where
   abbrev pub least8 : ℕ → ℕ
   least8 at = min (least4 at) (least4 (at + 4))
 
-  abbrev pub least16 : ℕ → ℕ
+  unfoldable pub least16 : ℕ → ℕ
   least16 at = min (least8 at) (least8 (at + 8))
+
+  abbrev pub least32 : ℕ → ℕ
+  least32 at = min (least16 at) (least16 (at + 16))

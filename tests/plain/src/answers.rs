@@ -1,7 +1,7 @@
 //! What an accepted message says: its listing, and the answer for one place.
 
 use crate::message::Part;
-use crate::{refusal, Block, Field, Message, Record, Refusal};
+use crate::{refusal, text_length, Block, Field, Message, Record, Refusal};
 
 const NUMBER: u64 = 0;
 const NULL: u64 = 1;
@@ -58,10 +58,17 @@ impl Message<'_> {
             return [ABSENT, 0, 0];
         }
         let start = part.start + usize::from(field.offset);
-        if field.is_array() {
-            return [OCTETS, start as u64, u64::from(field.length)];
+        let octets = &self.octets[start..start + field.octets()];
+        if field.is_text() {
+            return match text_length(octets) {
+                0 if field.is_optional() => [NULL, 0, 0],
+                length => [OCTETS, start as u64, length as u64],
+            };
         }
-        let value = field.kind().value(&self.octets[start..start + field.octets()]);
+        if field.is_array() {
+            return [OCTETS, start as u64, octets.len() as u64];
+        }
+        let value = field.kind().value(octets);
         if field.kind().holds(value) {
             [if self.book.is_listed(field, value) { NUMBER } else { UNLISTED }, value as u64, 0]
         } else if value == field.kind().null && field.is_optional() {

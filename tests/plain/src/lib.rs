@@ -44,3 +44,8 @@ pub const LONGEST: usize = 65535;
 pub fn word(octets: &[u8], at: usize) -> u16 {
     u16::from_le_bytes([octets[at], octets[at + 1]])
 }
+
+/// How many octets come before the first NUL; all of them where there is none.
+pub fn text_length(octets: &[u8]) -> usize {
+    octets.iter().position(|&octet| octet == 0).unwrap_or(octets.len())
+}

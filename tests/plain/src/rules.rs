@@ -17,9 +17,13 @@ impl Field {
         usize::from(self.offset) + self.octets()
     }
 
-    /// Plain octets: never null and not range-checked.
+    /// Octets, which are not range-checked: text, or else plain ones that are never null.
     pub fn is_array(&self) -> bool {
         self.length != 1
+    }
+
+    pub fn is_text(&self) -> bool {
+        self.is_array() && self.kind == 0
     }
 
     pub fn is_optional(&self) -> bool {

@@ -71,7 +71,13 @@ impl<'a> Writer<'a> {
     fn block(&mut self, block: &Block) -> Result<(), Refusal> {
         let mut octets = vec![0; usize::from(block.length)];
         for field in &block.fields {
-            let value = if field.is_array() { self.array(field)?.to_vec() } else { self.number(field)? };
+            let value = if field.is_text() {
+                self.text(field)?
+            } else if field.is_array() {
+                self.array(field)?.to_vec()
+            } else {
+                self.number(field)?
+            };
             octets[usize::from(field.offset)..field.end()].copy_from_slice(&value);
         }
         self.put(&octets);
@@ -103,6 +109,24 @@ impl<'a> Writer<'a> {
             ([1, 0, 0], number) => Err(refusal(52, number)),
             (_, number) => Err(refusal(51, number)),
         }
+    }
+
+    /// Filled with NUL. An optional text is null and never empty.
+    fn text(&mut self, field: &Field) -> Result<Vec<u8>, Refusal> {
+        let text = match self.next()? {
+            ([2, start, length], number) => {
+                let text = self.pooled(start, length, number)?;
+                let none = text.is_empty() && field.is_optional();
+                let fits = text.len() <= field.octets() && !text.contains(&0) && !none;
+                fits.then_some(text).ok_or(refusal(53, number))?
+            }
+            ([1, 0, 0], _) if field.is_optional() => &[],
+            ([1, 0, 0], number) => return Err(refusal(52, number)),
+            (_, number) => return Err(refusal(51, number)),
+        };
+        let mut octets = text.to_vec();
+        octets.resize(field.octets(), 0);
+        Ok(octets)
     }
 
     fn array(&mut self, field: &Field) -> Result<&'a [u8], Refusal> {

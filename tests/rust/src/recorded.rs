@@ -15,8 +15,8 @@ use crate::readers::{lent, Free, Plain, Reader, Stream};
 use crate::report::{hex, same, Report};
 use plain::{refusal, word, Draft, Place, Record, Refusal};
 
-const CASES: &[u8] = include_bytes!("../../cases/lists.cases");
-const EXPECTED: &str = include_str!("../../cases/lists.expected");
+const CASES: &[u8] = include_bytes!("../../cases/text.cases");
+const EXPECTED: &str = include_str!("../../cases/text.expected");
 
 const LIST: u8 = 0;
 pub const PLACE: u8 = 2;

@@ -3,7 +3,7 @@ use mathlib.Core.Path.{_∙_, _≡_, refl, sym}
 use mathlib.Core.Bool.{not, true}
 use lib.Dec.{eqb, leb}
 use borrow.Author.Needs.{needs}
-use borrow.Author.Tests.{eq-eqb, le-leb, lt-leb, ne-eqb}
+use borrow.Author.Tests.{eq-eqb, le-leb, lt-leb, ne-eqb, not-false, not-true}
 use Rattle.layout.specs.Result.{_and_}
 use Rattle.layout.specs.Book.{isOptional}
 use Rattle.layout.specs.Writing.{textFits, third}
@@ -24,7 +24,7 @@ text-is : (c : tie.Else2) → let a = start (c .before .before) .args in
     textFits (a .listing .now) (a .pool .now) f (a .i) ≡ not (isOptional f and eqb (third (a .listing .now) (a .i)) 0)
 unfolding _and_
 text-is c =
-    rw (short (c .before .before), eq-eqb _ _ (rw (c .before .text-length .ensures) at (c .if2 .left))) refl
+    rw (short (c .before .before), sym (c .before .is-text .ensures) ∙ not-false _ (c .if2 .left)) refl
 
 returns-3 : tie.Need-returns-3
 unfolding _and_
@@ -45,5 +45,5 @@ text-fits-spec =
     (tie.spec (λ c. search needs) (λ c. search needs) (λ c. search needs) (λ c. search needs) (λ c. search needs)
     (λ c. search needs) (λ c. search needs) (λ c. search needs) (λ c. search needs) (λ c κs. search needs)
     (λ c. rw (lt-leb _ _ (rw (c .before .number .ensures) at (c .if1 .taken))) refl) (λ c κs. search needs)
-    (λ c. rw (short (c .before .before), ne-eqb _ _ (rw (c .before .text-length .ensures) at (c .if2 .taken))) refl)
+    (λ c. rw (short (c .before .before), sym (c .before .is-text .ensures) ∙ not-true _ (c .if2 .taken)) refl)
     (λ c. search needs) (λ c κs. search needs) returns-3 returns-4)

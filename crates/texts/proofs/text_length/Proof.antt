@@ -1,37 +1,26 @@
 -- What is left of the octets answers as all of them do.
-use mathlib.Core.Path.{_≡_, _∙_}
-use Prim.Native.Nat.{_+_, _-_, _≤_}
+use mathlib.Core.Path.{_∙_}
+use Prim.Native.Nat.{_+_, _-_}
 use native.Mathlib.Omega.{arith}
-use lib.ListN.{drop, take}
-use Rattle.layout.specs.Octets.{textLength}
-use Rattle.texts.proofs.Texts.{clear16, left, text-end, text-here, text-next, text-past}
+use Rattle.texts.proofs.Texts.{Known, clear8, known-none, known-past, text-end, text-here, text-next}
 use Rattle.texts.proofs.text_length.Statement.{statement}
 use Rattle.texts.proofs.text_length.Tie as tie
 
 -- Of both loops.
 abbrev Inv : tie.InvT-loop
-Inv s start n i₀ i = (i ≤ n) × (textLength (take n (drop start s)) ≡ i + left s start n i)
+Inv s start n i₀ i = Known s start n i
 
 abbrev μ : tie.MeasureT-loop
 μ s start n i₀ i = n - i
-
-loop-holds : tie.Need-loop-holds Inv μ Inv μ
-loop-holds c =
-    let a = c .before .args in
-    let q : a .start + 0 ≡ a .start = omega arith in
-    let r : a .n - 0 ≡ a .n = omega arith in
-    (omega arith, rw (q, r) (omega arith))
 
 loop-again : tie.Need-loop-again Inv μ Inv μ
 loop-again c =
     let call = c .before in
     let i = call .before .before in
     let a = i .before .before .args in
-    let some = rw (call .least16 .ensures) at (c .if1 .left) in (
-      omega arith,
-      i .loop .inv .1 ∙ text-past (a .s .now) (a .start) (a .n) 16 (i .loop .i) (omega arith) (omega arith)
-          (clear16 (a .s .now) (a .start + i .loop .i) (omega (arith, some))),
-    )
+    let some = rw (call .least8 .ensures) at (c .if1 .left) in
+    known-past (a .s .now) (a .start) (a .n) 8 (i .loop .i) (i .loop .inv) (omega arith) (omega arith)
+    (clear8 (a .s .now) (a .start + i .loop .i) (omega (arith, some)))
 
 returns : tie.Need-returns Inv μ Inv μ
 returns c =
@@ -64,6 +53,7 @@ returns-2 c =
 pub text-length-spec : {M : Type 1} → statement M
 text-length-spec =
     tie.close
-    (tie.spec Inv μ Inv μ loop-holds (λ c. omega arith) (λ c. omega arith) (λ c κs. omega arith) (λ c. omega arith)
-    (λ c. omega arith) loop-again (λ c. c .before .loop .inv) (λ c. omega arith) (λ c. omega arith) returns
-    (λ c. omega arith) (λ c. omega arith) loop2-again returns-2)
+    (tie.spec Inv μ Inv μ (λ c. known-none (c .before .args .s .now) (c .before .args .start) (c .before .args .n))
+    (λ c. omega arith) (λ c. omega arith) (λ c κs. omega arith) (λ c. omega arith) (λ c. omega arith) loop-again
+    (λ c. c .before .loop .inv) (λ c. omega arith) (λ c. omega arith) returns (λ c. omega arith) (λ c. omega arith)
+    loop2-again returns-2)

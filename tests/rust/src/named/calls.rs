@@ -15,6 +15,7 @@ pub fn calls() -> Vec<(&'static str, Call)> {
     vec![
         ("crate: its example", example),
         ("crate: answers and records", records),
+        ("crate: octets as text", text),
         ("crate: the example of a listing", listing_example),
         ("crate: a listing of what cannot be written", unwritable),
         ("crate: refusals in words", words),
@@ -52,6 +53,19 @@ fn records() -> Result<(), String> {
     same("octets past the message", octets.octets(&[0; 31]), None)?;
     let values: Vec<Option<u64>> = all.iter().map(Answer::unsigned).collect();
     same("only a number has a value", values, vec![Some(9), None, None, None, None, None, None])
+}
+
+/// Only octets that are all ASCII, and all there, are.
+fn text() -> Result<(), String> {
+    let message = b"MEAL\0\x7f\x80";
+    let octets = |start, len| Answer::Octets { start, len }.text(message);
+    same("four letters", octets(0, 4), Some("MEAL"))?;
+    same("no octets", [octets(2, 0), octets(7, 0)], [Some(""); 2])?;
+    same("NUL and 127", octets(4, 2), Some("\0\x7f"))?;
+    same("128", [octets(5, 2), octets(6, 1)], [None; 2])?;
+    same("past the message", [octets(6, 2), octets(8, 0), octets(usize::MAX, 2)], [None; 3])?;
+    let others = [Answer::Number(65), Answer::Null, Answer::Absent, Answer::Group(4), Answer::OutOfRange(0)];
+    same("no octets at all", others.iter().find_map(|answer| answer.text(message)), None)
 }
 
 /// The example of `Listing`.

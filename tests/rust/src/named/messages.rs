@@ -37,9 +37,13 @@ pub fn b_under_a() -> Vec<Record> {
 
 /// A message of template 1, schema 7, version 0: a root block, no groups, and what follows it.
 pub fn rooted(block: &str, data: u16, rest: &str) -> Vec<u8> {
-    let (block, rest) = (octets(block), octets(rest));
+    [of_block(&octets(block), data), octets(rest)].concat()
+}
+
+/// Its header, with this number of data, and its root block.
+pub fn of_block(block: &[u8], data: u16) -> Vec<u8> {
     let header = [block.len() as u16, 1, 7, 0, 0, data];
-    header.iter().flat_map(|number| number.to_le_bytes()).chain(block).chain(rest).collect()
+    header.iter().flat_map(|number| number.to_le_bytes()).chain(block.iter().copied()).collect()
 }
 
 pub fn cases() -> Vec<Case> {

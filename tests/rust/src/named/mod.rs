@@ -5,6 +5,7 @@ mod books;
 mod borders;
 mod calls;
 mod counted;
+mod every_text;
 mod largest;
 mod listed;
 mod listed_writing;
@@ -14,6 +15,8 @@ mod messages;
 mod named_lists;
 mod prepared;
 mod readings;
+mod text_writing;
+mod texts;
 mod types;
 mod unwritten;
 mod writing;
@@ -44,15 +47,22 @@ pub fn run(report: &mut Report) {
     let read = [books::cases(), borders::cases(), messages::cases(), readings::cases(), counted::cases()];
     let written = [writing::cases(), unwritten::cases()];
     let by_lists = [lists::cases(), named_lists::cases(), listed::cases(), listed_writing::cases()];
-    for case in read.iter().chain(&written).chain(&by_lists).flatten() {
+    let of_texts = [texts::cases(), text_writing::cases()];
+    for case in read.iter().chain(&written).chain(&by_lists).chain(&of_texts).flatten() {
         if case.run(report) {
             println!("ok {}", case.name);
         }
     }
-    let typed = types::cases();
-    let passed = typed.iter().filter(|case| case.run(report)).count();
-    println!("the nine types at their borders: {passed} of {}", typed.len());
-    let calls = calls::calls().into_iter().chain(counted::calls()).chain(prepared::calls());
+    let many = [
+        ("the nine types at their borders", types::cases()),
+        ("texts of every length, read", every_text::read()),
+        ("texts of every length, and with NUL at every position, written", every_text::written()),
+    ];
+    for (name, cases) in many {
+        let passed = cases.iter().filter(|case| case.run(report)).count();
+        println!("{name}: {passed} of {}", cases.len());
+    }
+    let calls = calls::calls().into_iter().chain(texts::calls()).chain(counted::calls()).chain(prepared::calls());
     let calls = calls.chain(largest::calls()).chain(longest::calls());
     for (name, call) in calls {
         if report.check(call(), || name.into()) {

@@ -1,7 +1,7 @@
 //! Listings that are refused, with the place of each refusal. They are M's listing under A with a little altered,
 //! where nothing else is said.
 
-use super::books::{a, field, fields, of, DATA};
+use super::books::{a, field, fields, of, DATA, OCTET};
 use super::messages::m;
 use super::writing::{draft, draft_of_m};
 use super::{Case, Expected};
@@ -68,7 +68,7 @@ fn record_cases() -> Vec<Case> {
 }
 
 fn kind_cases() -> Vec<Case> {
-    let text = Field { length: 4, ..field(0, 0, 1) };
+    let array = Field { length: 4, ..field(OCTET, 0, 1) };
     vec![
         with("writing absent: 51", 1, [3, 0, 0], 51),
         with("writing out of range: 51", 1, [5, 7, 0], 51),
@@ -82,8 +82,8 @@ fn kind_cases() -> Vec<Case> {
         with("writing a number for data: 51", 5, [0, 2, 0], 51),
         with("writing null for data: 51", 5, [1, 0, 0], 51),
         with("writing absent data: 51", 5, [3, 0, 0], 51),
-        alone("writing null for an optional array: 51", text, [1, 0, 0], 51),
-        alone("writing a number for an array: 51", text, [0, 65, 0], 51),
+        alone("writing null for an optional uint8 array: 51", array, [1, 0, 0], 51),
+        alone("writing a number for a uint8 array: 51", array, [0, 65, 0], 51),
         with("writing a number with a third number: 51", 0, [0, 1000, 1], 51),
         with("writing null with a second number: 51", 1, [1, 1, 0], 51),
         with("writing null with a third number: 51", 1, [1, 0, 1], 51),
@@ -115,7 +115,7 @@ fn number_cases() -> Vec<Case> {
 }
 
 fn octets_cases() -> Vec<Case> {
-    let text = Field { length: 4, ..field(2, 0, 0) };
+    let array = Field { length: 4, ..field(OCTET, 0, 0) };
     let one_data = of(Block { data: vec![DATA], ..Block::default() });
     let of_data = |length: usize| draft(&[[2, 0, length as u64]], &vec![7; length]);
     let top = u64::MAX;
@@ -130,11 +130,11 @@ fn octets_cases() -> Vec<Case> {
         with("writing 2^64 - 1 octets: 53", 5, [2, 0, top], 53),
         with("writing 2^63 octets from 2^63 do not wrap to 0: 53", 5, [2, 1 << 63, 1 << 63], 53),
         with("writing 2^32 + 2 octets: 53", 5, [2, 30, (1 << 32) + 2], 53),
-        alone("writing three octets for an array of four: 53", text, [2, 0, 3], 53),
-        alone("writing five octets for an array of four: 53", text, [2, 0, 5], 53),
-        alone("writing no octets for an array of four: 53", text, [2, 0, 0], 53),
-        alone("writing an array that ends past the pool: 53", text, [2, 8, 4], 53),
-        alone("writing an array from 2^64 - 4 does not wrap to 0: 53", text, [2, top - 3, 4], 53),
+        alone("writing three octets for a uint8 array of four: 53", array, [2, 0, 3], 53),
+        alone("writing five octets for a uint8 array of four: 53", array, [2, 0, 5], 53),
+        alone("writing no octets for a uint8 array of four: 53", array, [2, 0, 0], 53),
+        alone("writing a uint8 array that ends past the pool: 53", array, [2, 8, 4], 53),
+        alone("writing a uint8 array from 2^64 - 4 does not wrap to 0: 53", array, [2, top - 3, 4], 53),
         refused("writing data of 65,535 octets: 53", one_data.clone(), of_data(65535), 66000, 53, 0),
         refused("writing data of 65,534 octets: 55", one_data, of_data(65534), 66000, 55, 0),
     ]

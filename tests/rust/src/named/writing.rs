@@ -78,7 +78,7 @@ pub fn depth_four() -> Vec<u8> {
 
 fn data_cases() -> Vec<Case> {
     let data = || of(Block { data: vec![DATA, DATA], ..Block::default() });
-    let text = || of(fields(4, vec![Field { length: 4, ..field(0, 0, 0) }]));
+    let array = || of(fields(4, vec![Field { length: 4, ..field(OCTET, 0, 0) }]));
     let (twice, at_end) = ([[2, 0, 4], [2, 1, 2]], [[2, 6, 0], [2, 4, 2]]);
     let pool = b"MSFT\0\xff";
     vec![
@@ -90,7 +90,12 @@ fn data_cases() -> Vec<Case> {
         ),
         exact("writing data up to the pool's end", data(), draft(&at_end, pool), rooted("", 2, "00 00 02 00 00 ff")),
         exact("writing empty data of an empty pool", data(), draft(&[[2, 0, 0]; 2], &[]), rooted("", 2, "00 00 00 00")),
-        exact("writing an array, which has no range", text(), draft(&[[2, 2, 4]], pool), rooted("46 54 00 ff", 0, "")),
+        exact(
+            "writing a uint8 array, which has no range",
+            array(),
+            draft(&[[2, 2, 4]], pool),
+            rooted("46 54 00 ff", 0, ""),
+        ),
     ]
 }
 

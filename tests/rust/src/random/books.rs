@@ -79,15 +79,15 @@ pub fn data_of(rng: &mut Rng, since: u16) -> Data {
     Data { id: id(rng), since }
 }
 
-/// A field after the block's last, sometimes with a gap before it or padding after it, and often with a list that it
-/// can have.
+/// A field after the block's last, often a text, sometimes with a gap before it or padding after it, and often with a
+/// list that it can have.
 pub fn add_field(rng: &mut Rng, lists: &[NameList], block: &mut Block, since: u16) {
-    let kind = rng.below(TYPES.len()) as u16;
-    let array = (kind == 0 || kind == 2) && rng.chance(30);
+    let kind = if rng.chance(10) { 0 } else { rng.below(TYPES.len()) as u16 };
+    let array = kind == 0 && rng.chance(70) || kind == 2 && rng.chance(30);
     let length = match (array, rng.chance(3)) {
         (false, _) => 1,
         (true, false) => rng.word(2, 9),
-        (true, true) => rng.pick(&[2, 255, 1024]),
+        (true, true) => rng.pick(&[2, 16, 17, 255, 1024]),
     };
     let end = block.fields.last().map_or(0, Field::end) as u16;
     let offset = end + rng.pick(&[0, 0, 0, 1, 3]);

@@ -1,8 +1,7 @@
 //! One book or one message, asked of the library and of the plain reader: answers and rooms must be equal.
 
-use super::places;
 use super::seen::Seen;
-use super::written;
+use super::{places, texts, written};
 use crate::readers::{own, stream_place, Free, Reader};
 use crate::report::same;
 use crate::rooms::{self, prepared, Listing};
@@ -60,7 +59,10 @@ pub fn message(rng: &mut Rng, seen: &mut Seen, book: &BothBooks, octets: &[u8]) 
     asked.lists(rng, seen)?;
     asked.places(rng, seen)?;
     match &asked.plain {
-        Ok(message) => written::back(rng, seen, book, message),
+        Ok(message) => {
+            texts::read(message).for_each(|text| seen.text(text));
+            written::back(rng, seen, book, message)
+        }
         Err(_) => Ok(()),
     }
 }

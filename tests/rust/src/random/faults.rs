@@ -37,10 +37,10 @@ pub fn number(rng: &mut Rng, kind: &Type, list: Option<&NameList>) -> Record {
     [0, value as u64, 0]
 }
 
-/// Octets that end at the pool's end or past it, by a little or by nearly 2^64, or that are more or fewer.
+/// Octets that end at the pool's end or past it, by a little or by nearly 2^64, or that are more or fewer; and null.
 pub fn octets(rng: &mut Rng, [_, start, length]: Record, pool: u64) -> Record {
     let few = rng.below(3) as u64;
-    match rng.below(10) {
+    match rng.below(11) {
         0 => [2, start, length + 1 + few],
         1 => [2, start, length.saturating_sub(1 + few)],
         2 => [2, pool.saturating_sub(length), length],
@@ -50,6 +50,7 @@ pub fn octets(rng: &mut Rng, [_, start, length]: Record, pool: u64) -> Record {
         6 => [2, u64::MAX - few, length],
         7 => [2, start, start.wrapping_neg().wrapping_add(few)],
         8 => [2, 1 << 63, (1 << 63) + few],
+        9 => [1, 0, 0],
         _ => [2, start, 65533 + few],
     }
 }

@@ -1,6 +1,6 @@
 //! Random listings: whole ones, ones with faults in their records, and ones that have lost or gained some.
 
-use super::{faults, lists};
+use super::{faults, lists, texts};
 use plain::{types::Type, Block, Book, Draft, Field, Record, Rng, Template};
 
 /// Something to write with the book, at fault nearly as often as not.
@@ -24,16 +24,17 @@ pub fn whole(rng: &mut Rng, book: &Book, template: &Template) -> Option<Draft> {
     is_whole.then_some(draft)
 }
 
-/// Octets of a pool.
-const POOL: u64 = 1100;
+/// Octets of a pool that are no texts.
+const POOL: usize = 1100;
 /// Enough for a data that is longer than any may be.
-const LARGE: u64 = 65600;
+const LARGE: usize = 65600;
 const NEVER: usize = usize::MAX;
 
 /// A listing, and whether every field in it has got a number that it takes.
-fn made(rng: &mut Rng, book: &Book, template: &Template, pool: u64, until_fault: usize) -> (Draft, bool) {
-    let octets = rng.octets(pool as usize);
-    let mut lister = Lister { rng, book, pool, until_fault, listing: Vec::new(), is_whole: true };
+fn made(rng: &mut Rng, book: &Book, template: &Template, any: usize, until_fault: usize) -> (Draft, bool) {
+    let octets = texts::pool(rng, any);
+    let (pool, large) = (octets.len() as u64, any == LARGE);
+    let mut lister = Lister { rng, book, pool, large, until_fault, listing: Vec::new(), is_whole: true };
     lister.block(&template.block);
     (Draft { template: template.id, listing: lister.listing, pool: octets }, lister.is_whole)
 }
@@ -43,6 +44,8 @@ struct Lister<'a> {
     book: &'a Book,
     /// The pool's length.
     pool: u64,
+    /// Whether it is enough for any data.
+    large: bool,
     /// Records before the next fault.
     until_fault: usize,
     listing: Vec<u64>,
@@ -66,9 +69,10 @@ impl Lister<'_> {
 
     fn block(&mut self, block: &Block) {
         for field in &block.fields {
-            match field.is_array() {
-                true => self.octets(field.length.into()),
-                false => self.number(field),
+            match (field.is_text(), field.is_array()) {
+                (true, _) => self.text(field),
+                (false, true) => self.octets(field.length.into()),
+                (false, false) => self.number(field),
             }
         }
         for group in &block.groups {
@@ -87,8 +91,8 @@ impl Lister<'_> {
     /// Where the pool is large, near the most of a data, or near the length that makes the longest message.
     fn data_length(&mut self) -> usize {
         match self.rng.below(6) {
-            0 if self.pool == LARGE => self.rng.between(65533, 65535),
-            1..=3 if self.pool == LARGE => self.rng.between(65350, 65521),
+            0 if self.large => self.rng.between(65533, 65535),
+            1..=3 if self.large => self.rng.between(65350, 65521),
             _ => self.rng.below(7),
         }
     }
@@ -96,6 +100,16 @@ impl Lister<'_> {
     fn octets(&mut self, length: u64) {
         let (start, pool) = (self.rng.below(50) as u64, self.pool);
         self.put([2, start, length], |rng, record| faults::octets(rng, record, pool));
+    }
+
+    /// Where a fault is to come, it is often this text's.
+    fn text(&mut self, field: &Field) {
+        if self.until_fault != NEVER && self.rng.chance(50) {
+            self.until_fault = 0;
+        }
+        let pool = self.pool;
+        let record = texts::record(self.rng, field, pool);
+        self.put(record, |rng, record| texts::fault(rng, field, record, pool));
     }
 
     fn number(&mut self, field: &Field) {

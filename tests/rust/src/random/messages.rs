@@ -1,7 +1,7 @@
 //! Random messages: some by the plain writer from random listings, some with all the freedom that the wire has.
 
 use super::listings::{self, entries, number};
-use super::lists;
+use super::{lists, texts};
 use plain::{writer, Block, Book, Field, Rng, Template};
 
 /// A whole message for one of the book's templates.
@@ -32,8 +32,8 @@ fn written(rng: &mut Rng, book: &Book, template: &Template) -> Vec<u8> {
     }
 }
 
-/// A message of any version: longer blocks than declared, padding that is not zero, values that are unlisted or out of
-/// range, and groups and data beyond the book's.
+/// A message of any version: longer blocks than declared, padding and tails of texts that are not zero, values that are
+/// unlisted or out of range, and groups and data beyond the book's.
 struct Wire<'a> {
     rng: &'a mut Rng,
     book: &'a Book,
@@ -120,9 +120,12 @@ impl Wire<'_> {
     }
 }
 
-/// Octets for a field: in range and listed or not, null, or just beside.
+/// Octets for a field: a text, or a number in range and listed or not, null, or just beside.
 fn value(rng: &mut Rng, book: &Book, field: &Field) -> Vec<u8> {
     let (kind, list) = (field.kind(), book.list_of(field));
+    if field.is_text() {
+        return texts::octets(rng, field.octets());
+    }
     if field.is_array() {
         return rng.octets(field.octets());
     }

@@ -10,6 +10,7 @@ mod lists;
 pub mod messages;
 pub mod places;
 mod seen;
+mod texts;
 mod two_books;
 mod written;
 

@@ -1,5 +1,6 @@
 //! What the library answered, by number and by kind: a test that never met one of them has not tested it.
 
+use super::texts::{self, Text};
 use crate::report::Report;
 use plain::Refusal;
 
@@ -17,23 +18,27 @@ pub struct Seen {
     /// Books that are refused by 4 for one of their lists.
     pub lists: u64,
     kinds: [u64; 7],
+    /// By `texts::NAMES`.
+    texts: [u64; 9],
     /// Messages that were listed into every room from none to enough.
     pub every_room: u64,
     pub trips: Trips,
 }
 
 /// How many messages were written and read back, read and written back to what they were, and read and not written
-/// back so, for they are not as the book's writer has them.
+/// back so, for they are not as the book's writer has them; and how many of the second were not once a text's tail was
+/// altered.
 #[derive(Default)]
 pub struct Trips {
     pub read_back: u64,
     pub written_back: u64,
     pub not_so: u64,
+    pub not_by_tail: u64,
 }
 
 impl Seen {
     pub fn nothing() -> Seen {
-        Seen { refusals: [0; 56], lists: 0, kinds: [0; 7], every_room: 0, trips: Trips::default() }
+        Seen { refusals: [0; 56], lists: 0, kinds: [0; 7], texts: [0; 9], every_room: 0, trips: Trips::default() }
     }
 
     /// Counts a refusal by its number.
@@ -45,6 +50,10 @@ impl Seen {
 
     pub fn kind(&mut self, kind: u64) {
         self.kinds[kind as usize] += 1;
+    }
+
+    pub fn text(&mut self, text: Text) {
+        self.texts[text as usize] += 1;
     }
 
     /// Prints all counts.
@@ -72,14 +81,21 @@ impl Seen {
             (format!("refusals of {of}"), counts.collect())
         });
         let kinds = KINDS.iter().zip(self.kinds).map(|(name, count)| (name.to_string(), count));
-        let Trips { read_back, written_back, not_so } = self.trips;
-        let trips = [("written and read back", read_back), ("read and written back", written_back), ("not so", not_so)];
+        let texts = texts::NAMES.iter().zip(self.texts).map(|(name, count)| (name.to_string(), count));
+        let Trips { read_back, written_back, not_so, not_by_tail } = self.trips;
+        let trips = [
+            ("written and read back", read_back),
+            ("read and written back", written_back),
+            ("not so", not_so),
+            ("not so by a text's tail", not_by_tail),
+        ];
         let trips = trips.iter().map(|&(name, count)| (name.to_string(), count));
         let rooms = vec![("listed into every room".into(), self.every_room)];
         let lists = vec![("4".into(), self.lists)];
         let others = [
             ("refusals of lists", lists),
             ("answers", kinds.collect()),
+            ("texts", texts.collect()),
             ("messages", rooms),
             ("round trips", trips.collect()),
         ];

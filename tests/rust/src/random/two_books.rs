@@ -15,32 +15,35 @@ pub struct Pair<'a> {
     new: &'a siphonbard::Book,
 }
 
-/// How many messages had their template in both books, of how many of these each half of the demand speaks, and how
-/// many values the older book's lists alone lacked.
+/// How many messages had their template in both books, of how many of these each half of the demand speaks, how many
+/// values the older book's lists alone lacked, and how many texts ended before their field does or were null.
 #[derive(Default)]
 pub struct Agreed {
     messages: u64,
     accepted: u64,
     not_later: u64,
     older_lack: u64,
+    short_texts: u64,
 }
 
 impl Agreed {
     pub fn all_came(&self) -> bool {
-        self.accepted > 0 && self.not_later > 0 && self.older_lack > 0
+        self.accepted > 0 && self.not_later > 0 && self.older_lack > 0 && self.short_texts > 0
     }
 }
 
 impl fmt::Display for Agreed {
     fn fmt(&self, out: &mut fmt::Formatter) -> fmt::Result {
-        let Agreed { messages, accepted, not_later, older_lack } = self;
+        let Agreed { messages, accepted, not_later, older_lack, short_texts } = self;
         write!(out, "{messages} messages, {accepted} accepted, {not_later} not later, ")?;
-        write!(out, "{older_lack} values that only the older book's lists lack")
+        write!(out, "{older_lack} values that only the older book's lists lack, {short_texts} short texts")
     }
 }
 
 /// First numbers of records.
 const NUMBER: u64 = 0;
+const NULL: u64 = 1;
+const OCTETS: u64 = 2;
 const GROUP: u64 = 4;
 const UNLISTED: u64 = 6;
 
@@ -80,6 +83,7 @@ impl<'a> Pair<'a> {
             let mut projection = Projection::of(self.old_tree, new);
             projection.block(Some(blocks.0), blocks.1);
             agreed.older_lack += projection.lacking;
+            agreed.short_texts += projection.short_texts;
             same("answers of two books", old, Ok(projection.known))?;
             if agreed.accepted % ASKED_BY_PLACE == 0 {
                 self.places_agree(octets)?;
@@ -113,6 +117,10 @@ fn seen_by(older: &Book, field: Option<&Field>, record: Record) -> Record {
     }
 }
 
+fn is_short(field: &Field, [first, _, third]: Record) -> bool {
+    field.is_text() && (first == NULL || first == OCTETS && third < field.length.into())
+}
+
 /// The newer book's records, and of those that were passed the ones for elements that the older has, as it has them.
 struct Projection<'a> {
     older: &'a Book,
@@ -120,11 +128,13 @@ struct Projection<'a> {
     known: Vec<Record>,
     /// Values that only the older book's lists lack.
     lacking: u64,
+    /// Texts that end before their field does, and null ones, where the older book has the field.
+    short_texts: u64,
 }
 
 impl<'a> Projection<'a> {
     fn of(older: &'a Book, newer: Vec<Record>) -> Projection<'a> {
-        Projection { older, records: newer.into_iter(), known: Vec::new(), lacking: 0 }
+        Projection { older, records: newer.into_iter(), known: Vec::new(), lacking: 0, short_texts: 0 }
     }
 
     /// Passes the record of an element that the older book knows or not; of a field, the older's.
@@ -132,6 +142,7 @@ impl<'a> Projection<'a> {
         let record = self.records.next().expect("a record for every element");
         let seen = seen_by(self.older, field, record);
         self.lacking += u64::from(seen != record);
+        self.short_texts += u64::from(field.map_or(false, |field| is_short(field, record)));
         if known {
             self.known.push(seen);
         }

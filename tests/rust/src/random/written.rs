@@ -2,6 +2,7 @@
 
 use super::compare::BothBooks;
 use super::seen::Seen;
+use super::texts::{self, Text};
 use crate::readers::{lent, own, stream_write, Free, Reader};
 use crate::report::same;
 use plain::{refusal, word, writer, Draft, Message, Record, Refusal, Rng, LONGEST};
@@ -32,6 +33,10 @@ pub fn draft(rng: &mut Rng, seen: &mut Seen, book: &BothBooks, draft: &Draft) ->
             seen.trips.read_back += 1;
             reads_back(book, draft, message)
         }
+        (Err(refused), Ok(_)) => {
+            asked.refused_text(refused).into_iter().for_each(|text| seen.text(text));
+            Ok(())
+        }
         _ => Ok(()),
     }
 }
@@ -47,6 +52,11 @@ impl<'a> Asked<'a> {
     fn of(book: &'a BothBooks<'a>, draft: &'a Draft) -> Asked<'a> {
         let plain = book.plain.as_ref().map_err(|refused| *refused).and_then(|plain| writer::message(plain, draft));
         Asked { book, draft, plain }
+    }
+
+    fn refused_text(&self, refused: &Refusal) -> Option<Text> {
+        let template = self.book.plain.as_ref().ok()?.template(self.draft.template)?;
+        texts::refused(&template.block, self.draft, refused)
     }
 
     fn write_into(&self, room: usize, seen: &mut Seen) -> Result<(), String> {
@@ -111,6 +121,9 @@ pub fn back(rng: &mut Rng, seen: &mut Seen, book: &BothBooks, message: &Message)
     let asked = Asked::of(book, &draft);
     asked.write_into(octets.len(), seen)?;
     same("as written", asked.plain.as_deref() == Ok(octets), as_written)?;
+    if as_written {
+        not_by_tail(rng, seen, book, message)?;
+    }
     let trip = if as_written { &mut seen.trips.written_back } else { &mut seen.trips.not_so };
     *trip += 1;
     match &book.library {
@@ -123,4 +136,25 @@ pub fn back(rng: &mut Rng, seen: &mut Seen, book: &BothBooks, message: &Message)
         }
         _ => Ok(()),
     }
+}
+
+/// A message that is as the book's writer has it, and one octet after a text's first NUL altered: it is read as before,
+/// and written back to the octets of before.
+fn not_by_tail(rng: &mut Rng, seen: &mut Seen, book: &BothBooks, message: &Message) -> Result<(), String> {
+    let (tails, mut octets) = (texts::tails(message), message.octets.to_vec());
+    if tails.is_empty() {
+        return Ok(());
+    }
+    octets[rng.pick(&tails)] = rng.word(1, 255) as u8;
+    let listing = message.list().concat();
+    if let Ok(book) = &book.library {
+        let mut room = vec![0; listing.len()];
+        let listed = book.list(&octets, &mut room).map_err(own);
+        same("Book::list, a tail altered", (listed, &room), (Ok(listing.len() / 3), &listing))?;
+    }
+    let draft = Draft { template: word(&octets, 2), listing, pool: octets };
+    let asked = Asked::of(book, &draft);
+    asked.write_into(message.octets.len(), seen)?;
+    seen.trips.not_by_tail += 1;
+    same("written back, a tail altered", asked.plain.as_deref(), Ok(message.octets))
 }
