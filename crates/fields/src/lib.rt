@@ -36,11 +36,11 @@ pub fn read_plain(p: &[u64], f: usize, m: &[u8], v: usize, at: usize) -> Answer
     }
     let len = number(p, f + 2);
     let start = at + number(p, f + 3);
-    if 1 < len {
-        return read_array(p, f, m, start, len);
+    if len <= 1 {
+        let optional = number(p, f + 4) == 1;
+        return number_types::read(m, start, number(p, f + 1), optional);
     }
-    let optional = number(p, f + 4) == 1;
-    number_types::read(m, start, number(p, f + 1), optional)
+    read_array(p, f, m, start, len)
 }
 
 // The field at place f, whose table is at t.

@@ -225,10 +225,10 @@ fn judge_field(
         (now (p .entry)) f) i) ⌝ }
 {
     let len = number(p, f + 2);
-    if 1 < len {
-        return judge_array(p, f, len, listing, pool, i);
+    if len <= 1 {
+        return judge_number(p, f, t, listed, listing, i);
     }
-    judge_number(p, f, t, listed, listing, i)
+    judge_array(p, f, len, listing, pool, i)
 }
 
 // The fields of the block at a.

@@ -103,14 +103,14 @@ fn write_value(
     ensures { λ _. ⌜ now (room .exit) ≡ sets (now (room .entry)) 0 (numbersOf (valuePart (now (listing .entry))
         (now (pool .entry)) (fieldAt (now (p .entry)) f) i)) ⌝ }
 {
-    if 1 < number(p, f + 2) {
-        let start = number_of(listing, i, 1) as usize;
-        let len = number_of(listing, i, 2) as usize;
-        put_octets(room, pool, start, len);
+    if number(p, f + 2) <= 1 {
+        let x = number_for(p, t, listing, i);
+        number_types::store(room, 0, number(p, t + 4), x);
         return;
     }
-    let x = number_for(p, t, listing, i);
-    number_types::store(room, 0, number(p, t + 4), x);
+    let start = number_of(listing, i, 1) as usize;
+    let len = number_of(listing, i, 2) as usize;
+    put_octets(room, pool, start, len);
 }
 
 // The block at a without its groups and data. Each field is stored at its offset, and the zeros

@@ -11,34 +11,18 @@ use Rattle.fields.proofs.read_plain.Tie as tie
 abbrev field : tie.Start → Field
 field c = fieldAt (c .args .p .now) (c .args .f)
 
--- After the first test the field is present, and after the second it is one number.
+-- After the first test the field is present, and by the second it is one number.
 present : (c : tie.Else1)
     → field (c .before .before .before .before) .since ≤ c .before .before .before .before .args .v
 present c = rw (c .before .number .ensures) at (c .if1 .left)
 
-single : (c : tie.Else2) → field (c .before .before .before .before .before .before .before) .length ≤ 1
-single c = rw (c .before .before .number2 .ensures) at (c .if2 .left)
+single : (c : tie.Then2) → field (c .before .before .before .before .before .before .before) .length ≤ 1
+single c = rw (c .before .before .number2 .ensures) at (c .if2 .taken)
 
 add-start : tie.Need-add-start
 add-start c =
     let since = c .before .before in
     search (needs, since .before .before .before .before .pre .1 .inside (present since))
-
-read-array-requires : tie.Need-read-array-requires
-read-array-requires c κs =
-    let len = c .before .before in
-    let pre = len .before .before .before .before .before .pre in (
-      pre .0,
-      len .number2 .ensures,
-      rw (c .before .number3 .ensures, len .number2 .ensures) (array-inside _ _ _ _ (present (len .before)) (pre .1)),
-    )
-
-returns-2 : tie.Need-returns-2
-returns-2 c =
-    let array = c .before in
-    let len = array .before .before in
-    rw (array .before .number3 .ensures) at (c .read-array .ensures)
-    ∙ sym (field-array _ _ _ _ (present (len .before)) (rw (len .number2 .ensures) at (array .if2 .taken)))
 
 read-requires : tie.Need-read-requires
 read-requires c κs =
@@ -47,8 +31,8 @@ read-requires c κs =
     rw (c .number5 .ensures, one .before .number3 .ensures)
     (number-inside _ _ _ _ (present (one .before .before .before)) (single one) fits)
 
-returns-3 : tie.Need-returns-3
-returns-3 c =
+returns-2 : tie.Need-returns-2
+returns-2 c =
     let one = c .before .before .before in
     rw (
       c .read .ensures,
@@ -59,10 +43,27 @@ returns-3 c =
     (sym (field-number _ _ _ (field (one .before .before .before .before .before .before .before))
     (present (one .before .before .before)) (single one)))
 
+read-array-requires : tie.Need-read-array-requires
+read-array-requires c κs =
+    let len = c .before .before in
+    let pre = len .before .before .before .before .before .pre in (
+      pre .0,
+      len .number2 .ensures,
+      rw (c .before .number3 .ensures, len .number2 .ensures) (array-inside _ _ _ _ (present (len .before)) (pre .1)),
+    )
+
+returns-3 : tie.Need-returns-3
+returns-3 c =
+    let array = c .before in
+    let len = array .before .before in
+    rw (array .before .number3 .ensures) at (c .read-array .ensures)
+    ∙ sym (field-array _ _ _ _ (present (len .before)) (rw (len .number2 .ensures) at (array .if2 .left)))
+
 pub read-plain-spec : {M : Type 1} → statement M
 read-plain-spec =
     tie.close
     (tie.spec (λ c. search needs) (λ c κs. search needs)
     (λ c. sym (field-absent _ _ _ _ (rw (c .before .number .ensures) at (c .if1 .taken)))) (λ c. search needs)
-    (λ c κs. search needs) (λ c. search needs) (λ c κs. search needs) add-start read-array-requires returns-2
-    (λ c. search needs) (λ c κs. search needs) (λ c. search needs) (λ c κs. search needs) read-requires returns-3)
+    (λ c κs. search needs) (λ c. search needs) (λ c κs. search needs) add-start (λ c. search needs)
+    (λ c κs. search needs) (λ c. search needs) (λ c κs. search needs) read-requires returns-2 read-array-requires
+    returns-3)

@@ -1,4 +1,4 @@
--- An array, or a number.
+-- A number, or an array.
 use mathlib.Core.Path.{_∙_, sym}
 use borrow.Author.Needs.{needs}
 use Rattle.judges.proofs.Judging.{field-array, field-number}
@@ -7,13 +7,13 @@ use Rattle.judges.proofs.judge_field.Tie as tie
 
 returns : tie.Need-returns
 returns c =
-    let long = c .before in
-    c .judge-array .ensures ∙ sym (field-array _ _ _ _ (rw (long .before .number .ensures) at (long .if1 .taken)))
+    let short = c .before in
+    c .judge-number .ensures ∙ sym (field-number _ _ _ _ (rw (short .before .number .ensures) at (short .if1 .taken)))
 
 returns-2 : tie.Need-returns-2
 returns-2 c =
-    let short = c .before in
-    c .judge-number .ensures ∙ sym (field-number _ _ _ _ (rw (short .before .number .ensures) at (short .if1 .left)))
+    let long = c .before in
+    c .judge-array .ensures ∙ sym (field-array _ _ _ _ (rw (long .before .number .ensures) at (long .if1 .left)))
 
 pub judge-field-spec : {M : Type 1} → statement M
 judge-field-spec =
