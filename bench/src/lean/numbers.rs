@@ -1,5 +1,5 @@
-//! Fields, and their numbers in octets: eight octets are read or stored at once, whatever the width. Of a text the first
-//! NUL is looked for octet by octet.
+//! Fields, and their numbers in octets: eight octets are read or stored at once, whatever the width. Of a text the
+//! first NUL is looked for octet by octet.
 
 use super::names::Names;
 use super::{Record, NULL, NUMBER, OCTETS, OUT_OF_RANGE, UNLISTED};

@@ -9,7 +9,7 @@ use super::{Case, Expected};
 use plain::{refusal, Field, Place, Record};
 
 /// Around eight octets and multiples of them.
-const LENGTHS: [u16; 10] = [2, 3, 7, 8, 9, 15, 16, 17, 31, 33];
+const LENGTHS: [u16; 12] = [2, 3, 7, 8, 9, 15, 16, 17, 31, 33, 64, 65];
 
 /// An octet of a text, and an octet after its NUL.
 const OCTETS: [(u8, u8); 8] = [(1, 0), (1, 1), (b'A', 0), (b'A', b'Z'), (127, 128), (128, 127), (255, 0), (255, 255)];
