@@ -88,16 +88,9 @@ module _ (s : List ℕ) where
       let q : j ≡ at = omega arith in
       omega (arith, rw q at e)
 
-  four : (at : ℕ) → 0 < least4 s at → Clear 4 at
-  unfolding least4
-  four = halves (least2 s) 2 (halves (least1 s) 1 one)
-
   pub clear8 : (at : ℕ) → 0 < least8 s at → Clear 8 at
-  clear8 = halves (least4 s) 4 four
-
-  sixteen : (at : ℕ) → 0 < least16 s at → Clear 16 at
-  unfolding least16
-  sixteen = halves (least8 s) 8 clear8
+  unfolding least8
+  clear8 = halves (least4 s) 4 (halves (least2 s) 2 (halves (least1 s) 1 one))
 
   pub clear32 : (at : ℕ) → 0 < least32 s at → Clear 32 at
-  clear32 = halves (least16 s) 16 sixteen
+  clear32 = halves (least16 s) 16 (halves (least8 s) 8 clear8)

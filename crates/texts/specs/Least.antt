@@ -10,13 +10,13 @@ module _ (s : List ℕ) where
   abbrev pub least2 : ℕ → ℕ
   least2 at = min (least1 at) (least1 (at + 1))
 
-  unfoldable pub least4 : ℕ → ℕ
+  abbrev pub least4 : ℕ → ℕ
   least4 at = min (least2 at) (least2 (at + 2))
 
-  abbrev pub least8 : ℕ → ℕ
+  unfoldable pub least8 : ℕ → ℕ
   least8 at = min (least4 at) (least4 (at + 4))
 
-  unfoldable pub least16 : ℕ → ℕ
+  abbrev pub least16 : ℕ → ℕ
   least16 at = min (least8 at) (least8 (at + 8))
 
   abbrev pub least32 : ℕ → ℕ
