@@ -9,10 +9,10 @@ import sys
 
 from schema_book import block, book, data, enumeration, field, flags, group
 
-# ---- The books: a fill, and the fill with a quantity where there was padding, and with one condition more ----
+# ---- The books: a fill; one with a quantity where there was padding, and a condition more; the same, big-endian ----
 
 SCHEMA, FILL = 7, 1
-BLOCK = 28  # octets of a fill's block, in both books
+BLOCK = 28  # octets of a fill's block, in all books
 SIDES, CONDITIONS = 54, 277  # ids of lists
 
 FIELDS = [
@@ -38,33 +38,41 @@ OLDER = book(SCHEMA, 0, {FILL: block(BLOCK, FIELDS, [MILLS], [NOTE])}, {
     SIDES: enumeration(BUY + SELL),
     CONDITIONS: flags([IN_PART, BY_WEIGHT_AT_MILL]),
 })
-NEWER = book(SCHEMA, 1, {FILL: block(BLOCK, FIELDS + [QUANTITY], [MILLS], [NOTE])}, {
+NEWER_TEMPLATES = {FILL: block(BLOCK, FIELDS + [QUANTITY], [MILLS], [NOTE])}
+NEWER_LISTS = {
     SIDES: enumeration(BUY + SELL),
     CONDITIONS: flags([IN_PART, BY_WEIGHT_AT_MILL, PRICE_TO_BE_FIXED]),
-})
+}
+NEWER = book(SCHEMA, 1, NEWER_TEMPLATES, NEWER_LISTS)
+BIG = book(SCHEMA, 1, NEWER_TEMPLATES, NEWER_LISTS, byte_order="big")
 
-# ---- The messages: numbers are least significant octet first, and x is an octet of padding ----
+# ---- The messages: x is an octet of padding ----
 
+LEAST_FIRST, MOST_FIRST = "<", ">"  # the byte orders as struct has them
 NO_WEEK = 255  # null for a uint8
-SELL_SHORT = b"5"  # a side that neither book lists
+SELL_SHORT = b"5"  # a side that no book lists
 
 
-def message(version, root, mills, note):
+def message(version, root, mills, note, first=LEAST_FIRST):
     """The header, with one group and one data; the root block; the group: its block length, its number of entries and
     the entries; the data: its length and its octets."""
-    header = struct.pack("<6H", BLOCK, FILL, SCHEMA, version, 1, 1)
-    entries = b"".join(struct.pack("<HBx", mill, share) for mill, share in mills)
-    return header + root + struct.pack("<2H", 4, len(mills)) + entries + struct.pack("<H", len(note)) + note
+    header = struct.pack(first + "6H", BLOCK, FILL, SCHEMA, version, 1, 1)
+    entries = b"".join(struct.pack(first + "HBx", mill, share) for mill, share in mills)
+    group = struct.pack(first + "2H", 4, len(mills)) + entries
+    return header + root + group + struct.pack(first + "H", len(note)) + note
 
 
-def root(order, price, week, side, conditions, quantity=0):
+def root(order, price, week, side, conditions, quantity=0, first=LEAST_FIRST):
     """The root block. An order that is shorter than its field has NULs behind it. In a message of version 0 the last
     four octets are padding, and zeros."""
-    return struct.pack("<16siBcHI", order, price, week, side, sum(1 << bit for bit in conditions), quantity)
+    return struct.pack(first + "16siBcHI", order, price, week, side, sum(1 << bit for bit in conditions), quantity)
 
 
 OLDER_FILL = message(0, root(b"B7-10423", -125, NO_WEEK, BUY, []), [(12, 60), (31, 40)], b"May delivery")
 NEWER_FILL = message(1, root(b"C2-00917", 340, 23, BUY, [IN_PART], 500), [(12, 100)], b"300 t to come")
+
+BIG_ROOT = root(b"V9-55010", -45, NO_WEEK, SELL, [BY_WEIGHT_AT_MILL], 1200, MOST_FIRST)
+BIG_FILL = message(1, BIG_ROOT, [(7, 75), (300, 25)], b"rail", MOST_FIRST)
 
 ALL_MILLS = [(mill, 2 + mill % 2) for mill in range(1, 41)]
 LONG_ORDER = b"C2-00918-40MILLS"  # as long as an order may be: no NUL behind it
@@ -76,10 +84,12 @@ UNLISTED_FILL = message(1, root(b"C2-00919", 338, 25, SELL_SHORT, TWO_CONDITIONS
 FILES = {
     "books/older.book": OLDER,
     "books/newer.book": NEWER,
+    "books/big.book": BIG,
     "messages/older_fill.sbe": OLDER_FILL,
     "messages/newer_fill.sbe": NEWER_FILL,
     "messages/forty_mills.sbe": FORTY_MILLS,
     "messages/unlisted_fill.sbe": UNLISTED_FILL,
+    "messages/big_fill.sbe": BIG_FILL,
     "messages/cut_fill.sbe": NEWER_FILL[:-1],  # its last octet was lost on the way
 }
 

@@ -5,6 +5,7 @@ import struct
 
 TYPES = ["char", "int8", "uint8", "int16", "uint16", "int32", "uint32", "int64", "uint64"]
 PRESENCES = ["required", "optional"]
+BYTE_ORDERS = ["little", "big"]
 
 
 def field(id, type, offset, length=1, presence="required", since=0, list=None):
@@ -41,21 +42,23 @@ def flags(bits):
     return [1, *sorted(bits)]
 
 
-def book(schema, version, templates, lists={}):
-    """The octets of a book with a block for each template id, and an enumeration or flags for each list id."""
-    return octets(words(schema, version, sorted(templates.items()), sorted(lists.items())))
+def book(schema, version, templates, lists={}, byte_order="little"):
+    """The octets of a book with a block for each template id, and an enumeration or flags for each list id. The byte
+    order is that of its messages: "big" where the sender's are big-endian."""
+    return octets(words(schema, version, sorted(templates.items()), sorted(lists.items()), byte_order))
 
 
-def words(schema, version, templates, lists=()):
-    """The head: schema id, version, number of templates, number of words, number of lists. The contents, a row for each
-    template and then one for each list, ids rising: its id, the first word of its body, the words in its body. Then the
-    bodies, back to back: of a template one block, of a list its kind and its numbers."""
-    first = 5 + 3 * (len(templates) + len(lists))
+def words(schema, version, templates, lists=(), byte_order="little"):
+    """The head: schema id, version, number of templates, number of words, number of lists, byte order of messages. The
+    contents, a row for each template and then one for each list, ids rising: its id, the first word of its body, the
+    words in its body. Then the bodies, back to back: of a template one block, of a list its kind and its numbers."""
+    first = 6 + 3 * (len(templates) + len(lists))
     contents, bodies = [], []
     for id, body in [*templates, *lists]:
         contents += [id, first + len(bodies), len(body)]
         bodies += body
-    return [schema, version, len(templates), first + len(bodies), len(lists)] + contents + bodies
+    head = [schema, version, len(templates), first + len(bodies), len(lists), number(byte_order, BYTE_ORDERS)]
+    return head + contents + bodies
 
 
 def octets(words):

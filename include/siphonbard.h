@@ -11,6 +11,10 @@
  *
  * Every reply begins with a `number` and a `place`. After success both are 0. Else they are the refusal, and the call
  * has altered nothing that it was lent.
+ *
+ * A book says in its head whether its messages are little-endian or big-endian, and the calls read and write them so:
+ * nothing else is to be done for it. A book's own words are little-endian whatever its messages are, and the numbers
+ * that a call is lent and gives are those of the processor.
  */
 #ifndef SIPHONBARD_H
 #define SIPHONBARD_H
@@ -34,8 +38,8 @@ extern "C" {
 /* When the book's octets are odd, under 8 or over 8,192. Place: 0. */
 #define SIPHONBARD_REFUSED_BOOK_SIZE 1
 /*
- * When the book's head is cut short, its word count is wrong, its schema id or version is 65535, it has no template or
- * over 64, or its contents don't fit. Place: 0.
+ * When the book's head is cut short, its word count is wrong, its schema id or version is 65535, its byte order is
+ * neither 0 nor 1, it has no template or over 64, or its contents don't fit. Place: 0.
  */
 #define SIPHONBARD_REFUSED_BOOK_HEAD 2
 /* When the book's contents break a rule, or a template or list id is 65535. Place: 0. */
@@ -204,7 +208,7 @@ siphonbard_found siphonbard_place(const uint8_t *book, size_t book_len, const ui
  * pool's first octet, and SIPHONBARD_IS_ABSENT, SIPHONBARD_IS_OUT_OF_RANGE and SIPHONBARD_IS_UNLISTED are answered 51.
  * The listing of a message is written back with that message as the pool.
  *
- * The message has the book's version, its declared block lengths and its counts, and zeros where a block has no
+ * The message has the book's version, byte order, declared block lengths and counts, and zeros where a block has no
  * field. A text may have fewer octets than its field, which is filled with NUL; an optional one that would have none is
  * given as SIPHONBARD_IS_NULL.
  *

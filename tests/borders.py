@@ -15,7 +15,7 @@ import schema_book
 from schema_book import block, octets
 
 FOLDER = ROOT / "crates" / "check_books"
-HEAD, ROW, FIELD = 5, 3, 7  # words of a book's head, of a row of its contents, of a field
+HEAD, ROW, FIELD = 6, 3, 7  # words of a book's head, of a row of its contents, of a field
 
 
 def field(type="uint8", length=1, offset=0, presence="required", since=0, list=None):
@@ -44,11 +44,12 @@ def bits(*numbers):
     return [1, *numbers]
 
 
-def book(*bodies, lists=(), schema=7, version=0, ids=None, list_ids=None, shift=0, more=0):
+def book(*bodies, lists=(), schema=7, version=0, byte_order=0, ids=None, list_ids=None, shift=0, more=0):
     """A book of these bodies and lists, their ids from 1 and from 4 on. `shift` is added to the last row's first word,
     `more` to the number of words."""
     templates = [*zip(ids or range(1, len(bodies) + 1), bodies)]
-    words = schema_book.words(schema, version, templates, [*zip(list_ids or range(4, len(lists) + 4), lists)])
+    names = [*zip(list_ids or range(4, len(lists) + 4), lists)]
+    words = schema_book.words(schema, version, templates, names, byte_order)
     words[HEAD + ROW * (len(bodies) + len(lists)) - 2] += shift
     words[3] += more
     return octets(words)
@@ -98,8 +99,9 @@ MISSING = block(8, [field(list=0)])
 BORDERS = [
     ("6 octets", octets([7, 0, 1]), "refused 1 0"),
     ("8 octets, no template", octets([7, 0, 0, 4]), "refused 2 0"),
-    ("8 octets, the head without its fifth word", octets([7, 0, 1, 4]), "refused 2 0"),
-    ("10 octets, the head and no contents", octets([7, 0, 1, 5, 0]), "refused 2 0"),
+    ("8 octets, the head without its last two words", octets([7, 0, 1, 4]), "refused 2 0"),
+    ("10 octets, the head without its last word", octets([7, 0, 1, 5, 0]), "refused 2 0"),
+    ("12 octets, the head and no contents", octets([7, 0, 1, 6, 0, 0]), "refused 2 0"),
     ("odd octets", book(ONE) + b"\0", "refused 1 0"),
     ("8,192 octets", sized(8192), "accepted"),
     ("8,194 octets", sized(8194), "refused 1 0"),
@@ -108,19 +110,24 @@ BORDERS = [
     ("schema id 65535", book(ONE, schema=65535), "refused 2 0"),
     ("version 65534", book(ONE, version=65534), "accepted"),
     ("version 65535", book(ONE, version=65535), "refused 2 0"),
+    ("byte order 1", book(ONE, byte_order=1), "accepted"),
+    ("byte order 2", book(ONE, byte_order=2), "refused 2 0"),
+    ("byte order 256", book(ONE, byte_order=256), "refused 2 0"),
+    ("byte order 65535", book(ONE, byte_order=65535), "refused 2 0"),
+    ("byte order 2 hides a body one word on", book(ONE, byte_order=2, shift=1), "refused 2 0"),
     ("64 templates", book(*[EMPTY] * 64), "accepted"),
     ("65 templates", book(*[EMPTY] * 65), "refused 2 0"),
-    ("contents that just fit", octets([7, 0, 2, 11, 0, 1, 11, 0, 2, 11, 0]), "refused 4 0"),
-    ("contents that do not fit", octets([7, 0, 2, 10, 0, 1, 11, 0, 2, 11]), "refused 2 0"),
-    ("contents of a list that just fit", octets([7, 0, 1, 11, 1, 1, 11, 0, 4, 11, 0]), "refused 4 0"),
-    ("contents of a list that do not fit", octets([7, 0, 1, 10, 1, 1, 11, 0, 4, 11]), "refused 2 0"),
-    ("65,535 lists", octets([7, 0, 1, 12, 65535, 1, 8, 4] + EMPTY), "refused 2 0"),
+    ("contents that just fit", octets([7, 0, 2, 12, 0, 0, 1, 12, 0, 2, 12, 0]), "refused 4 0"),
+    ("contents that do not fit", octets([7, 0, 2, 11, 0, 0, 1, 12, 0, 2, 12]), "refused 2 0"),
+    ("contents of a list that just fit", octets([7, 0, 1, 12, 1, 0, 1, 12, 0, 4, 12, 0]), "refused 4 0"),
+    ("contents of a list that do not fit", octets([7, 0, 1, 11, 1, 0, 1, 12, 0, 4, 12]), "refused 2 0"),
+    ("65,535 lists", octets([7, 0, 1, 13, 65535, 0, 1, 9, 4] + EMPTY), "refused 2 0"),
     ("template id 65534", book(ONE, ids=[65534]), "accepted"),
     ("template id 65535", book(ONE, ids=[65535]), "refused 3 0"),
     ("ids that rise", book(ONE, ONE, ids=[4, 5]), "accepted"),
     ("ids that stay", book(ONE, ONE, ids=[4, 4]), "refused 3 0"),
     ("a body one word on", book(ONE, shift=1), "refused 3 0"),
-    ("a word after the last body", octets([7, 0, 1, 13, 0, 1, 8, 4] + EMPTY + [0]), "refused 3 0"),
+    ("a word after the last body", octets([7, 0, 1, 14, 0, 0, 1, 9, 4] + EMPTY + [0]), "refused 3 0"),
     ("list id 65534", of_lists(bits(1), list_ids=[65534]), "accepted"),
     ("list id 65535", of_lists(bits(1), list_ids=[65535]), "refused 3 0"),
     ("list ids that rise", of_lists(bits(1), bits(1), list_ids=[4, 5]), "accepted"),
@@ -128,9 +135,10 @@ BORDERS = [
     ("a list id that is a template's", of_lists(bits(1), list_ids=[1]), "accepted"),
     ("a list one word on", of_lists(bits(1), shift=1), "refused 3 0"),
     ("a list one word before", of_lists(bits(1), shift=-1), "refused 3 0"),
-    ("a list", octets([7, 0, 1, 17, 1, 1, 11, 4, 4, 15, 2] + EMPTY + [0, 65]), "accepted"),
-    ("a word after the last list", octets([7, 0, 1, 18, 1, 1, 11, 4, 4, 15, 2] + EMPTY + [0, 65, 66]), "refused 3 0"),
-    ("a list before a template", octets([7, 0, 1, 17, 1, 1, 13, 4, 4, 11, 2] + [0, 65] + EMPTY), "refused 3 0"),
+    ("a list", octets([7, 0, 1, 18, 1, 0, 1, 12, 4, 4, 16, 2] + EMPTY + [0, 65]), "accepted"),
+    ("a word after the last list",
+     octets([7, 0, 1, 19, 1, 0, 1, 12, 4, 4, 16, 2] + EMPTY + [0, 65, 66]), "refused 3 0"),
+    ("a list before a template", octets([7, 0, 1, 18, 1, 0, 1, 14, 4, 4, 12, 2] + [0, 65] + EMPTY), "refused 3 0"),
     ("a body of no words", book(EMPTY, []), "refused 4 1"),
     ("a body of three words", book([0, 0, 0]), "refused 4 0"),
     ("a body of four words", book(EMPTY), "accepted"),

@@ -1,7 +1,7 @@
 #!/usr/bin/env python3
 """wrapper.py: tries examples/python/siphonbard.py over the shared object that SIPHONBARD_SO names: listings of none to
-many records, a place, a message that is written back, a number that its list lacks, texts, a book whose octets are
-gone, the largest book, and refusals with their words.
+many records, a place, a message that is written back, a number that its list lacks, texts, big-endian messages, a book
+whose octets are gone, the largest book, and refusals with their words.
 
 Prints what is wrong. The last line is 'wrapper: N passed, 0 failed'."""
 import struct
@@ -11,7 +11,7 @@ from pathlib import Path
 ROOT = Path(__file__).resolve().parent.parent
 sys.path[:0] = [str(ROOT / "examples"), str(ROOT / "examples" / "python")]
 
-from schema_book import block, book, enumeration, field, group
+from schema_book import block, book, data, enumeration, field, group
 from siphonbard import FIRST, Book, Element, Kind, Refused, text
 
 EMPTY = book(7, 0, {1: block(0)})
@@ -22,6 +22,11 @@ TEXTS = book(7, 0, {1: block(10, [
     field(55, "char", offset=0, length=6),
     field(311, "char", offset=6, length=4, presence="optional"),
 ])})
+NUMBERS = {1: block(10, [
+    field(44, "int32", offset=0),
+    field(55, "char", offset=4, length=4),
+    field(64, "uint16", offset=8, presence="optional"),
+], [group(1, block(8, [field(2, "int64", offset=0)]))], [data(58)])}
 
 
 def of_records(count):
@@ -107,6 +112,43 @@ def refuses_texts():
     return [refuses(write, 1, two, b"MEALS\0")[:2] for two in wrong], [(52, 0), (53, 1), (53, 1), (53, 1)]
 
 
+def of_numbers(first):
+    """A message by NUMBERS, its numbers in the order that struct is told: -5, "MEAL", null, an entry of 1000, "ab"."""
+    root = struct.pack(first + "6Hi4sH", 10, 1, 7, 0, 1, 1, -5, b"MEAL", 65535)
+    return root + struct.pack(first + "2HqH", 8, 1, 1000, 2) + b"ab"
+
+
+OF_NUMBERS = [
+    (Kind.NUMBER, 2**64 - 5, 0), (Kind.OCTETS, 16, 4), (Kind.NULL, 0, 0), (Kind.GROUP, 1, 0), (Kind.NUMBER, 1000, 0),
+    (Kind.OCTETS, 36, 2),
+]
+
+
+def reads_either_order():
+    """Each by its own book: the records are the same, starts and all."""
+    little, big = (Book(book(7, 0, NUMBERS, byte_order=order)) for order in ("little", "big"))
+    return [little.list(of_numbers("<")), big.list(of_numbers(">"))], [OF_NUMBERS] * 2
+
+
+def places_in_big_endian():
+    by, message = Book(book(7, 0, NUMBERS, byte_order="big")), of_numbers(">")
+    return by.place(message, [(0, 0)], Element.FIELD, 0), (Kind.NUMBER, 1000, 0)
+
+
+def writes_either_order():
+    """One listing by two books."""
+    books = (Book(book(7, 0, NUMBERS, byte_order=order)) for order in ("little", "big"))
+    return [by.write(1, OF_NUMBERS, of_numbers("<")) for by in books], [of_numbers("<"), of_numbers(">")]
+
+
+def refuses_the_other_order():
+    """A message by the book of the other order, and a book of no order."""
+    little, big = (Book(book(7, 0, NUMBERS, byte_order=order)) for order in ("little", "big"))
+    refused = [refuses(little.list, of_numbers(">")), refuses(big.list, of_numbers("<"))]
+    refused.append(refuses(Book, book(7, 0, NUMBERS, byte_order=2)))
+    return [said[:2] for said in refused], [(12, 4), (12, 4), (2, 0)]
+
+
 def outlives_its_octets():
     """The octets are altered once the book is there."""
     octets, (_, message, records) = bytearray(ENTRIES), of_records(9)
@@ -116,9 +158,9 @@ def outlives_its_octets():
 
 
 def prepares_the_largest():
-    """8,192 octets: eight templates of 64 fields, one of 61 and one of none, and a list of six numbers."""
+    """8,192 octets: eight templates of 64 fields, one of 61 and one of none, and a list of five numbers."""
     templates = {id: block(64, octet_fields(64)) for id in range(8)}
-    octets = book(7, 0, {**templates, 8: block(61, octet_fields(61)), 9: block(0)}, {4: enumeration(range(6))})
+    octets = book(7, 0, {**templates, 8: block(61, octet_fields(61)), 9: block(0)}, {4: enumeration(range(5))})
     message = struct.pack("<6H", 61, 8, 7, 0, 0, 0) + bytes(range(61))
     return (len(octets), Book(octets).list(message)), (8192, [(Kind.NUMBER, value, 0) for value in range(61)])
 
@@ -164,9 +206,9 @@ def refuses_a_room():
 COUNTS = [0, 1, FIRST - 1, FIRST, FIRST + 1, 2 * FIRST, 5000]
 TESTS = [(lists, count) for count in COUNTS] + [
     (places,), (writes_back,), (tells_unlisted,), (writes_listed,), (refuses_unlisted,), (reads_texts,),
-    (tells_what_is_no_text,), (writes_texts,), (refuses_texts,), (outlives_its_octets,),
-    (prepares_the_largest,), (refuses_a_book,), (refuses_a_template,), (refuses_a_list,), (refuses_a_message,),
-    (refuses_a_room,),
+    (tells_what_is_no_text,), (writes_texts,), (refuses_texts,), (reads_either_order,), (places_in_big_endian,),
+    (writes_either_order,), (refuses_the_other_order,), (outlives_its_octets,), (prepares_the_largest,),
+    (refuses_a_book,), (refuses_a_template,), (refuses_a_list,), (refuses_a_message,), (refuses_a_room,),
 ]
 
 

@@ -3,6 +3,7 @@
 //! times nothing.
 
 mod agree;
+mod byte_order;
 mod counted;
 mod lean;
 mod preparing;
@@ -12,21 +13,23 @@ mod tables;
 mod timing;
 mod workloads;
 
+use plain::ByteOrder;
 use rivals::Rival;
 use tables::Compared;
 use timing::{medians, Contender};
 use workloads::{Entry, Workload, ALL, SIZED, SIZES};
 
 const ROUNDS: usize = 151;
-/// A round of the stream is long by itself: it has one of so many rounds, but five at least.
+/// A round of a stream is long by itself: it has one of so many rounds, but five at least.
 const FEWER: usize = 10;
 const FEWEST: usize = 5;
 
 /// The word for calling once instead of timing.
 const ONCE: &str = "once";
 
-/// The names by which the growth and the cost of preparing are chosen.
+/// The names by which the growth, the byte orders and the cost of preparing are chosen.
 const GROWTH: &str = "growth";
+const BYTE_ORDER: &str = "byte_order";
 const PREPARE: &str = "prepare";
 
 #[derive(Clone, Copy, PartialEq)]
@@ -64,7 +67,7 @@ fn main() {
     let chosen = |name: &str| only.as_deref().map_or(true, |only| only == name);
     let entries: Vec<&Entry> = ALL.iter().filter(|(name, ..)| chosen(name)).collect();
     let pairs: Vec<&[Entry; 2]> = SIZED.iter().filter(|[_, (name, ..)]| chosen(name)).collect();
-    let others = chosen(GROWTH) || chosen(PREPARE);
+    let others = [GROWTH, BYTE_ORDER, PREPARE].iter().any(|name| chosen(name));
     assert!(!entries.is_empty() || !pairs.is_empty() || others, "no such workload");
     tables::head(rounds, fewer(rounds));
     if !entries.is_empty() {
@@ -78,6 +81,9 @@ fn main() {
     if !pairs.is_empty() {
         tables::sized(&pairs.into_iter().map(|pair| sized::time(pair, rounds)).collect::<Vec<_>>());
     }
+    if chosen(BYTE_ORDER) {
+        tables::byte_order(&byte_order::time(rounds));
+    }
     if chosen(PREPARE) {
         let all = ALL.iter().chain(SIZED.iter().flatten());
         tables::prepared(&all.map(|entry| preparing::time(entry, rounds)).collect::<Vec<_>>());
@@ -88,27 +94,34 @@ fn fewer(rounds: usize) -> usize {
     (rounds / FEWER).max(FEWEST)
 }
 
-/// Times every operation, once the rivals agree.
 fn compare(&(name, what, make): &Entry, rounds: usize) -> Compared {
     let workload = &make();
-    let library = siphonbard::Book::checked(&workload.book).expect("a book");
     let plain = plain::Book::read(&workload.book).expect("a book");
-    let lean = lean::Book::compiled(&plain);
-    agree::agree(&library, &plain, workload);
+    let times = match plain.byte_order() {
+        ByteOrder::Little => times::<false>(workload, &plain, rounds),
+        ByteOrder::Big => times::<true>(workload, &plain, rounds),
+    };
+    Compared { name, what, counts: workload.counts(), drafted: workload.drafted(), times }
+}
+
+/// Times every operation, once the rivals agree, by a book of this byte order.
+fn times<const BIG: bool>(workload: &Workload, plain: &plain::Book, rounds: usize) -> Vec<(Operation, Vec<f64>)> {
+    let library = siphonbard::Book::checked(&workload.book).expect("a book");
+    let lean = lean::Book::<BIG>::compiled(plain);
+    agree::agree(&library, plain, workload);
     agree::agree(&library, &lean, workload);
     let rounds = if workload.is_stream() { fewer(rounds) } else { rounds };
     let mut rooms = workload.rooms();
     let time = |operation| {
         let mut contenders = [
             contender(&library, workload, operation),
-            contender(&plain, workload, operation),
+            contender(plain, workload, operation),
             contender(&lean, workload, operation),
             copying(workload, operation),
         ];
         (operation, medians(&mut contenders, &mut rooms, rounds))
     };
-    let times = OPERATIONS.iter().copied().map(time).collect();
-    Compared { name, what, counts: workload.counts(), drafted: workload.drafted(), times }
+    OPERATIONS.iter().copied().map(time).collect()
 }
 
 fn contender<'a, R: Rival>(rival: &'a R, workload: &'a Workload, operation: Operation) -> Contender<'a> {

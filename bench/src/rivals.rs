@@ -122,7 +122,7 @@ impl Rival for plain::Book {
     }
 }
 
-impl Rival for lean::Book {
+impl<const BIG: bool> Rival for lean::Book<BIG> {
     type Refused = lean::Refusal;
     type Found = Record;
     type All = Vec<u64>;

@@ -45,6 +45,6 @@ fn book(workload: &Workload) -> Book {
     let book = Book::checked(&workload.book).expect("a book");
     let plain = plain::Book::read(&workload.book).expect("a book");
     agree::agree(&book, &plain, workload);
-    agree::agree(&book, &lean::Book::compiled(&plain), workload);
+    agree::agree(&book, &lean::Book::<false>::compiled(&plain), workload);
     book
 }

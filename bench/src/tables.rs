@@ -19,7 +19,7 @@ pub struct Compared {
 /// How it is timed.
 pub fn head(rounds: usize, stream_rounds: usize) {
     let processor = std::env::consts::ARCH;
-    println!("Medians of {rounds} interleaved rounds ({stream_rounds} of the stream), {processor}.");
+    println!("Medians of {rounds} interleaved rounds ({stream_rounds} of the streams), {processor}.");
     println!();
 }
 
@@ -107,6 +107,21 @@ pub fn sized(pairs: &[[Measured; 2]]) {
 
 fn row(numbers: impl Iterator<Item = f64>) -> String {
     numbers.map(digits).collect::<Vec<_>>().join(" | ")
+}
+
+/// The library's nanoseconds per message of the stream by either byte order, and their ratios.
+pub fn byte_order(times: &[[f64; 2]]) {
+    let names: Vec<&str> = sized::OPERATIONS.iter().map(|operation| operation.name()).collect();
+    println!(
+        "The byte order: the library on the stream, little-endian and big-endian by turns, nanoseconds per message."
+    );
+    println!();
+    println!("| Byte order | {} |", names.join(" | "));
+    println!("|---|{}", "--:|".repeat(names.len()));
+    println!("| little | {} |", row(times.iter().map(|[little, _]| *little)));
+    println!("| big | {} |", row(times.iter().map(|[_, big]| *big)));
+    println!("| big / little | {} |", row(times.iter().map(|[little, big]| big / little)));
+    println!();
 }
 
 /// Nanoseconds of preparing a book, and of checking a message by it.

@@ -39,8 +39,8 @@ typedef struct {
 static const char *const MEANING[] = {
     [SIPHONBARD_REFUSED_BOOK_SIZE] = "the book's octets are odd, under 8 or over 8,192",
     [SIPHONBARD_REFUSED_BOOK_HEAD] =
-        "the book's head is cut short, its word count is wrong, its schema id or version is 65535, it has no template "
-        "or over 64, or its contents don't fit",
+        "the book's head is cut short, its word count is wrong, its schema id or version is 65535, its byte order is "
+        "neither 0 nor 1, it has no template or over 64, or its contents don't fit",
     [SIPHONBARD_REFUSED_BOOK_CONTENTS] = "the book's contents break a rule, or a template or list id is 65535",
     [SIPHONBARD_REFUSED_BOOK_BLOCK] =
         "a block runs past its body, body words are left over, a count or the depth is too high, a group has no field, "

@@ -34,7 +34,8 @@ class Element(enum.IntEnum):
 class Book:
     """A book that is checked and prepared once, for many messages. It owns the prepared numbers, which nothing here
     alters: so the calls for streams get what was stored for them. Message and pool are bytes. A record is a tuple of
-    three numbers, of which the first is a Kind."""
+    three numbers, of which the first is a Kind. Whether messages are little-endian or big-endian is said by the book:
+    the calls are the same."""
 
     def __init__(self, octets):
         room = (Number * PREPARED_MOST)()
@@ -105,8 +106,8 @@ class Refusal(enum.IntEnum):
     BOOK_SIZE = 1, "the book's octets are odd, under 8 or over 8,192", "0"
     BOOK_HEAD = (
         2,
-        "the book's head is cut short, its word count is wrong, its schema id or version is 65535, it has no template "
-        "or over 64, or its contents don't fit",
+        "the book's head is cut short, its word count is wrong, its schema id or version is 65535, its byte order is "
+        "neither 0 nor 1, it has no template or over 64, or its contents don't fit",
         "0",
     )
     BOOK_CONTENTS = 3, "the book's contents break a rule, or a template or list id is 65535", "0"

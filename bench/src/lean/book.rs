@@ -2,7 +2,8 @@
 
 use super::numbers::Field;
 
-pub struct Book {
+/// For big-endian messages or for little-endian ones.
+pub struct Book<const BIG: bool> {
     pub schema: u16,
     pub version: u16,
     /// The templates' ids. They rise.
@@ -41,9 +42,9 @@ impl Span {
     }
 }
 
-impl Book {
-    /// Of a book that was accepted.
-    pub fn compiled(tree: &plain::Book) -> Book {
+impl<const BIG: bool> Book<BIG> {
+    /// Of a book that was accepted, and has this byte order.
+    pub fn compiled(tree: &plain::Book) -> Book<BIG> {
         let ids: Vec<u16> = tree.templates.iter().map(|template| template.id).collect();
         let blocks = vec![Block::default(); ids.len()];
         let mut book =
@@ -92,15 +93,15 @@ impl Book {
 
 /// A book as a version has it. Sinces never fall, so that what is present comes first.
 #[derive(Clone, Copy)]
-pub struct View<'a> {
-    pub book: &'a Book,
+pub struct View<'a, const BIG: bool> {
+    pub book: &'a Book<BIG>,
     version: u16,
     /// Nothing in the book is younger.
     whole: bool,
 }
 
-impl<'a> View<'a> {
-    pub fn new(book: &'a Book, version: u16) -> View<'a> {
+impl<'a, const BIG: bool> View<'a, BIG> {
+    pub fn new(book: &'a Book<BIG>, version: u16) -> View<'a, BIG> {
         View { book, version, whole: version >= book.version }
     }
 

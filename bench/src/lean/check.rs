@@ -1,36 +1,37 @@
 //! A message by a book: refusals 10 to 20, and the number of its records.
 
 use super::book::{Block, Book, View};
+use super::order::number16;
 use super::{refusal, Refusal, HEADER, LONGEST, NULL16};
 
 /// What the header says.
-pub struct Root<'a> {
-    pub view: View<'a>,
+pub struct Root<'a, const BIG: bool> {
+    pub view: View<'a, BIG>,
     pub block: &'a Block,
     pub length: usize,
     pub surplus_groups: usize,
     pub surplus_data: usize,
 }
 
-impl Book {
+impl<const BIG: bool> Book<BIG> {
     pub fn check(&self, message: &[u8]) -> Result<(), Refusal> {
         Root::read(self, message)?.records(message).map(drop)
     }
 }
 
-impl<'a> Root<'a> {
+impl<'a, const BIG: bool> Root<'a, BIG> {
     /// Refusals 10 to 15, in order.
     #[inline(always)]
-    pub fn read(book: &'a Book, message: &[u8]) -> Result<Root<'a>, Refusal> {
+    pub fn read(book: &'a Book<BIG>, message: &[u8]) -> Result<Root<'a, BIG>, Refusal> {
         if message.len() < HEADER || message.len() > LONGEST {
             return Err(refusal(10, 0));
         }
-        let word = |at| u16::from_le_bytes([message[at], message[at + 1]]);
-        let words = [word(0), word(2), word(4), word(6), word(8), word(10)];
-        if let Some(number) = words.iter().position(|&word| word == NULL16) {
+        let number = |at| number16::<BIG>([message[at], message[at + 1]]);
+        let numbers = [number(0), number(2), number(4), number(6), number(8), number(10)];
+        if let Some(number) = numbers.iter().position(|&number| number == NULL16) {
             return Err(refusal(11, 2 * number));
         }
-        let [length, template, schema, version, groups, data] = words;
+        let [length, template, schema, version, groups, data] = numbers;
         if schema != book.schema {
             return Err(refusal(12, 4));
         }
@@ -67,16 +68,16 @@ impl<'a> Root<'a> {
 }
 
 /// The walk in wire order. The first fault ends it.
-pub struct Walk<'a> {
-    pub view: View<'a>,
+pub struct Walk<'a, const BIG: bool> {
+    pub view: View<'a, BIG>,
     pub message: &'a [u8],
     pub at: usize,
     /// So far.
     pub records: usize,
 }
 
-impl<'a> Walk<'a> {
-    pub fn new(view: View<'a>, message: &'a [u8]) -> Walk<'a> {
+impl<'a, const BIG: bool> Walk<'a, BIG> {
+    pub fn new(view: View<'a, BIG>, message: &'a [u8]) -> Walk<'a, BIG> {
         Walk { view, message, at: HEADER, records: 0 }
     }
 
@@ -140,8 +141,8 @@ impl<'a> Walk<'a> {
     fn dimension(&mut self) -> Result<(usize, usize), Refusal> {
         let place = self.at;
         let octets = self.message.get(place..place + 4).ok_or_else(|| refusal(16, place))?;
-        let length = u16::from_le_bytes([octets[0], octets[1]]);
-        let entries = u16::from_le_bytes([octets[2], octets[3]]);
+        let length = number16::<BIG>([octets[0], octets[1]]);
+        let entries = number16::<BIG>([octets[2], octets[3]]);
         if length == NULL16 || entries == NULL16 {
             return Err(refusal(17, place));
         }
@@ -166,7 +167,7 @@ impl<'a> Walk<'a> {
     pub fn data(&mut self) -> Result<(usize, usize), Refusal> {
         let place = self.at;
         let octets = self.message.get(place..place + 2).ok_or_else(|| refusal(16, place))?;
-        let length = u16::from_le_bytes([octets[0], octets[1]]);
+        let length = number16::<BIG>([octets[0], octets[1]]);
         if length == NULL16 {
             return Err(refusal(19, place));
         }

@@ -3,10 +3,11 @@
 use super::book::{Block, Book, View};
 use super::check::Root;
 use super::numbers::Field;
+use super::order::number16;
 use super::{refusal, Record, Refusal, ABSENT, GROUP, HEADER, OCTETS};
 use std::mem;
 
-impl Book {
+impl<const BIG: bool> Book<BIG> {
     /// Lists the message into the room, three numbers a record, and gives how many records there are.
     pub fn list(&self, message: &[u8], room: &mut [u64]) -> Result<usize, Refusal> {
         let root = Root::read(self, message)?;
@@ -25,7 +26,7 @@ impl Book {
     }
 }
 
-impl Root<'_> {
+impl<const BIG: bool> Root<'_, BIG> {
     /// The records, into as much room as they have.
     #[inline(always)]
     fn store(&self, message: &[u8], room: &mut [u64]) {
@@ -40,15 +41,15 @@ impl Root<'_> {
     }
 }
 
-struct Store<'a> {
-    view: View<'a>,
+struct Store<'a, const BIG: bool> {
+    view: View<'a, BIG>,
     message: &'a [u8],
     at: usize,
     /// For the records that are still to come.
     room: &'a mut [u64],
 }
 
-impl<'a> Store<'a> {
+impl<'a, const BIG: bool> Store<'a, BIG> {
     fn take(&mut self, records: usize) -> &'a mut [u64] {
         let (taken, left) = mem::take(&mut self.room).split_at_mut(3 * records);
         self.room = left;
@@ -61,7 +62,7 @@ impl<'a> Store<'a> {
 
     fn block(&mut self, block: &Block, length: usize) {
         let room = self.take(self.view.book.fields(block).len());
-        fields(self.view.fields(block), self.message, self.at, room);
+        fields::<BIG>(self.view.fields(block), self.message, self.at, room);
         self.at += length;
     }
 
@@ -92,7 +93,7 @@ impl<'a> Store<'a> {
         let count = self.view.book.fields(block).len();
         let present = self.view.fields(block);
         for room in self.take(count * entries).chunks_exact_mut(3 * count) {
-            fields(present, self.message, self.at, room);
+            fields::<BIG>(present, self.message, self.at, room);
             self.at += length;
         }
     }
@@ -100,7 +101,7 @@ impl<'a> Store<'a> {
     fn data(&mut self, block: &Block) {
         let present = self.view.data(block);
         for _ in 0..present {
-            let (start, length) = (self.at + 2, self.word(self.at));
+            let (start, length) = (self.at + 2, self.number(self.at));
             self.put([OCTETS, start as u64, length as u64]);
             self.at = start + length;
         }
@@ -112,20 +113,20 @@ impl<'a> Store<'a> {
     fn dimension(&mut self) -> (usize, usize) {
         let at = self.at;
         self.at += 4;
-        (self.word(at), self.word(at + 2))
+        (self.number(at), self.number(at + 2))
     }
 
-    fn word(&self, at: usize) -> usize {
-        u16::from_le_bytes([self.message[at], self.message[at + 1]]).into()
+    fn number(&self, at: usize) -> usize {
+        number16::<BIG>([self.message[at], self.message[at + 1]]).into()
     }
 }
 
 /// The records of a block's fields: those that are present, and absent ones in the room that is left.
 #[inline]
-fn fields(present: &[Field], message: &[u8], start: usize, room: &mut [u64]) {
+fn fields<const BIG: bool>(present: &[Field], message: &[u8], start: usize, room: &mut [u64]) {
     let mut records = room.chunks_exact_mut(3);
     for (field, record) in present.iter().zip(&mut records) {
-        record.copy_from_slice(&field.read(message, start));
+        record.copy_from_slice(&field.read::<BIG>(message, start));
     }
     for record in records {
         record.copy_from_slice(&[ABSENT, 0, 0]);

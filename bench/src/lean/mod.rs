@@ -1,12 +1,13 @@
 //! A reader and a writer in safe Rust, made for speed under the library's own contract. The book is compiled once into
 //! flat tables; no call allocates but `list_all`, what it gives; one pass checks and counts, another stores, so that a
-//! refused call alters nothing.
+//! refused call alters nothing. There is a code for each byte order, so that none asks for it.
 
 mod book;
 mod check;
 mod list;
 mod names;
 mod numbers;
+mod order;
 mod place;
 mod write;
 

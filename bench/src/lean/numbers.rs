@@ -48,12 +48,13 @@ impl Field {
 
     /// The record of the field in a block that starts at `start`, in a message that is long enough.
     #[inline(always)]
-    pub fn read(&self, message: &[u8], start: usize) -> Record {
+    pub fn read<const BIG: bool>(&self, message: &[u8], start: usize) -> Record {
         let at = start + self.offset;
         if self.array {
             return self.read_array(message, at);
         }
-        let top = eight(message, at) << self.shift;
+        let eight = eight::<BIG>(message, at);
+        let top = if BIG { eight } else { eight << self.shift };
         let value = if self.signed { ((top as i64) >> self.shift) as u64 } else { top >> self.shift };
         let null = self.optional && value == self.null;
         let listed = if self.names.have(value) { NUMBER } else { UNLISTED };
@@ -119,14 +120,15 @@ impl Field {
     /// Stores the field of a record that it takes, in a room whose octets from there on are zero. A number may leave
     /// zeros in the seven octets after it, so fields are stored in their order. A text that is null has no octets.
     #[inline]
-    pub fn write(&self, record: &[u64], pool: &[u8], room: &mut [u8], start: usize) {
+    pub fn write<const BIG: bool>(&self, record: &[u64], pool: &[u8], room: &mut [u8], start: usize) {
         let at = start + self.offset;
         if self.array {
             let (first, length) = (record[1] as usize, record[2] as usize);
             return room[at..at + length].copy_from_slice(&pool[first..first + length]);
         }
         let value = if record[0] == NUMBER { record[1] } else { self.null };
-        let octets = (value << self.shift >> self.shift).to_le_bytes();
+        let top = value << self.shift;
+        let octets = if BIG { top.to_be_bytes() } else { (top >> self.shift).to_le_bytes() };
         match room.get_mut(at..at + 8) {
             Some(room) => room.copy_from_slice(&octets),
             None => narrow(&mut room[at..], self.octets, octets),
@@ -134,12 +136,17 @@ impl Field {
     }
 }
 
-/// Eight octets from `at` on, zeros past the end. A message has eight octets at least.
+/// Eight octets from `at` on as a number, zeros past the end. A message has eight octets at least.
 #[inline]
-fn eight(message: &[u8], at: usize) -> u64 {
+fn eight<const BIG: bool>(message: &[u8], at: usize) -> u64 {
     let first = at.min(message.len() - 8);
     let octets = message[first..first + 8].try_into().expect("eight octets");
-    u64::from_le_bytes(octets) >> (8 * (at - first) as u32)
+    let past = 8 * (at - first) as u32;
+    if BIG {
+        u64::from_be_bytes(octets) << past
+    } else {
+        u64::from_le_bytes(octets) >> past
+    }
 }
 
 /// Stores a number near the room's end.

@@ -12,7 +12,7 @@ const A_DATA: u64 = 2;
 
 const STEPS: usize = 4;
 
-impl Book {
+impl<const BIG: bool> Book<BIG> {
     /// What stands at the place.
     pub fn place(&self, message: &[u8], place: &Place) -> Result<Record, Refusal> {
         let root = Root::read(self, message)?;
@@ -41,13 +41,13 @@ impl Book {
     }
 }
 
-struct Seek<'a> {
-    walk: Walk<'a>,
+struct Seek<'a, const BIG: bool> {
+    walk: Walk<'a, BIG>,
     place: &'a Place,
     found: Option<Record>,
 }
 
-impl Seek<'_> {
+impl<const BIG: bool> Seek<'_, BIG> {
     /// A block with what follows it, where `depth` of the place's steps lead.
     fn part(&mut self, block: &Block, length: usize, depth: usize, surplus: (usize, usize)) -> Result<(), Refusal> {
         let start = self.walk.at;
@@ -77,7 +77,7 @@ impl Seek<'_> {
     fn field(&mut self, block: &Block, start: usize) {
         self.absent();
         if let Some(field) = self.walk.view.fields(block).get(self.place.element as usize) {
-            self.found = Some(field.read(self.walk.message, start));
+            self.found = Some(field.read::<BIG>(self.walk.message, start));
         }
     }
 

@@ -2,13 +2,14 @@
 
 use super::book::{Block, Book};
 use super::numbers::Field;
+use super::order::octets16;
 use super::{refusal, Refusal, GROUP, HEADER, LONGEST, OCTETS};
 use std::slice::ChunksExact;
 
 /// The most entries of a group, and octets of a data.
 const MOST: u64 = 65534;
 
-impl Book {
+impl<const BIG: bool> Book<BIG> {
     /// Writes a message of the template at the room's start and gives its length.
     pub fn write(&self, id: u16, listing: &[u64], pool: &[u8], room: &mut [u8]) -> Result<usize, Refusal> {
         let block = self.template(id).ok_or_else(|| refusal(50, 0))?;
@@ -25,8 +26,8 @@ impl Book {
         room.fill(0);
         let (groups, data) = (self.groups(block).len() as u16, self.data(block).len() as u16);
         let mut store = Store { book: self, pool, records: listing.chunks_exact(3), room, at: 0 };
-        for word in [block.length as u16, id, self.schema, self.version, groups, data] {
-            store.word(word);
+        for number in [block.length as u16, id, self.schema, self.version, groups, data] {
+            store.number(number);
         }
         store.block(block);
         Ok(length)
@@ -34,8 +35,8 @@ impl Book {
 }
 
 /// Judges the records in order, and counts the message's octets.
-struct Judge<'a> {
-    book: &'a Book,
+struct Judge<'a, const BIG: bool> {
+    book: &'a Book<BIG>,
     pool: &'a [u8],
     listing: &'a [u64],
     /// The listing's part that is still to be judged.
@@ -43,7 +44,7 @@ struct Judge<'a> {
     length: usize,
 }
 
-impl<'a> Judge<'a> {
+impl<'a, const BIG: bool> Judge<'a, BIG> {
     /// At the first record of those that are left.
     #[cold]
     fn fault(&self, number: u32) -> Refusal {
@@ -126,21 +127,21 @@ impl<'a> Judge<'a> {
 }
 
 /// Stores a message whose records were judged, in a room of its length that is zero all over.
-struct Store<'a> {
-    book: &'a Book,
+struct Store<'a, const BIG: bool> {
+    book: &'a Book<BIG>,
     pool: &'a [u8],
     records: ChunksExact<'a, u64>,
     room: &'a mut [u8],
     at: usize,
 }
 
-impl<'a> Store<'a> {
+impl<'a, const BIG: bool> Store<'a, BIG> {
     fn record(&mut self) -> &'a [u64] {
         self.records.next().expect("as many records as were judged")
     }
 
-    fn word(&mut self, word: u16) {
-        self.room[self.at..self.at + 2].copy_from_slice(&word.to_le_bytes());
+    fn number(&mut self, number: u16) {
+        self.room[self.at..self.at + 2].copy_from_slice(&octets16::<BIG>(number));
         self.at += 2;
     }
 
@@ -148,8 +149,8 @@ impl<'a> Store<'a> {
         self.fields(block, 1);
         for group in self.book.groups(block) {
             let entries = self.record()[1] as usize;
-            self.word(group.length as u16);
-            self.word(entries as u16);
+            self.number(group.length as u16);
+            self.number(entries as u16);
             if group.leaf {
                 self.fields(group, entries);
                 continue;
@@ -161,7 +162,7 @@ impl<'a> Store<'a> {
         for _ in self.book.data(block) {
             let record = self.record();
             let (start, length) = (record[1] as usize, record[2] as usize);
-            self.word(length as u16);
+            self.number(length as u16);
             self.room[self.at..self.at + length].copy_from_slice(&self.pool[start..start + length]);
             self.at += length;
         }
@@ -173,7 +174,7 @@ impl<'a> Store<'a> {
         let fields = self.book.fields(block);
         for _ in 0..blocks {
             for (field, record) in fields.iter().zip(&mut self.records) {
-                field.write(record, self.pool, self.room, self.at);
+                field.write::<BIG>(record, self.pool, self.room, self.at);
             }
             self.at += block.length;
         }

@@ -1,5 +1,6 @@
 //! The books of the workloads.
 
+use plain::byte_order::{BIG, LITTLE};
 use plain::lists::{ENUMERATION, SET};
 use plain::{Block, Book, Data, Field, Group, NameList, Template};
 
@@ -65,7 +66,7 @@ const DATA: Data = Data { id: 3, since: 0 };
 fn book(blocks: Vec<Block>) -> Book {
     let template = |(number, block)| Template { id: number as u16 + 1, block };
     let templates = blocks.into_iter().enumerate().map(template).collect();
-    Book { schema: SCHEMA, version: VERSION, templates, lists: Vec::new() }
+    Book { schema: SCHEMA, version: VERSION, byte_order: LITTLE, templates, lists: Vec::new() }
 }
 
 /// Book A of the rules: a uint32, an optional int16, a group with a uint8, and a data.
@@ -185,6 +186,11 @@ pub fn session() -> Book {
         allocation(),
         block(&[one(UINT64), one(UINT32)], 0),
     ])
+}
+
+/// The same for big-endian messages.
+pub fn big_session() -> Book {
+    Book { byte_order: BIG, ..session() }
 }
 
 const ORDER: [Field; 10] = [

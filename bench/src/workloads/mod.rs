@@ -14,12 +14,13 @@ use plain::{Book, Draft, Message, Rng};
 use siphonbard::Element;
 
 pub use sized::SIZED;
+pub use stream::{big_stream, stream};
 
 /// A workload's name, what it is, and how it is made.
 pub type Entry = (&'static str, &'static str, fn() -> Workload);
 
 /// All but those of the growth and of the book's size.
-pub const ALL: [Entry; 10] = [
+pub const ALL: [Entry; 11] = [
     ("m", "message M under book A", m),
     ("flat", "an order of ten fields", flat),
     ("entries", "M's shape with 400 entries", || m_with(400)),
@@ -29,11 +30,12 @@ pub const ALL: [Entry; 10] = [
     ("lists", "40 fills, of whose eight fields five have lists; and the same with some unlisted codes", listed::fills),
     ("symbols", "16 orders of seven fields, three of them symbols of 3 to 6 characters in 8 octets", texts::symbols),
     ("texts", "four texts of 1,024 octets, full; and the same up to 24 octets shorter", texts::long),
-    ("stream", "eight templates in a random mix; one message in 100 is damaged", stream::stream),
+    ("stream", "eight templates in a random mix; one message in 100 is damaged", stream),
+    ("stream_big", "the same messages, big-endian", big_stream),
 ];
 
-/// The same, the stream by its first messages, and the large books: what is called once to be counted.
-pub const COUNTED: [Entry; 12] = [
+/// The same, the streams by their first messages, and the large books: what is called once to be counted.
+pub const COUNTED: [Entry; 13] = [
     ALL[0],
     ALL[1],
     ALL[2],
@@ -44,6 +46,7 @@ pub const COUNTED: [Entry; 12] = [
     ALL[7],
     ALL[8],
     ("stream", "its first messages", || stream::first(STREAM_START)),
+    ("stream_big", "the same, big-endian", || stream::big_first(STREAM_START)),
     SIZED[0][1],
     SIZED[1][1],
 ];
@@ -164,17 +167,17 @@ impl Workload {
         self.octets.extend(message);
         self.longest = self.longest.max(message.len());
         self.spans.push(Span { start, end: self.octets.len(), asked });
-        let records = match Message::read(book, message) {
-            Ok(accepted) => accepted.list(),
+        let accepted = match Message::read(book, message) {
+            Ok(accepted) => accepted,
             Err(_) => return,
         };
+        let records = accepted.list();
         self.records += records.len();
         self.most_records = self.most_records.max(records.len());
         // A listing with an absent element, or a number that is out of range or unlisted, is none to write.
         if records.iter().all(|record| ![3, 5, 6].contains(&record[0])) {
-            let template = u16::from_le_bytes([message[2], message[3]]);
             self.drafted_records += records.len();
-            self.drafts.push(Draft { template, listing: records.concat(), pool: message.to_vec() });
+            self.drafts.push(Draft { template: accepted.template, listing: records.concat(), pool: message.to_vec() });
         }
     }
 

@@ -1,10 +1,10 @@
 //! A stream of a session's messages, in a random mix that is always the same. One in a hundred is damaged.
 
-use super::books::{session, VERSION};
+use super::books::{big_session, session, VERSION};
 use super::fill::{Fill, FULL};
 use super::{Workload, SEED};
 use crate::rivals::Asked;
-use plain::{Book, Rng, Template};
+use plain::{Book, ByteOrder, Rng, Template};
 use siphonbard::Element;
 
 const MESSAGES: usize = 100_000;
@@ -21,15 +21,27 @@ pub fn stream() -> Workload {
     first(MESSAGES)
 }
 
+/// The same messages, every number turned.
+pub fn big_stream() -> Workload {
+    big_first(MESSAGES)
+}
+
 /// So many messages of the stream, from its start on.
 pub fn first(messages: usize) -> Workload {
-    let book = session();
+    by(&session(), messages)
+}
+
+pub fn big_first(messages: usize) -> Workload {
+    by(&big_session(), messages)
+}
+
+fn by(book: &Book, messages: usize) -> Workload {
     let mut fill = Fill { rng: Rng::new(SEED), entries: 1..=6, data: 4..=40, text: FULL };
-    let mut workload = Workload::new(&book, places());
+    let mut workload = Workload::new(book, places());
     for _ in 0..messages {
         let number = template(&mut fill.rng);
-        let message = message(&mut fill, &book, &book.templates[number]);
-        workload.add(&book, &message, number);
+        let message = message(&mut fill, book, &book.templates[number]);
+        workload.add(book, &message, number);
     }
     workload
 }
@@ -61,20 +73,24 @@ fn template(rng: &mut Rng) -> usize {
 fn message(fill: &mut Fill, book: &Book, template: &Template) -> Vec<u8> {
     let mut message = fill.message(book, template);
     if fill.rng.chance(OLDER_PERCENT) {
-        message[6..8].copy_from_slice(&(VERSION - 1).to_le_bytes());
+        message[6..8].copy_from_slice(&book.byte_order().octets16(VERSION - 1));
     }
     if fill.rng.chance(DAMAGED_PERCENT) {
-        damage(&mut fill.rng, &mut message);
+        damage(&mut fill.rng, book.byte_order(), &mut message);
     }
     message
 }
 
 /// Cuts the message, makes it longer, or makes a number of its header a wrong one.
-fn damage(rng: &mut Rng, message: &mut Vec<u8>) {
+fn damage(rng: &mut Rng, order: ByteOrder, message: &mut Vec<u8>) {
     match rng.below(4) {
         0 => message.truncate(message.len() - rng.between(1, 12)),
         1 => message.extend(rng.octets(3)),
-        2 => message[2 * rng.below(6)] ^= 0x40,
+        2 => {
+            let at = 2 * rng.below(6);
+            let wrong = order.number16(message, at) ^ 0x40;
+            message[at..at + 2].copy_from_slice(&order.octets16(wrong));
+        }
         _ => {
             let at = 2 * rng.below(6);
             message[at..at + 2].fill(0xff);

@@ -3,15 +3,16 @@
 //!
 //! An element is present by the message's version and by nothing else. A field that is younger than the message is
 //! [`Answer::Absent`], also where the message's block has zeros for it. A code that the book does not list is
-//! [`Answer::Unlisted`].
+//! [`Answer::Unlisted`]. Whether messages are little-endian or big-endian is said by the book, and by nothing else: the
+//! calls are the same.
 //!
 //! ```
 //! use siphonbard::{Answer, Book, Element, Step};
 //!
 //! // One template: a uint32, an optional int16, a group with a uint8, and a data.
-//! let words: [u16; 41] = [
-//!     7, 0, 1, 41, 0, 1, 8, 33, 8, 2, 1, 1, 38, 6, 1, 0, 0, 0, 0, 44, 3, 1, 4, 1, 0, 0, 58, 0, 453, 0, 2, 1, 0, 0,
-//!     452, 2, 1, 0, 0, 0, 0,
+//! let words: [u16; 42] = [
+//!     7, 0, 1, 42, 0, 0, 1, 9, 33, 8, 2, 1, 1, 38, 6, 1, 0, 0, 0, 0, 44, 3, 1, 4, 1, 0, 0, 58, 0, 453, 0, 2, 1, 0,
+//!     0, 452, 2, 1, 0, 0, 0, 0,
 //! ];
 //! let octets: Vec<u8> = words.iter().flat_map(|word| word.to_le_bytes()).collect();
 //! let book = Book::checked(&octets)?;
@@ -23,6 +24,13 @@
 //! assert_eq!(book.place(message, &second, Element::Field(0))?.unsigned(), Some(3));
 //! assert_eq!(book.place(message, &[], Element::Data(0))?.octets(message), Some(&b"ab"[..]));
 //! assert_eq!(book.list_all(message)?.len(), 6);
+//!
+//! // The sixth word is the byte order of the messages: 1 for big-endian.
+//! let mut big_endian = octets.clone();
+//! big_endian[10] = 1;
+//! let big_endian = Book::checked(&big_endian)?;
+//! let turned = b"\0\x08\0\x01\0\x07\0\0\0\x01\0\x01\0\0\x03\xe8\xff\xfb\0\0\0\x02\0\x02\x01\0\x03\0\0\x02ab";
+//! assert_eq!(big_endian.list_all(turned)?, book.list_all(message)?);
 //! # Ok::<(), siphonbard::Refusal>(())
 //! ```
 //!
@@ -67,9 +75,9 @@ pub fn check(book: &[u8], message: &[u8]) -> Result<(), Refusal> {
 /// ```
 /// use siphonbard::{list, Refusal};
 ///
-/// # let words: [u16; 41] = [
-/// #     7, 0, 1, 41, 0, 1, 8, 33, 8, 2, 1, 1, 38, 6, 1, 0, 0, 0, 0, 44, 3, 1, 4, 1, 0, 0, 58, 0, 453, 0, 2, 1, 0, 0,
-/// #     452, 2, 1, 0, 0, 0, 0,
+/// # let words: [u16; 42] = [
+/// #     7, 0, 1, 42, 0, 0, 1, 9, 33, 8, 2, 1, 1, 38, 6, 1, 0, 0, 0, 0, 44, 3, 1, 4, 1, 0, 0, 58, 0, 453, 0, 2, 1, 0,
+/// #     0, 452, 2, 1, 0, 0, 0, 0,
 /// # ];
 /// # let book: Vec<u8> = words.iter().flat_map(|word| word.to_le_bytes()).collect();
 /// # let message = b"\x08\0\x01\0\x07\0\0\0\x01\0\x01\0\xe8\x03\0\0\xfb\xff\0\0\x02\0\x02\0\x01\0\x03\0\x02\0ab";
@@ -101,8 +109,8 @@ pub fn place(book: &[u8], message: &[u8], steps: &[Step], element: Element) -> R
 ///
 /// The listing is as [`list`] gives it, three numbers a record, a record for every element of the book's template.
 /// Starts refer to the pool: a listing of a message is written back with that message as the pool. The message has
-/// the book's version, its declared block lengths and zero padding, and a text that is shorter than its field is filled
-/// with NUL.
+/// the book's version, byte order and declared block lengths, and zero padding; a text that is shorter than its field
+/// is filled with NUL.
 pub fn write(book: &[u8], template_id: u16, listing: &[u64], pool: &[u8], room: &mut [u8]) -> Result<usize, Refusal> {
     ffi::write(book, template_id, listing, pool, room)
 }

@@ -60,7 +60,7 @@ macro_rules! refusals {
 refusals! {
     BOOK_SIZE = 1, "the book's octets are odd, under 8 or over 8,192", "0";
     BOOK_HEAD = 2, "the book's head is cut short, its word count is wrong, its schema id or version is 65535, \
-        it has no template or over 64, or its contents don't fit", "0";
+        its byte order is neither 0 nor 1, it has no template or over 64, or its contents don't fit", "0";
     BOOK_CONTENTS = 3, "the book's contents break a rule, or a template or list id is 65535", "0";
     BOOK_BLOCK = 4, "a block runs past its body, body words are left over, a count or the depth is too high, \
         a group has no field, or a list is empty, too long, not rising or of no known kind",

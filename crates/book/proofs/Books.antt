@@ -9,9 +9,9 @@ use borrow.Author.Tests.{eq-eqb, ne-eqb}
 use Rattle.layout.specs.Result.{Result, _>>=_, done, if_then_else_, must, refused}
 use Rattle.layout.specs.Octets.{wordsOf}
 use Rattle.layout.specs.Book.{Book, Template}
-use Rattle.layout.specs.BookRules.{bookOf, checkContents, contentsEnd, contentsSize, eachMust, headGood, headSize}
-use Rattle.layout.specs.BookRules.{layoutGood, listGood, listRows, listsOf, parseBodies, sinceGood, sizeGood}
-use Rattle.layout.specs.BookRules.{templateRows, word}
+use Rattle.layout.specs.BookRules.{bookOf, checkContents, contentsEnd, contentsSize, eachMust, formatOf, headGood}
+use Rattle.layout.specs.BookRules.{headSize, layoutGood, listGood, listRows, listsOf, parseBodies, sinceGood}
+use Rattle.layout.specs.BookRules.{sizeGood, templateRows, word}
 use Rattle.layout.specs.Contracts.{checked, refusal}
 use Rattle.layout.proofs.Results.{bind-done}
 use Rattle.book.specs.Answers.{bodiesOf, ruled, seenOr}
@@ -86,7 +86,8 @@ module _ (s : List ℕ) where
           (eachMust layoutGood 5 0) (eachMust (sinceGood (word b 1)) 6 0) (tree b))
         where
           tree : List ℕ → List Template → Book
-          tree b ts = record { schema = word b 0; version = word b 1; lists = listsOf b; templates = ts }
+          tree b ts =
+              record { schema = word b 0; version = word b 1; format = formatOf b; lists = listsOf b; templates = ts }
 
 -- Contents that are accepted are kept.
 pub contents-kept : (x : Result (Unit {0})) → Checked.Accepted ≡ checked x → x ≡ done tt

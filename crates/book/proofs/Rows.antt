@@ -159,7 +159,10 @@ pub record Head (s : List ℕ) : Type 0 where
 pub head-says : (s : List ℕ) → BookHead s → Head s
 head-says s h =
     let g = and-right _ _ (and-right _ _ (and-right _ _ (and-right _ _ (h .good)))) in
-    record { few = leb-true _ _ (and-left _ _ g); fits = rw (← (length-words s)) (leb-true _ _ (and-right _ _ g)) }
+    record {
+      few = leb-true _ _ (and-left _ _ g);
+      fits = rw (← (length-words s)) (leb-true _ _ (and-right _ _ (and-right _ _ g)));
+    }
 
 -- A book that is too short for a head has none that is good.
 pub head-short : (b : List ℕ) → length b < headSize → headGood b ≡ false
@@ -168,7 +171,7 @@ head-short b h = go (headGood b) refl
     go : (t : Bool) → headGood b ≡ t → headGood b ≡ false
     go true e =
         let g : leb (headSize + contentsSize b) (length b) ≡ true =
-        and-right _ _ (and-right _ _ (and-right _ _ (and-right _ _ (and-right _ _ e)))) in
+        and-right _ _ (and-right _ _ (and-right _ _ (and-right _ _ (and-right _ _ (and-right _ _ e))))) in
         absurd (omega (arith, leb-true (headSize + contentsSize b) (length b) g))
     go false e = e
 

@@ -5,7 +5,7 @@ use mathlib.Core.List.{List, [], _∷_}
 use Prim.Native.Nat.{_*_, _+_, _-_, _/_, _≤_, suc, zero, ℕ}
 use native.Mathlib.Omega.{arith}
 use lib.ListN.{drop, length, take}
-use Rattle.layout.specs.Octets.{number16, numberOf, wordsOf}
+use Rattle.layout.specs.Octets.{numberOf, wordsOf}
 use Rattle.layout.specs.BookRules.{word}
 
 doubled : (w : ℕ) → 2 * suc w ≡ suc (suc (2 * w))
@@ -17,7 +17,7 @@ length-words [] = refl
 length-words (a ∷ []) = refl
 length-words (a ∷ b ∷ s) = omega (arith, length-words s)
 
-pub word-at : (s : List ℕ) (w : ℕ) → w + 1 ≤ length s / 2 → word (wordsOf s) w ≡ number16 s (2 * w)
+pub word-at : (s : List ℕ) (w : ℕ) → w + 1 ≤ length s / 2 → word (wordsOf s) w ≡ numberOf (take 2 (drop (2 * w) s))
 unfolding wordsOf numberOf
 word-at [] w h = absurd (omega arith)
 word-at (a ∷ []) w h = absurd (omega arith)

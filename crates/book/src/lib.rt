@@ -68,7 +68,7 @@ pub enum Listed {
 }
 
 // How many words are the head, and a row of the contents.
-const HEAD: usize = 5;
+const HEAD: usize = 6;
 
 const ROW: usize = 3;
 
@@ -598,7 +598,10 @@ fn head_good(book: &[u8]) -> bool
     }
     let n = word(book, 2);
     let contents = HEAD + ROW * (n + word(book, 4));
-    let room = both(1 <= n, both(n <= 64, contents <= size));
+    let room = both(
+        1 <= n,
+        both(n <= 64, both(word(book, 5) <= 1, contents <= size)),
+    );
     let whole = both(word(book, 0) < 65535, both(word(book, 1) < 65535, room));
     both(word(book, 3) == size, whole)
 }

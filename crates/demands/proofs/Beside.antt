@@ -39,9 +39,9 @@ keptGroup s gs g = (g .0, kept s gs (g .1), g .2)
 abbrev pub keptDatas : List Data → (List Answer × ℕ) → List Answer × ℕ
 keptDatas old d = (take (length old) (d .0), d .1)
 
-module _ (m : List ℕ) (v : ℕ) where
+module _ (big : Bool) (m : List ℕ) (v : ℕ) where
   sees-dimension : (strict : Bool) (a b at : ℕ) → AtLeast strict a b
-      → Sees strict (λ (d : ℕ × ℕ). d) (readDimension m a at) (readDimension m b at)
+      → Sees strict (λ (d : ℕ × ℕ). d) (readDimension big m a at) (readDimension big m b at)
   unfolding readDimension
   sees-dimension strict a b at h =
       sees-bind strict _ _ _ _ _ _ (sees-same strict _) λ _.
@@ -50,15 +50,15 @@ module _ (m : List ℕ) (v : ℕ) where
       sees-done strict _ _ _ refl
 
   -- A dimension that is good for a known group is good for a surplus one.
-  dimension-any : (b at : ℕ) (d : ℕ × ℕ) → readDimension m b at ≡ done d → readDimension m 0 at ≡ done d
+  dimension-any : (b at : ℕ) (d : ℕ × ℕ) → readDimension big m b at ≡ done d → readDimension big m 0 at ≡ done d
   dimension-any b at d e = seen-done false (λ (x : ℕ × ℕ). x) _ _ d
       (sees-dimension false 0 b at (omega arith, λ f. absurd (false≢true f))) e
 
-  dimension-fits : (b at : ℕ) (d : ℕ × ℕ) → readDimension m b at ≡ done d → at + 4 ≤ length m
+  dimension-fits : (b at : ℕ) (d : ℕ × ℕ) → readDimension big m b at ≡ done d → at + 4 ≤ length m
   unfolding readDimension
   dimension-fits b at d e = leb-true (at + 4) (length m) (inv-must _ _ _ _ (inv-bind _ _ _ e .first))
 
-module _ (m : List ℕ) (v : ℕ) (strict : Bool) where
+module _ (big : Bool) (m : List ℕ) (v : ℕ) (strict : Bool) where
   sees-entries : (s : Shape) (gs : Groups) (n : ℕ) (f f′ : ℕ → Result Entry) (at : ℕ)
       → ((x : ℕ) → Sees strict (keptBlock s gs) (f x) (f′ x))
       → Sees strict (keptRow s gs) (readEntries n f at) (readEntries n f′ at)
@@ -72,7 +72,7 @@ module _ (m : List ℕ) (v : ℕ) (strict : Bool) where
   -- ---- data
 
   sees-added : (ds : List Data) (n n′ at : ℕ) → n ≡ n′ + present v (dataSinces ds)
-      → Sees strict (keptDatas []) (readDatas m v [] n at) (readDatas m v ds n′ at)
+      → Sees strict (keptDatas []) (readDatas big m v [] n at) (readDatas big m v ds n′ at)
   unfolding readDatas skipDatas present if_then_else_
   sees-added [] n n′ at e =
       let q : n ≡ n′ = omega arith in
@@ -89,7 +89,7 @@ module _ (m : List ℕ) (v : ℕ) (strict : Bool) where
       rw (t, bind-done) (sees-after strict (keptDatas []) (keptDatas []) _ _ _ (sees-added ds n n′ at q) λ r. refl))
 
   sees-datas : (old added : List Data) (n n′ at : ℕ) → n ≡ n′ + present v (dataSinces added)
-      → Sees strict (keptDatas old) (readDatas m v old n at) (readDatas m v (old ++ added) n′ at)
+      → Sees strict (keptDatas old) (readDatas big m v old n at) (readDatas big m v (old ++ added) n′ at)
   unfolding readDatas
   sees-datas [] added n n′ at e = sees-added added n n′ at e
   sees-datas (d ∷ old) added n n′ at e =
@@ -101,28 +101,28 @@ module _ (m : List ℕ) (v : ℕ) (strict : Bool) where
 
   module _ (limit : ℕ) where
     kept-fields : (at : ℕ) (old new : List Field) → ExtendsFields limit old new
-        → map (readField m v at) old ≡ keptFields old (map (readField m v at) new)
+        → map (readField big m v at) old ≡ keptFields old (map (readField big m v at) new)
     unfolding ExtendsFields keptFields
     kept-fields at [] new x = refl
     kept-fields at (f ∷ fs) [] x = absurd x
     kept-fields at (f ∷ fs) (f′ ∷ fs′) x =
         let k = x .0 in
-        let is = read-beside (f .names) (f′ .names) (beside-twice (f .names) (f′ .names) (k .names)) m v at f
-        ∙ ap (λ (g : Field). beside (f .names) (readField m v at g)) (sym (k .words)) in
+        let is = read-beside (f .names) (f′ .names) (beside-twice (f .names) (f′ .names) (k .names)) big m v at f
+        ∙ ap (λ (g : Field). beside (f .names) (readField big m v at g)) (sym (k .words)) in
         rw (is, kept-fields at fs fs′ (x .1)) refl
 
     pub sees-block : (s s′ : Shape) (gs : Groups) (f f′ : ℕ → Result (Values × ℕ)) (n n′ l at : ℕ)
         (a : ExtendsFields limit (s .fields) (s′ .fields))
         (d : AddsDatas limit (s .datas) (s′ .datas)) → n ≡ n′ + present v (dataSinces (d .added))
         → ((x : ℕ) → Sees strict (keptRow s gs) (f x) (f′ x))
-        → Sees strict (keptBlock s gs) (readBlock m v s f n l at) (readBlock m v s′ f′ n′ l at)
+        → Sees strict (keptBlock s gs) (readBlock big m v s f n l at) (readBlock big m v s′ f′ n′ l at)
     unfolding readBlock
     sees-block s s′ gs f f′ n n′ l at a d e h =
         sees-bind strict (λ (u : Unit {0}). u) (keptBlock s gs) _ _ _ _ (sees-same strict _) λ _.
         sees-bind strict (keptRow s gs) (keptBlock s gs) _ _ _ _ (h (at + l)) λ r.
         sees-bind strict (keptDatas (s .datas)) (keptBlock s gs) _ _ _ _
         (rw (d .first) (sees-datas (s .datas) (d .added) n n′ (r .1) e)) λ t.
-        sees-done strict (keptBlock s gs) (map (readField m v at) (s′ .fields), r .0, t .0, t .1) _
+        sees-done strict (keptBlock s gs) (map (readField big m v at) (s′ .fields), r .0, t .0, t .1) _
         (rw (kept-fields at (s .fields) (s′ .fields) a) refl)
 
     -- ---- a known group, and a row of them
@@ -130,13 +130,13 @@ module _ (m : List ℕ) (v : ℕ) (strict : Bool) where
     sees-group : (s s′ : Shape) (gs : Groups) (f f′ : ℕ → Result (Values × ℕ)) (at : ℕ) → ExtendsShape limit false s s′
         → AtLeast strict (need v s) (need v s′)
         → ((x : ℕ) → Sees strict (keptRow s gs) (f x) (f′ x))
-        → Sees strict (keptGroup s gs) (readGroup m v s f at) (readGroup m v s′ f′ at)
+        → Sees strict (keptGroup s gs) (readGroup big m v s f at) (readGroup big m v s′ f′ at)
     unfolding readGroup
     sees-group s s′ gs f f′ at x q h =
         sees-bind strict (λ (d : ℕ × ℕ). d) (keptGroup s gs) _ _ _ _
-        (sees-dimension m v strict (need v s) (need v s′) at q) λ d.
+        (sees-dimension big m v strict (need v s) (need v s′) at q) λ d.
         sees-bind strict (keptRow s gs) (keptGroup s gs) _ _ _ _
-        (sees-entries s gs (d .1) (readBlock m v s f 0 (d .0)) (readBlock m v s′ f′ 0 (d .0)) (at + 4) λ y.
+        (sees-entries s gs (d .1) (readBlock big m v s f 0 (d .0)) (readBlock big m v s′ f′ 0 (d .0)) (at + 4) λ y.
         sees-block s s′ gs f f′ 0 0 (d .0) y (x .fields) (x .datas) (unfold present in rw (x .inside refl) refl) h)
         λ r.
         sees-done strict (keptGroup s gs) (Group (d .1), r .0, r .1) _ refl
@@ -144,13 +144,13 @@ module _ (m : List ℕ) (v : ℕ) (strict : Bool) where
     -- ---- added groups are surplus to the older book
 
     flat : (s : Shape) (l a : ℕ) → s .datas ≡ []
-        → readBlock m v s (readGroups m v none 0) 0 l a
-        ≡ (must (leb (a + l) (length m)) 16 a >>= λ _. done (map (readField m v a) (s .fields), nil, [], a + l))
+        → readBlock big m v s (readGroups big m v none 0) 0 l a
+        ≡ (must (leb (a + l) (length m)) 16 a >>= λ _. done (map (readField big m v a) (s .fields), nil, [], a + l))
     unfolding readBlock readGroups skipGroups readDatas skipDatas _>>=_
     flat s l a e = rw e refl
 
     entries-flat : (s : Shape) (k l a : ℕ) (r : Values × ℕ) → s .datas ≡ [] → a ≤ length m
-        → readEntries k (readBlock m v s (readGroups m v none 0) 0 l) a ≡ done r → (r .1 ≡ a + l * k)
+        → readEntries k (readBlock big m v s (readGroups big m v none 0) 0 l) a ≡ done r → (r .1 ≡ a + l * k)
         × (r .1 ≤ length m)
     unfolding readEntries
     entries-flat s zero l a r d h e =
@@ -166,26 +166,27 @@ module _ (m : List ℕ) (v : ℕ) (strict : Bool) where
         let ih = entries-flat s k l (i .value .3) (i .other) d (omega arith) (i .second) in
         (omega arith, omega arith)
 
-    surplus-next : (n at b : ℕ) (d : ℕ × ℕ) → readDimension m b at ≡ done d → at + 4 + d .0 * d .1 ≤ length m
-        → readGroups m v none (suc n) at ≡ readGroups m v none n (at + 4 + d .0 * d .1)
+    surplus-next : (n at b : ℕ) (d : ℕ × ℕ) → readDimension big m b at ≡ done d → at + 4 + d .0 * d .1 ≤ length m
+        → readGroups big m v none (suc n) at ≡ readGroups big m v none n (at + 4 + d .0 * d .1)
     unfolding readGroups skipGroups must _>>=_
-    surplus-next n at b d e h = rw (dimension-any m v b at d e, le-leb (at + 4 + d .0 * d .1) (length m) h) refl
+    surplus-next n at b d e h = rw (dimension-any big m v b at d e, le-leb (at + 4 + d .0 * d .1) (length m) h) refl
 
     -- Of added groups nothing is kept.
     abbrev keptNone : (Values × ℕ) → Values × ℕ
     keptNone r = (nil, r .1)
 
     added-next : (i since : ℕ) (s : Shape) (inner rest : Groups) (n n′ at : ℕ) → AddedGroup limit since s inner
-        → ((x : ℕ) → Sees strict keptNone (readGroups m v none n x) (readGroups m v rest n′ x)) → (a : Values × ℕ)
-        → (readGroup m v s (readGroups m v inner 0) at >>= λ g. readGroups m v rest n′ (g .2)
+        → ((x : ℕ) → Sees strict keptNone (readGroups big m v none n x) (readGroups big m v rest n′ x))
+        → (a : Values × ℕ)
+        → (readGroup big m v s (readGroups big m v inner 0) at >>= λ g. readGroups big m v rest n′ (g .2)
         >>= λ r. done (group (g .0) (g .1) (r .0), r .1)) ≡ done a
-        → readGroups m v none (suc n) at ≡ done (keptNone a)
+        → readGroups big m v none (suc n) at ≡ done (keptNone a)
     unfolding readGroup
     added-next i since s inner rest n n′ at h ih a e =
         let p = inv-both _ _ _ _ (rw (h .noGroups) at e) in
         let d = inv-both _ _ _ _ (p .first) in
         let w = entries-flat s (d .value .1) (d .value .0) (at + 4) (d .other) (h .noDatas)
-        (dimension-fits m v _ at _ (d .first)) (d .second) in
+        (dimension-fits big m v _ at _ (d .first)) (d .second) in
         let next : d .other .1 ≡ p .value .2 = ap (λ (x : Answer × Values × ℕ). x .2) (d .is) in
         let last : p .other .1 ≡ a .1 = ap (λ (x : Values × ℕ). x .1) (p .is) in
         let o = seen-done strict keptNone _ _ (p .other) (ih (p .value .2)) (p .second) in
@@ -193,7 +194,7 @@ module _ (m : List ℕ) (v : ℕ) (strict : Bool) where
 
     sees-added-groups : (new : Groups) (n n′ at : ℕ) → AddedGroups limit new → (strict ≡ true → v ≤ limit)
         → n ≡ n′ + present v (groupSinces new)
-        → Sees strict keptNone (readGroups m v none n at) (readGroups m v new n′ at)
+        → Sees strict keptNone (readGroups big m v none n at) (readGroups big m v new n′ at)
     unfolding readGroups AddedGroups present groupSinces if_then_else_
     sees-added-groups none n n′ at x h e =
         let q : n ≡ n′ = omega arith in
@@ -211,7 +212,7 @@ module _ (m : List ℕ) (v : ℕ) (strict : Bool) where
         (sees-after strict keptNone keptNone _ _ _ (sees-added-groups rest n n′ at (x .1) h q) λ r. refl))
 
     -- A row of groups holds no entries.
-    added-kept : (s : Shape) (new : Groups) (n at : ℕ) (r : Values × ℕ) → readGroups m v new n at ≡ done r
+    added-kept : (s : Shape) (new : Groups) (n at : ℕ) (r : Values × ℕ) → readGroups big m v new n at ≡ done r
         → keptNone r ≡ keptRow s none r
     unfolding readGroups kept
     added-kept s none n at r e =
@@ -257,7 +258,7 @@ module _ (m : List ℕ) (v : ℕ) (strict : Bool) where
     pub sees-groups : (root : Bool) (old new : Groups) (s₀ : Shape) (n n′ at : ℕ) → ExtendsGroups limit root old new
         → groupsGood new ≡ true
         → (strict ≡ true → v ≤ limit) → n + present v (groupSinces old) ≡ n′ + present v (groupSinces new)
-        → Sees strict (keptRow s₀ old) (readGroups m v old n at) (readGroups m v new n′ at)
+        → Sees strict (keptRow s₀ old) (readGroups big m v old n at) (readGroups big m v new n′ at)
     unfolding readGroups ExtendsGroups present groupSinces groupsGood kept
     sees-groups root none new s₀ n n′ at x g h e =
         sees-change strict keptNone (keptRow s₀ none) _ _
@@ -270,7 +271,7 @@ module _ (m : List ℕ) (v : ℕ) (strict : Bool) where
         sees-bind strict (keptGroup s inner) (keptRow s₀ (more i since s inner rest)) _ _ _ _
         (rw (x .sameSince)
         (sees-pick strict (keptGroup s inner) (leb since′ v) _ _ _ _
-        (sees-group s s′ inner (readGroups m v inner 0) (readGroups m v inner′ 0) at (x .shape)
+        (sees-group s s′ inner (readGroups big m v inner 0) (readGroups big m v inner′ 0) at (x .shape)
         (need-extends v limit strict (s′ .length) (s .fields) (s′ .fields) (x .shape .fields) good h) λ y.
         sees-groups false inner inner′ s 0 0 y (x .inner) (and-left _ _ within) h
         (omega (arith, present-inside inner inner′ (x .inner))))

@@ -23,7 +23,8 @@ use Rattle.layout.specs.Writing.{judgeListing, messageOctets, writeOf, writtenL
 use Rattle.layout.specs.Extension.{Extends}
 use Rattle.layout.specs.Contracts.{AnswersPlace, Checks, ChecksBook, Lists, Writes, checked, counted, found, refusal}
 use Rattle.layout.specs.Contracts.{roomAfter}
-use Rattle.layout.specs.Demands.{AlikeOrUnlisted, AsWritten, contents, foundBeside, namesAt}
+use Rattle.layout.specs.Demands.{AlikeOrUnlisted, AsWritten, CallsAlike, OtherWay, Runs, contents, foundBeside}
+use Rattle.layout.specs.Demands.{namesAt, otherOrder, reordered}
 use Rattle.demands.proofs.Kept.{found-says, found-seen, seen, seen-by-none}
 use Rattle.demands.proofs.Numbers.{book-refuses, check-refuses, forty-lacks-room, place-refuses, refuses-with}
 use Rattle.demands.proofs.Numbers.{write-refuses}
@@ -31,8 +32,8 @@ use Rattle.demands.proofs.Outcomes.{Reads, Wrote, accepted-of, answer-o
 use Rattle.demands.proofs.Outcomes.{first-is, goes-on, left, no-answer-of, not-listed, only-tested}
 use Rattle.demands.proofs.Outcomes.{refused-listing, refused-of, refused-writing, rest-is, same-length, stops}
 use Rattle.demands.proofs.Outcomes.{was-accepted, was-read, writes-on}
-use Rattle.demands.proofs.Theorems.{both-say-the-same, older-accepts, read-writes-back}
-use Rattle.demands.proofs.Theorems.{written-length, written-reads-back}
+use Rattle.demands.proofs.Theorems.{both-orders-write-alike, both-say-the-same, older-accepts, other-order}
+use Rattle.demands.proofs.Theorems.{read-writes-back, turned-reads-alike, written-length, written-reads-back}
 use Rattle.demands.proofs.TwoBooks.{seen-answer}
 use Rattle.demands.proofs.Written.{lists-within, written-by}
 use Rattle.layout.proofs.Records.{listing-three}
@@ -218,7 +219,7 @@ module _ (book m : List ℕ) where
 
   -- "30: over four steps, or a number that the book lacks", or half a step; else the layout's answer, or 31
   module _ (b : Book) (t : Template) (v : Values) (isBook : bookOf book ≡ done b)
-      (known : findTemplate (templateId m) (b .templates) ≡ some t)
+      (known : findTemplate (templateId (b .format .big) m) (b .templates) ≡ some t)
       (reads : readMessage b m ≡ done v)
       (steps : List ℕ) (x : Element) (r : Found) (answers : AnswersPlace book m steps x r) where
     abbrev known-place : Bool
@@ -323,12 +324,12 @@ module _ (book : List ℕ) (id : ℕ) (l pool before after : List ℕ) where
 pub listed-writes-back : (book m : List ℕ) (b : Book) (t : Template) (v : Values)
     → AllOctets m
     → bookOf book ≡ done b
-    → findTemplate (templateId m) (b .templates) ≡ some t
+    → findTemplate (templateId (b .format .big) m) (b .templates) ≡ some t
     → readMessage b m ≡ done v
     → AsWritten b t m v
     → (room listed : List ℕ) (k : ℕ) → Lists book m room (Counted.Count k) listed
     → (before after : List ℕ) (r : Counted) → length m ≤ length before
-    → Writes book (templateId m) (take (3 * k) listed) m before r after
+    → Writes book (templateId (b .format .big) m) (take (3 * k) listed) m before r after
     → (r ≡ Counted.Count (length m)) × (after ≡ m ++ drop (length m) before)
 unfolding counted roomAfter _>>=_
 listed-writes-back book m b t v octets isBook known reads a room listed k lists before after r fits writes =
@@ -349,7 +350,7 @@ module _
     (extends : Extends old new)
     (m : List ℕ)
     (t : Template)
-    (inBoth : findTemplate (templateId m) (old .templates) ≡ some t) where
+    (inBoth : findTemplate (templateId (old .format .big) m) (old .templates) ≡ some t) where
   -- "if the newer accepts it, so does the older"
   pub older-call-accepts : Checks newer m Checked.Accepted → (r : Checked) → Checks older m r → r ≡ Checked.Accepted
   unfolding checked
@@ -418,7 +419,86 @@ module _
 
   -- "if the message's version is no later than the older book's, both accept or both refuse, with the same number and
   -- place"
-  pub both-calls-say-the-same : versionOf m ≤ old .version
+  pub both-calls-say-the-same : versionOf (old .format .big) m ≤ old .version
       → (r r′ : Checked) → Checks older m r → Checks newer m r′ → r ≡ r′
   both-calls-say-the-same h r r′ c c′ =
       c ∙ ap checked (both-say-the-same older newer old new isOlder isNewer extends m t inBoth h) ∙ sym c′
+
+-- ---- "A venue that sends big-endian": a book, and the same book with the other order word
+
+-- Two messages of one tree: the calls see no more than the tree and its template.
+module _ (book m book′ m′ : List ℕ) (b : Book) (t : Values) (isBook : bookOf book ≡ done b)
+    (isOther : bookOf book′ ≡ done (otherOrder b))
+    (reads : readMessage b m ≡ done t)
+    (other : OtherWay b m t m′) where
+  lists-alike : (room : ℕ) → listOf book m room ≡ listOf book′ m′ room
+  unfolding listOf _>>=_
+  lists-alike room = rw (isBook, isOther, reads, other .reads) refl
+
+  places-alike : (steps : List ℕ) (x : Element) → placeBy book m steps x ≡ placeBy book′ m′ steps x
+  unfolding placeBy placeAsked _>>=_
+  places-alike steps x = rw (isBook, isOther, reads, other .reads, other .template) refl
+
+  pub one-tree-answers-alike : CallsAlike book m book′ m′
+  unfolding checkOf
+  one-tree-answers-alike =
+      let q : Reads book m t = record { by = b; accepted = isBook; reads = reads } in
+      let q′ : Reads book′ m′ t = record { by = otherOrder b; accepted = isOther; reads = other .reads } in
+      record {
+        checks = λ r r′ c c′. c ∙ ap checked (goes-on book m _ q ∙ sym (goes-on book′ m′ _ q′)) ∙ sym c′;
+        lists = λ before after after′ r r′ c c′.
+            let same = lists-alike (length before) in (
+              c .answer ∙ ap (λ l. counted (l >>= λ x. done (x .0))) same ∙ sym (c′ .answer),
+              c .room ∙ ap (λ l. roomAfter (l >>= λ x. done (x .1)) before) same ∙ sym (c′ .room),
+            );
+        answers = λ steps x r r′ c c′. c ∙ ap found (places-alike steps x) ∙ sym c′;
+        octets = λ before after n c.
+            let l = listing-lists book m before after n c in
+            rw (l .3 ∙ ap listing (one-tree book m (l .0) t (l .1) q)) (sym (other .octets));
+      }
+
+module _ (book : List ℕ) (isAccepted : ChecksBook book Checked.Accepted) where
+  -- The other is accepted too.
+  pub other-order-is-accepted : ChecksBook (reordered book) Checked.Accepted
+  unfolding checked
+  other-order-is-accepted =
+      let b = accepted-of (bookOf book) isAccepted in
+      ap checked (sym (other-order book (b .0) (b .1)))
+
+  -- Every message that the one accepts has a message that the other accepts: the same but for numbers turned, with the
+  -- same answers for every call.
+  pub turned-calls-answer-alike : (m : List ℕ) → Checks book m Checked.Accepted
+      → (m′ : List ℕ) × Runs m 0 m′ (length m) × CallsAlike book m (reordered book) m′
+  turned-calls-answer-alike m a =
+      let t = was-accepted book m a in
+      let b = t .1 .by in
+      let w = turned-reads-alike book b (t .1 .accepted) m (t .0) (t .1 .reads) in (
+        w .0,
+        w .1 .runs,
+        one-tree-answers-alike book m (reordered book) (w .0) b (t .0) (t .1 .accepted)
+            (other-order book b (t .1 .accepted)) (t .1 .reads) (w .1),
+      )
+
+  module _ (id : ℕ) (l pool before after after′ : List ℕ) where
+    -- For one listing both write messages of one length, or refuse alike ..
+    pub both-calls-write-alike : (r r′ : Counted) → Writes book id l pool before r after
+        → Writes (reordered book) id l pool before r′ after′
+        → r ≡ r′
+    both-calls-write-alike r r′ c c′ =
+        let b = accepted-of (bookOf book) isAccepted in
+        c .answer ∙ ap counted (sym (both-orders-write-alike book (b .0) (b .1) id l pool (length before)))
+        ∙ sym (c′ .answer)
+
+    -- .. and what they write reads back alike, into a room for l.
+    pub both-calls-read-back-alike : Numbers64 l → (n : ℕ) → Writes book id l pool before (Counted.Count n) after
+        → Writes (reordered book) id l pool before (Counted.Count n) after′
+        → (room listed listed′ : List ℕ) (r r′ : Counted) → length l ≤ length room
+        → Lists book (take n after) room r listed
+        → Lists (reordered book) (take n after′) room r′ listed′
+        → (k : ℕ) × (r ≡ Counted.Count k) × (r′ ≡ Counted.Count k)
+        × (contents (take n after) (take (3 * k) listed) ≡ contents (take n after′) (take (3 * k) listed′))
+    both-calls-read-back-alike small n c c′ room listed listed′ r r′ long lists lists′ =
+        let w = written-lists-back book id l pool before after small n c room listed r long lists in
+        let w′ = written-lists-back (reordered book) id l pool before after′ small n c′ room listed′ r′ long lists′ in
+        let one : w′ .0 ≡ w .0 = omega (arith, w .2, w′ .2) in
+        (w .0, w .1, w′ .1 ∙ ap Counted.Count one, w .3 ∙ sym (rw one at (w′ .3)))

@@ -36,7 +36,7 @@ use Rattle.layout.proofs.TypeLaws.{inside-not-null}
 use Rattle.layout.specs.declared.Answer.{Answer}
 use Rattle.layout.specs.declared.Answer.the-variants.{Group, Null, Number, Octets, OutOfRange}
 
-module _ (l m : List ℕ) (v : ℕ) where
+module _ (big : Bool) (l m : List ℕ) (v : ℕ) where
   -- ---- records
 
   record RecordIs (i a b c : ℕ) : Type 0 where
@@ -143,8 +143,8 @@ module _ (l m : List ℕ) (v : ℕ) where
           octets-judged _ i p (f .length) to (eq-eqb _ _ (r .is₃)) h s
 
   field-judged : (f : Field) (i at to : ℕ) → lengthGood f ≡ true → f .since ≤ v → at + end f ≤ length m
-      → Sound (readField m v at f)
-      → Stands l (3 * i) (recordOf (readField m v at f)) to → judgeField l m f i ≡ done (readField m v at f)
+      → Sound (readField big m v at f)
+      → Stands l (3 * i) (recordOf (readField big m v at f)) to → judgeField l m f i ≡ done (readField big m v at f)
   unfolding readField if_then_else_
   field-judged f i at to g u h sound s =
       let q = le-leb (f .since) v u in
@@ -155,7 +155,7 @@ module _ (l m : List ℕ) (v : ℕ) where
 
       a : Bool → Answer
       a y = if y then arrayAt m (at + f .offset) f else beside (f .names) (classify k (isOptional f)
-          (valueOf k (numberAt (k .width) m (at + f .offset))))
+          (valueOf k (numberAt big (k .width) m (at + f .offset))))
 
       go : (y : Bool) → isArray f ≡ y → Sound (a y) → Stands l (3 * i) (recordOf (a y)) to
           → (if y then judgeArray l m f i else judgeNumber l f i) ≡ done (a y)
@@ -178,14 +178,14 @@ module _ (l m : List ℕ) (v : ℕ) where
 
   fields-judged : (fs : List Field) (i at len from e to : ℕ) → fieldsGood len from fs ≡ true → UpTo v (fieldSinces fs)
       → at + needAfter v e fs ≤ length m
-      → Each Sound (map (readField m v at) fs) → Stands l (3 * i) (recordsOf (map (readField m v at) fs)) to
-      → Judges (judgeFields l m fs) i to (map (readField m v at) fs)
+      → Each Sound (map (readField big m v at) fs) → Stands l (3 * i) (recordsOf (map (readField big m v at) fs)) to
+      → Judges (judgeFields l m fs) i to (map (readField big m v at) fs)
   unfolding Each recordsOf needAfter if_then_else_
   fields-judged [] i at len from e to g u h sound s = (i, omega (arith, s .ends), fields-stop i)
   fields-judged (f ∷ fs) i at len from e to g u h sound s =
       let k = field-good len from f fs g in
-      let a = readField m v at f in
-      let rest = map (readField m v at) fs in
+      let a = readField big m v at f in
+      let rest = map (readField big m v at) fs in
       let h′ : at + needAfter v (end f) fs ≤ length m = rw (le-leb (f .since) v (u .0)) at h in
       let o = split-to (recordOf a) (recordsOf rest) (3 * suc i) (omega (arith, record-three a)) s in
       let within : at + end f ≤ length m = omega
@@ -199,14 +199,14 @@ module _ (l m : List ℕ) (v : ℕ) where
 
   -- ---- data
 
-  data-judged : (i at to : ℕ) (a : Answer × ℕ) → readData m at ≡ done a → Stands l (3 * i) (recordOf (a .0)) to
+  data-judged : (i at to : ℕ) (a : Answer × ℕ) → readData big m at ≡ done a → Stands l (3 * i) (recordOf (a .0)) to
       → judgeData l m i ≡ done (a .0)
   data-judged i at to a e s =
-      let d = data-read m v at a e in
+      let d = data-read big m v at a e in
       subst (λ (x : Answer × ℕ). Stands l (3 * i) (recordOf (x .0)) to → judgeData l m i ≡ done (x .0)) (d .is)
       (λ o.
-      let r = record-is i 2 (at + 2) (number16 m at) to (unfold recordOf in o) in
-      octets-judged _ i (at + 2) (number16 m at) to (lt-ltb (third l i) null16 (omega (arith, r .is₃, d .whole)))
+      let r = record-is i 2 (at + 2) (number16 big m at) to (unfold recordOf in o) in
+      octets-judged _ i (at + 2) (number16 big m at) to (lt-ltb (third l i) null16 (omega (arith, r .is₃, d .whole)))
       (d .fits) o) s
 
   datas-next : (d : Data) (ds : List Data) (i j : ℕ) (a : Answer) (r : List Answer) → judgeData l m i ≡ done a
@@ -219,15 +219,15 @@ module _ (l m : List ℕ) (v : ℕ) where
   datas-stop i = refl
 
   datas-judged : (ds : List Data) (i at to : ℕ) (r : List Answer × ℕ) → UpTo v (dataSinces ds)
-      → readDatas m v ds 0 at ≡ done r
+      → readDatas big m v ds 0 at ≡ done r
       → Stands l (3 * i) (recordsOf (r .0)) to → Judges (judgeDatas l m ds) i to (r .0)
   unfolding Each recordsOf
   datas-judged [] i at to r u e s =
       subst (λ (x : List Answer × ℕ). Stands l (3 * i) (recordsOf (x .0)) to
-      → Judges (judgeDatas l m []) i to (x .0)) (done-inj (sym (no-datas m v at) ∙ e))
+      → Judges (judgeDatas l m []) i to (x .0)) (done-inj (sym (no-datas big m v at) ∙ e))
       (λ o. (i, omega (arith, o .ends), datas-stop i)) s
   datas-judged (d ∷ ds) i at to r u e s =
-      let w = datas-read m v d ds at r (u .0) e in
+      let w = datas-read big m v d ds at r (u .0) e in
       let a = w .first .0 in
       let rest = w .rest .0 in
       subst (λ (x : List Answer × ℕ). Stands l (3 * i) (recordsOf (x .0)) to
@@ -260,7 +260,7 @@ module _ (l m : List ℕ) (v : ℕ) where
     entryListed b rest = recordsOf (b .0) ++ (listing (b .1) ++ (recordsOf (b .2) ++ rest))
 
     block-judged : (i at : ℕ) (b : Entry) (rest : List ℕ) (to : ℕ) → Each Sound (b .0) → AllSound (b .1)
-        → readBlock m v s f 0 n at ≡ done b
+        → readBlock big m v s f 0 n at ≡ done b
         → Stands l (3 * i) (entryListed b rest) to
         → (j : ℕ) × (judgeBlock l m s f′ i ≡ done (b .0, b .1, b .2, j)) × (Stands l (3 * j) rest to)
     unfolding readBlock
@@ -273,7 +273,7 @@ module _ (l m : List ℕ) (v : ℕ) where
         → (j : ℕ) × (judgeBlock l m s f′ i ≡ done (x .0, x .1, x .2, j)) × (Stands l (3 * j) rest to))
         (done-inj (k .next))
         (λ in₁′ in₂′ o.
-        let fs = map (readField m v at) (s .fields) in
+        let fs = map (readField big m v at) (s .fields) in
         let gs = q .value .0 in
         let ds = k .value .0 in
         let o₁ = split-to (recordsOf fs) (listing gs ++ (recordsOf ds ++ rest)) _ refl o in
@@ -301,7 +301,7 @@ module _ (l m : List ℕ) (v : ℕ) where
     unfolding judgeEntries
     entries-stop i = refl
 
-    entries-judged : (k : ℕ) → Agree (readEntries k (readBlock m v s f 0 n))
+    entries-judged : (k : ℕ) → Agree (readEntries k (readBlock big m v s f 0 n))
         (judgeEntries l m k (judgeBlock l m s f′))
     unfolding readEntries AllSound listing
     entries-judged zero at i to r e sound st =
@@ -333,24 +333,24 @@ module _ (l m : List ℕ) (v : ℕ) where
   unfolding judgeGroups
   groups-stop i = refl
 
-  groups-judged : (gs : Groups) → GoodGroups v gs → Agree (readGroups m v gs 0) (judgeGroups l m gs)
+  groups-judged : (gs : Groups) → GoodGroups v gs → Agree (readGroups big m v gs 0) (judgeGroups l m gs)
   unfolding GoodGroups AllSound listing recordOf
   groups-judged none good at i to r e sound st =
       subst (λ (x : Values × ℕ). Stands l (3 * i) (listing (x .0)) to
-      → Judges (judgeGroups l m none) i to (x .0)) (done-inj (sym (no-groups m v at) ∙ e))
+      → Judges (judgeGroups l m none) i to (x .0)) (done-inj (sym (no-groups big m v at) ∙ e))
       (λ o. (i, omega (arith, o .ends), groups-stop i)) st
   groups-judged (more id since s inner rest) good at i to r e sound st =
-      let w = group-read m v id since s inner rest at r (good .0) e in
+      let w = group-read big m v id since s inner rest at r (good .0) e in
       let k = w .sizes .1 in
       let es = w .entries .0 in
       let gs = w .others .0 in
-      let d = dimension-read m v (need v s) at (w .sizes) (w .dimension) in
+      let d = dimension-read big m v (need v s) at (w .sizes) (w .dimension) in
       subst (λ (x : Values × ℕ). AllSound (x .0) → Stands l (3 * i) (listing (x .0)) to
       → Judges (judgeGroups l m (more id since s inner rest)) i to (x .0)) (w .is)
       (λ sound′ o.
       let o₁ = split-to (4 ∷ k ∷ 0 ∷ []) (listing es ++ listing gs) (3 * suc i) (omega arith) o in
       let o₂ = split-to (listing es) (listing gs) _ refl (o₁ .1) in
-      let a = entries-judged s (readGroups m v inner 0) (judgeGroups l m inner) (w .sizes .0) (good .1)
+      let a = entries-judged s (readGroups big m v inner 0) (judgeGroups l m inner) (w .sizes .0) (good .1)
       (d .enough) (groups-judged inner (good .2)) k
       (at + dimensionSize) (suc i) _ (w .entries) (w .reads) (sound′ .0) (o₂ .0) in
       let c = groups-judged rest (good .3) (w .entries .1) (a .0) to (w .others) (w .after) (sound′ .1)
@@ -365,12 +365,12 @@ module _ (l m : List ℕ) (v : ℕ) where
   pub listing-judged : (t : Template) (n at : ℕ) (b : Entry) → GoodShape v (t .shape) → GoodGroups v (t .groups)
       → need v (t .shape) ≤ n
       → AllSound (entry (b .0) (b .1) (b .2) nil)
-      → readBlock m v (t .shape) (readGroups m v (t .groups) 0) 0 n at ≡ done b
+      → readBlock big m v (t .shape) (readGroups big m v (t .groups) 0) 0 n at ≡ done b
       → listing (entry (b .0) (b .1) (b .2) nil) ≡ l
       → judgeListing l m t ≡ done (entry (b .0) (b .1) (b .2) nil)
   unfolding judgeListing must _>>=_ AllSound listing
   listing-judged t n at b good gg enough sound e is =
-      let w = block-judged (t .shape) (readGroups m v (t .groups) 0)
+      let w = block-judged (t .shape) (readGroups big m v (t .groups) 0)
       (judgeGroups l m (t .groups)) n good enough (groups-judged (t .groups) gg)
       0 at b [] (length l) (sound .0) (sound .1) e
       (subst (λ (x : List ℕ). Stands l 0 x (length l)) (sym is) (all-stands l)) in

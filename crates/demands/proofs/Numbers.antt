@@ -104,40 +104,40 @@ book-refuses octets =
 
 -- ---- 10 to 20
 
-module _ (m : List ℕ) where
-  data-refuses : (at : ℕ) → Refuses 10 20 (readData m at)
+module _ (big : Bool) (m : List ℕ) where
+  data-refuses : (at : ℕ) → Refuses 10 20 (readData big m at)
   unfolding readData
   data-refuses at =
       refuses-unless 10 20 _ 16 at _ (omega arith) λ _.
       refuses-unless 10 20 _ 19 at _ (omega arith) λ _.
       refuses-unless 10 20 _ 16 at _ (omega arith) λ _. refuses-done 10 20 _
 
-  skipped-datas-refuse : (n at : ℕ) → Refuses 10 20 (skipDatas m n at)
+  skipped-datas-refuse : (n at : ℕ) → Refuses 10 20 (skipDatas big m n at)
   unfolding skipDatas
   skipped-datas-refuse zero at = refuses-done 10 20 at
   skipped-datas-refuse (suc n) at = refuses-bind 10 20 _ _ (data-refuses at) λ x. skipped-datas-refuse n (x .1)
 
-  dimension-refuses : (least at : ℕ) → Refuses 10 20 (readDimension m least at)
+  dimension-refuses : (least at : ℕ) → Refuses 10 20 (readDimension big m least at)
   unfolding readDimension
   dimension-refuses least at =
       refuses-unless 10 20 _ 16 at _ (omega arith) λ _.
       refuses-unless 10 20 _ 17 at _ (omega arith) λ _.
       refuses-unless 10 20 _ 18 at _ (omega arith) λ _. refuses-done 10 20 _
 
-  skipped-groups-refuse : (n at : ℕ) → Refuses 10 20 (skipGroups m n at)
+  skipped-groups-refuse : (n at : ℕ) → Refuses 10 20 (skipGroups big m n at)
   unfolding skipGroups
   skipped-groups-refuse zero at = refuses-done 10 20 at
   skipped-groups-refuse (suc n) at =
       refuses-bind 10 20 _ _ (dimension-refuses 0 at) λ x.
       refuses-unless 10 20 _ 16 at _ (omega arith) λ _. skipped-groups-refuse n _
 
-  header-refuses : (n at : ℕ) → Refuses 10 20 (headerWhole m n at)
+  header-refuses : (n at : ℕ) → Refuses 10 20 (headerWhole big m n at)
   unfolding headerWhole
   header-refuses zero at = refuses-done 10 20 tt
   header-refuses (suc n) at = refuses-unless 10 20 _ 11 at _ (omega arith) λ _. header-refuses n (at + 2)
 
   module _ (v : ℕ) where
-    datas-refuse : (ds : List Data) (n at : ℕ) → Refuses 10 20 (readDatas m v ds n at)
+    datas-refuse : (ds : List Data) (n at : ℕ) → Refuses 10 20 (readDatas big m v ds n at)
     unfolding readDatas
     datas-refuse [] n at = refuses-bind 10 20 _ _ (skipped-datas-refuse n at) λ x. refuses-done 10 20 _
     datas-refuse (d ∷ ds) n at =
@@ -145,7 +145,7 @@ module _ (m : List ℕ) where
         refuses-bind 10 20 _ _ (datas-refuse ds n (x .1)) λ y. refuses-done 10 20 _
 
     block-refuses : (s : Shape) (f : ℕ → Result (Values × ℕ)) (n l at : ℕ) → ((x : ℕ) → Refuses 10 20 (f x))
-        → Refuses 10 20 (readBlock m v s f n l at)
+        → Refuses 10 20 (readBlock big m v s f n l at)
     unfolding readBlock
     block-refuses s f n l at h =
         refuses-unless 10 20 _ 16 at _ (omega arith) λ _.
@@ -161,13 +161,13 @@ module _ (m : List ℕ) where
         refuses-bind 10 20 _ _ (entries-refuse n f (x .3) h) λ y. refuses-done 10 20 _
 
     group-refuses : (s : Shape) (f : ℕ → Result (Values × ℕ)) (at : ℕ) → ((x : ℕ) → Refuses 10 20 (f x))
-        → Refuses 10 20 (readGroup m v s f at)
+        → Refuses 10 20 (readGroup big m v s f at)
     unfolding readGroup
     group-refuses s f at h =
         refuses-bind 10 20 _ _ (dimension-refuses _ at) λ x.
         refuses-bind 10 20 _ _ (entries-refuse _ _ _ λ y. block-refuses s f 0 _ y h) λ y. refuses-done 10 20 _
 
-    groups-refuse : (gs : Groups) (n at : ℕ) → Refuses 10 20 (readGroups m v gs n at)
+    groups-refuse : (gs : Groups) (n at : ℕ) → Refuses 10 20 (readGroups big m v gs n at)
     unfolding readGroups
     groups-refuse none n at = refuses-bind 10 20 _ _ (skipped-groups-refuse n at) λ x. refuses-done 10 20 _
     groups-refuse (more i since s inner rest) n at =
@@ -175,7 +175,7 @@ module _ (m : List ℕ) where
         (refuses-done 10 20 _)) λ x.
         refuses-bind 10 20 _ _ (groups-refuse rest n (x .2)) λ y. refuses-done 10 20 _
 
-  root-refuses : (version : ℕ) (t : Template) → Refuses 10 20 (readRoot version t m)
+  root-refuses : (version : ℕ) (t : Template) → Refuses 10 20 (readRoot big version t m)
   unfolding readRoot surplusOf readWhole
   root-refuses version t =
       refuses-bind 10 20 _ _ (refuses-unless 10 20 _ 14 0 _ (omega arith) λ _.
@@ -184,12 +184,13 @@ module _ (m : List ℕ) where
       refuses-bind 10 20 _ _ (block-refuses _ (t .shape) _ _ _ _ (groups-refuse _ (t .groups) _)) λ x.
       refuses-unless 10 20 _ 20 _ _ (omega arith) λ _. refuses-done 10 20 _
 
-  message-refuses : (b : Book) → Refuses 10 20 (readMessage b m)
-  unfolding readMessage checkHeader
-  message-refuses b =
-      refuses-bind 10 20 _ _ (refuses-unless 10 20 _ 10 0 _ (omega arith) λ _.
-      refuses-bind 10 20 _ _ (header-refuses headerNumbers 0) λ _. refuses-must 10 20 _ 12 4 (omega arith)) λ _.
-      refuses-bind 10 20 _ _ (refuses-found 10 20 _ 13 2 (omega arith)) λ t. root-refuses (b .version) t
+message-refuses : (m : List ℕ) (b : Book) → Refuses 10 20 (readMessage b m)
+unfolding readMessage checkHeader
+message-refuses m b =
+    let big = b .format .big in
+    refuses-bind 10 20 _ _ (refuses-unless 10 20 _ 10 0 _ (omega arith) λ _.
+    refuses-bind 10 20 _ _ (header-refuses big m headerNumbers 0) λ _. refuses-must 10 20 _ 12 4 (omega arith)) λ _.
+    refuses-bind 10 20 _ _ (refuses-found 10 20 _ 13 2 (omega arith)) λ t. root-refuses big m (b .version) t
 
 -- ---- 30 and 31
 

@@ -33,7 +33,7 @@ use Rattle.layout.proofs.TypeLaws.{octets-value}
 use Rattle.layout.specs.declared.Answer.{Answer}
 use Rattle.layout.specs.declared.Answer.the-variants.{Group, Null, Number, Octets, OutOfRange}
 
-module _ (m : List ℕ) (v : ℕ) (octets : AllOctets m) where
+module _ (big : Bool) (m : List ℕ) (v : ℕ) (octets : AllOctets m) where
   -- ---- fields
 
   zeros-stand : (a b n : ℕ) → Zeros m a b → n ≡ b - a → a ≤ b → b ≤ length m → Stands m a (replicate n 0) b
@@ -42,8 +42,8 @@ module _ (m : List ℕ) (v : ℕ) (octets : AllOctets m) where
       record { whole = rw (l, e) z; ends = omega (arith, l); fits = k }
 
   class-stands : (f : Field) (p : ℕ) → isArray f ≡ false → let k = typeAt (f .type) in
-      let a = classify k (isOptional f) (valueOf k (numberAt (k .width) m p)) in
-      p + k .width ≤ length m → Sound a → Stands m p (fieldOctets m f a) (p + k .width)
+      let a = classify k (isOptional f) (valueOf k (numberAt big (k .width) m p)) in
+      p + k .width ≤ length m → Sound a → Stands m p (fieldOctets big m f a) (p + k .width)
   unfolding classify if_then_else_ fieldOctets Sound
   class-stands f p plain h s = go (isOptional f and eqb y (k .null)) refl (inRange k y) s
     where
@@ -51,20 +51,20 @@ module _ (m : List ℕ) (v : ℕ) (octets : AllOctets m) where
       k = typeAt (f .type)
 
       y : ℕ
-      y = valueOf k (numberAt (k .width) m p)
+      y = valueOf k (numberAt big (k .width) m p)
 
       go : (b : Bool) → (isOptional f and eqb y (k .null)) ≡ b → (c : Bool)
           → Sound (if b then Null else if c then Number y else OutOfRange y)
-          → Stands m p (fieldOctets m f (if b then Null else if c then Number y else OutOfRange y)) (p + k .width)
+          → Stands m p (fieldOctets big m f (if b then Null else if c then Number y else OutOfRange y)) (p + k .width)
       go true e c s =
           let n : y ≡ k .null = eqb-true y (k .null) (and-right _ _ e) in
-          rw plain (octets-stand m octets (k .width) p (k .null) h
-          (ap (octetsOf (k .width)) (sym n) ∙ octets-value (f .type) _))
-      go false e true s = octets-stand m octets (k .width) p y h (octets-value (f .type) _)
+          rw plain (octets-stand big m octets (k .width) p (k .null) h
+          (ap (octetsOf big (k .width)) (sym n) ∙ octets-value big (f .type) _))
+      go false e true s = octets-stand big m octets (k .width) p y h (octets-value big (f .type) _)
       go false e false s = absurd s
 
   array-stands : (f : Field) (at : ℕ) → isArray f ≡ true → at + f .offset + f .length ≤ length m → ZeroTail m at f
-      → let p = at + f .offset in Stands m p (fieldOctets m f (arrayAt m p f)) (p + f .length)
+      → let p = at + f .offset in Stands m p (fieldOctets big m f (arrayAt m p f)) (p + f .length)
   unfolding fieldOctets spanOf arrayAt if_then_else_ _and_
   array-stands f at y h tail = go (isChar f) refl (isOptional f and eqb n 0) refl
     where
@@ -78,7 +78,7 @@ module _ (m : List ℕ) (v : ℕ) (octets : AllOctets m) where
       zeros c = tail (rw (y, c) refl)
 
       go : (c : Bool) → isChar f ≡ c → (b : Bool) → (isOptional f and eqb n 0) ≡ b
-          → Stands m p (fieldOctets m f (if c then (if b then Null else Octets p n) else Octets p (f .length)))
+          → Stands m p (fieldOctets big m f (if c then (if b then Null else Octets p n) else Octets p (f .length)))
           (p + f .length)
       go true c true e =
           let q : p + n ≡ p = omega (arith, eqb-true n 0 (and-right (isOptional f) (eqb n 0) e)) in
@@ -92,8 +92,8 @@ module _ (m : List ℕ) (v : ℕ) (octets : AllOctets m) where
           rw q (join _ _ (slice-stands m p (f .length) h) (nothing-stands m (p + f .length) h))
 
   field-stands : (f : Field) (at : ℕ) → lengthGood f ≡ true → f .since ≤ v → at + end f ≤ length m
-      → ZeroTail m at f → Sound (readField m v at f)
-      → Stands m (at + f .offset) (fieldOctets m f (readField m v at f)) (at + end f)
+      → ZeroTail m at f → Sound (readField big m v at f)
+      → Stands m (at + f .offset) (fieldOctets big m f (readField big m v at f)) (at + end f)
   unfolding readField if_then_else_
   field-stands f at g u h tail s = rw (le-leb (f .since) v u) (go (isArray f) refl (rw (le-leb (f .since) v u) at s))
     where
@@ -104,12 +104,12 @@ module _ (m : List ℕ) (v : ℕ) (octets : AllOctets m) where
       p = at + f .offset
 
       number : Answer
-      number = classify k (isOptional f) (valueOf k (numberAt (k .width) m p))
+      number = classify k (isOptional f) (valueOf k (numberAt big (k .width) m p))
 
       a : Bool → Answer
       a y = if y then arrayAt m p f else beside (f .names) number
 
-      go : (y : Bool) → isArray f ≡ y → Sound (a y) → Stands m p (fieldOctets m f (a y)) (at + end f)
+      go : (y : Bool) → isArray f ≡ y → Sound (a y) → Stands m p (fieldOctets big m f (a y)) (at + end f)
       go true y s =
           let q : p + f .length ≡ at + end f = omega (arith, size-array f g y) in
           rw (← q) (array-stands f at y (omega (arith, q)) tail)
@@ -121,8 +121,8 @@ module _ (m : List ℕ) (v : ℕ) (octets : AllOctets m) where
   fields-stand : (fs : List Field) (base len from : ℕ) → fieldsGood len from fs ≡ true → UpTo v (fieldSinces fs)
       → from ≤ len
       → base + len ≤ length m → ZeroPadding m base len from fs → Each (ZeroTail m base) fs
-      → Each Sound (map (readField m v base) fs)
-      → Stands m (base + from) (blockOctets m len from fs (map (readField m v base) fs)) (base + len)
+      → Each Sound (map (readField big m v base) fs)
+      → Stands m (base + from) (blockOctets big m len from fs (map (readField big m v base) fs)) (base + len)
   unfolding Each ZeroPadding blockOctets
   fields-stand [] base len from g u w h p z s =
       zeros-stand (base + from) (base + len) (len - from) p (omega arith) (omega arith) h
@@ -135,35 +135,36 @@ module _ (m : List ℕ) (v : ℕ) (octets : AllOctets m) where
 
   -- ---- data
 
-  data-stands : (at : ℕ) (a : Answer × ℕ) (rest : List Answer) (to : ℕ) → readData m at ≡ done a
-      → Stands m (a .1) (dataOctets m rest) to
-      → Stands m at (dataOctets m (a .0 ∷ rest)) to × (a .1 ≡ at + (2 + spanOf (a .0) .1))
+  data-stands : (at : ℕ) (a : Answer × ℕ) (rest : List Answer) (to : ℕ) → readData big m at ≡ done a
+      → Stands m (a .1) (dataOctets big m rest) to
+      → Stands m at (dataOctets big m (a .0 ∷ rest)) to × (a .1 ≡ at + (2 + spanOf (a .0) .1))
   unfolding dataOctets spanOf
   data-stands at a rest to e s =
-      let r = data-read m v at a e in
-      subst (λ (x : Answer × ℕ). Stands m (x .1) (dataOctets m rest) to → Stands m at (dataOctets m (x .0 ∷ rest)) to
+      let r = data-read big m v at a e in
+      subst (λ (x : Answer × ℕ). Stands m (x .1) (dataOctets big m rest) to
+      → Stands m at (dataOctets big m (x .0 ∷ rest)) to
       × (x .1 ≡ at + (2 + spanOf (x .0) .1))) (r .is)
       (λ o. (
-        join _ _ (octets-stand m octets 2 at (number16 m at) (r .head) refl)
-            (join _ _ (slice-stands m (at + 2) (number16 m at) (r .fits)) o),
+        join _ _ (octets-stand big m octets 2 at (number16 big m at) (r .head) refl)
+            (join _ _ (slice-stands m (at + 2) (number16 big m at) (r .fits)) o),
         omega arith,
       )) s
 
   datas-stand : (ds : List Data) (at : ℕ) (r : List Answer × ℕ) → UpTo v (dataSinces ds) → at ≤ length m
-      → readDatas m v ds 0 at ≡ done r
-      → Stands m at (dataOctets m (r .0)) (r .1) × (r .1 ≡ at + datasLength (r .0))
+      → readDatas big m v ds 0 at ≡ done r
+      → Stands m at (dataOctets big m (r .0)) (r .1) × (r .1 ≡ at + datasLength (r .0))
   unfolding Each datasLength
   datas-stand [] at r u h e =
-      subst (λ (x : List Answer × ℕ). Stands m at (dataOctets m (x .0)) (x .1) × (x .1 ≡ at + datasLength (x .0)))
-      (done-inj (sym (no-datas m v at) ∙ e))
+      subst (λ (x : List Answer × ℕ). Stands m at (dataOctets big m (x .0)) (x .1) × (x .1 ≡ at + datasLength (x .0)))
+      (done-inj (sym (no-datas big m v at) ∙ e))
       (unfold dataOctets in nothing-stands m at h, omega arith)
   datas-stand (d ∷ ds) at r u h e =
-      let w = datas-read m v d ds at r (u .0) e in
-      let k = data-read m v at (w .first) (w .reads) in
+      let w = datas-read big m v d ds at r (u .0) e in
+      let k = data-read big m v at (w .first) (w .reads) in
       let fits : w .first .1 ≤ length m = subst (λ (x : Answer × ℕ). x .1 ≤ length m) (k .is) (k .fits) in
       let ih = datas-stand ds (w .first .1) (w .rest) (u .1) fits (w .after) in
       let b = data-stands at (w .first) (w .rest .0) (w .rest .1) (w .reads) (ih .0) in
-      subst (λ (x : List Answer × ℕ). Stands m at (dataOctets m (x .0)) (x .1) × (x .1 ≡ at + datasLength (x .0)))
+      subst (λ (x : List Answer × ℕ). Stands m at (dataOctets big m (x .0)) (x .1) × (x .1 ≡ at + datasLength (x .0)))
       (w .is)
       (b .0, omega (arith, b .1, ih .1))
 
@@ -171,22 +172,22 @@ module _ (m : List ℕ) (v : ℕ) (octets : AllOctets m) where
 
   -- A row that was read stands as it is printed, and is as long as the formula says.
   abbrev Printed : Shape → Groups → ℕ → (Values × ℕ) → Type 0
-  Printed s gs at r = Stands m at (rowOctets m s gs (r .0)) (r .1) × (r .1 ≡ at + rowLength s gs (r .0))
+  Printed s gs at r = Stands m at (rowOctets big m s gs (r .0)) (r .1) × (r .1 ≡ at + rowLength s gs (r .0))
 
   abbrev Reprints : Shape → Groups → (ℕ → Result (Values × ℕ)) → Type 0
   Reprints s gs f =
-      (at : ℕ) (r : Values × ℕ) → at ≤ length m → OwnBlocks m s gs at (r .0) → AllSound (r .0) → f at ≡ done r
+      (at : ℕ) (r : Values × ℕ) → at ≤ length m → OwnBlocks big m s gs at (r .0) → AllSound (r .0) → f at ≡ done r
       → Printed s gs at r
 
   abbrev pub entryPrinted : Shape → Groups → Entry → List ℕ
-  entryPrinted s gs b = blockOctets m (s .length) 0 (s .fields) (b .0)
-      ++ (rowOctets m s gs (b .1) ++ dataOctets m (b .2))
+  entryPrinted s gs b = blockOctets big m (s .length) 0 (s .fields) (b .0)
+      ++ (rowOctets big m s gs (b .1) ++ dataOctets big m (b .2))
 
   pub block-stands : (s : Shape) (gs : Groups) (f : ℕ → Result (Values × ℕ)) (at : ℕ) (b : Entry) → GoodShape v s
       → Reprints s gs f
       → ZeroPadding m at (s .length) 0 (s .fields) → Each (ZeroTail m at) (s .fields)
-      → OwnBlocks m s gs (at + s .length) (b .1) → Each Sound (b .0) → AllSound (b .1)
-      → readBlock m v s f 0 (s .length) at ≡ done b
+      → OwnBlocks big m s gs (at + s .length) (b .1) → Each Sound (b .0) → AllSound (b .1)
+      → readBlock big m v s f 0 (s .length) at ≡ done b
       → Stands m at (entryPrinted s gs b) (b .3) × (b .3 ≡ at + rowLength s gs (entry (b .0) (b .1) (b .2) nil))
   unfolding readBlock rowLength
   block-stands s gs f at b good ih pad tails own in₁ in₂ e =
@@ -194,7 +195,7 @@ module _ (m : List ℕ) (v : ℕ) (octets : AllOctets m) where
       let q = inv-bind _ _ _ (p .next) in
       let k = inv-bind _ _ _ (q .next) in
       let fits : at + s .length ≤ length m = leb-true (at + s .length) (length m) (inv-must _ _ _ _ (p .first)) in
-      subst (λ (x : Entry). OwnBlocks m s gs (at + s .length) (x .1) → Each Sound (x .0) → AllSound (x .1)
+      subst (λ (x : Entry). OwnBlocks big m s gs (at + s .length) (x .1) → Each Sound (x .0) → AllSound (x .1)
       → Stands m at (entryPrinted s gs x) (x .3)
       × (x .3 ≡ at + (s .length + (rowLength s gs (x .1) + (datasLength (x .2) + 0))))) (done-inj (k .next))
       (λ own′ in₁′ in₂′.
@@ -209,53 +210,53 @@ module _ (m : List ℕ) (v : ℕ) (octets : AllOctets m) where
       to-zero {at} st = let q : at + 0 ≡ at = omega arith in rw q at st
 
   entries-stand : (s : Shape) (gs : Groups) (f : ℕ → Result (Values × ℕ)) (k : ℕ) → GoodShape v s → Reprints s gs f
-      → Reprints s gs (readEntries k (readBlock m v s f 0 (s .length)))
+      → Reprints s gs (readEntries k (readBlock big m v s f 0 (s .length)))
   unfolding readEntries OwnBlocks AllSound rowOctets rowLength
   entries-stand s gs f zero good ih at r h own sound e =
       subst (Printed s gs at) (done-inj e) (nothing-stands m at h, omega arith)
   entries-stand s gs f (suc k) good ih at r h own sound e =
       let p = inv-bind _ _ _ e in
       let q = inv-bind _ _ _ (p .next) in
-      subst (λ (x : Values × ℕ). OwnBlocks m s gs at (x .0) → AllSound (x .0) → Printed s gs at x)
+      subst (λ (x : Values × ℕ). OwnBlocks big m s gs at (x .0) → AllSound (x .0) → Printed s gs at x)
       (done-inj (q .next))
       (λ o i.
       let b = block-stands s gs f at (p .value) good ih (o .0) (o .1) (o .2) (i .0) (i .1) (p .first) in
       let rest = entries-stand s gs f k good ih (p .value .3) (q .value) (b .0 .fits)
-      (subst (λ (x : ℕ). OwnBlocks m s gs x (q .value .0)) (sym (b .1)) (o .3)) (i .2) (q .first) in
+      (subst (λ (x : ℕ). OwnBlocks big m s gs x (q .value .0)) (sym (b .1)) (o .3)) (i .2) (q .first) in
       (join _ _ (b .0) (rest .0), omega (arith, b .1, rest .1))) own sound
 
   group-stands : (i since : ℕ) (s : Shape) (inner rest : Groups) (s₀ : Shape) (at : ℕ) (d : ℕ × ℕ)
       (es others : Values × ℕ)
-      → DimensionRead m v (need v s) at d → number16 m at ≡ s .length → Printed s inner (at + dimensionSize) es
+      → DimensionRead big m v (need v s) at d → number16 big m at ≡ s .length → Printed s inner (at + dimensionSize) es
       → Printed s₀ rest (es .1) others
       → Printed s₀ (more i since s inner rest) at (group (Group (d .1)) (es .0) (others .0), others .1)
   unfolding rowOctets rowLength entriesIn AreAt
   group-stands i since s inner rest s₀ at d es others r n a b = (
-    join _ _ (numbers-stand m octets at (at + dimensionSize) (s .length ∷ d .1 ∷ []) (omega arith) (r .fits)
+    join _ _ (numbers-stand big m octets at (at + dimensionSize) (s .length ∷ d .1 ∷ []) (omega arith) (r .fits)
         (n, (sym (r .count-is), tt)))
         (join _ _ (a .0) (b .0)),
     omega (arith, a .1, b .1),
   )
 
-  pub groups-stand : (gs : Groups) (s₀ : Shape) → GoodGroups v gs → Reprints s₀ gs (readGroups m v gs 0)
+  pub groups-stand : (gs : Groups) (s₀ : Shape) → GoodGroups v gs → Reprints s₀ gs (readGroups big m v gs 0)
   unfolding GoodGroups OwnBlocks AllSound
   groups-stand none s₀ good at r h own sound e =
-      subst (Printed s₀ none at) (done-inj (sym (no-groups m v at) ∙ e))
+      subst (Printed s₀ none at) (done-inj (sym (no-groups big m v at) ∙ e))
       (unfold rowOctets rowLength in (nothing-stands m at h, omega arith))
   groups-stand (more i since s inner rest) s₀ good at r h own sound e =
-      let w = group-read m v i since s inner rest at r (good .0) e in
-      let d = dimension-read m v (need v s) at (w .sizes) (w .dimension) in
+      let w = group-read big m v i since s inner rest at r (good .0) e in
+      let d = dimension-read big m v (need v s) at (w .sizes) (w .dimension) in
       let gs = more i since s inner rest in
-      subst (λ (x : Values × ℕ). OwnBlocks m s₀ gs at (x .0) → AllSound (x .0) → Printed s₀ gs at x) (w .is)
+      subst (λ (x : Values × ℕ). OwnBlocks big m s₀ gs at (x .0) → AllSound (x .0) → Printed s₀ gs at x) (w .is)
       (λ o k.
       let len : w .sizes .0 ≡ s .length = d .length-is ∙ o .0 in
-      let one : ℕ → Result Entry = readBlock m v s (readGroups m v inner 0) 0 (s .length) in
+      let one : ℕ → Result Entry = readBlock big m v s (readGroups big m v inner 0) 0 (s .length) in
       let reads : readEntries (w .sizes .1) one (at + dimensionSize) ≡ done (w .entries) =
-      ap (λ (x : ℕ). readEntries (w .sizes .1) (readBlock m v s (readGroups m v inner 0) 0 x) (at + dimensionSize))
-      (sym len) ∙ w .reads in
-      let a = entries-stand s inner (readGroups m v inner 0) (w .sizes .1) (good .1) (groups-stand inner s (good .2))
-      (at + dimensionSize) (w .entries)
+      ap (λ (x : ℕ). readEntries (w .sizes .1) (readBlock big m v s (readGroups big m v inner 0) 0 x)
+      (at + dimensionSize)) (sym len) ∙ w .reads in
+      let a = entries-stand s inner (readGroups big m v inner 0) (w .sizes .1) (good .1)
+      (groups-stand inner s (good .2)) (at + dimensionSize) (w .entries)
       (d .fits) (o .1) (k .0) reads in
       let c = groups-stand rest s₀ (good .3) (w .entries .1) (w .others) (a .0 .fits)
-      (subst (λ (x : ℕ). OwnBlocks m s₀ rest x (w .others .0)) (sym (a .1)) (o .2)) (k .1) (w .after) in
+      (subst (λ (x : ℕ). OwnBlocks big m s₀ rest x (w .others .0)) (sym (a .1)) (o .2)) (k .1) (w .after) in
       group-stands i since s inner rest s₀ at (w .sizes) (w .entries) (w .others) d (o .0) a c) own sound

@@ -41,16 +41,16 @@ pub four-same : {a a′ b b′ c c′ d d′ : List (List ℕ)} → a ≡ a′ �
     → a ++ (b ++ (c ++ d)) ≡ a′ ++ (b′ ++ (c′ ++ d′))
 four-same p q r s = rw (p, q, r, s) refl
 
-module _ (m : List ℕ) (v : ℕ) where
-  pub no-datas : (at : ℕ) → readDatas m v [] 0 at ≡ done ([], at)
+module _ (big : Bool) (m : List ℕ) (v : ℕ) where
+  pub no-datas : (at : ℕ) → readDatas big m v [] 0 at ≡ done ([], at)
   unfolding readDatas skipDatas _>>=_
   no-datas at = refl
 
-  pub no-groups : (at : ℕ) → readGroups m v none 0 at ≡ done (nil, at)
+  pub no-groups : (at : ℕ) → readGroups big m v none 0 at ≡ done (nil, at)
   unfolding readGroups skipGroups _>>=_
   no-groups at = refl
 
-module _ (l pool m : List ℕ) (v : ℕ) (small : Numbers64 l) where
+module _ (big : Bool) (l pool m : List ℕ) (v : ℕ) (small : Numbers64 l) where
   -- ---- a field
 
   class-null : (k : TypeRow) → classify k true (k .null) ≡ Null
@@ -67,32 +67,32 @@ module _ (l pool m : List ℕ) (v : ℕ) (small : Numbers64 l) where
   abbrev ReadAs : Field → ℕ → Answer → Type 0
   ReadAs f at a =
       let k = typeAt (f .type) in
-      beside (f .names) (classify k (isOptional f) (valueOf k (numberAt (k .width) m at))) ≡ a
+      beside (f .names) (classify k (isOptional f) (valueOf k (numberAt big (k .width) m at))) ≡ a
 
   null-back-at : (f : Field) (at to : ℕ) → isArray f ≡ false → isOptional f ≡ true
-      → Stands m at (fieldOctets pool f Null) to
+      → Stands m at (fieldOctets big pool f Null) to
       → ReadAs f at Null
   unfolding fieldOctets if_then_else_ beside
   null-back-at f at to y o s =
       let k = typeAt (f .type) in
-      let e = ap (valueOf k) (number-stands (k .width) (k .null) (rw y at s)) ∙ null-back (f .type) in
+      let e = ap (valueOf k) (number-stands big (k .width) (k .null) (rw y at s)) ∙ null-back (f .type) in
       rw (o, e) (ap (beside (f .names)) (class-null k))
 
   number-back-at : (f : Field) (x at to : ℕ) → x < 2 ^ 64
       → (inRange (typeAt (f .type)) x and not (eqb x (typeAt (f .type) .null)) and has (f .names) x) ≡ true
-      → Stands m at (fieldOctets pool f (Number x)) to → ReadAs f at (Number x)
+      → Stands m at (fieldOctets big pool f (Number x)) to → ReadAs f at (Number x)
   unfolding fieldOctets
   number-back-at f x at to b h s =
       let k = typeAt (f .type) in
       let r = and-left _ _ h in
       let other = and-right _ _ h in
-      let e = ap (valueOf k) (number-stands (k .width) x s) ∙ number-back (f .type) x b r in
+      let e = ap (valueOf k) (number-stands big (k .width) x s) ∙ number-back (f .type) x b r in
       rw e (ap (beside (f .names)) (class-number k (isOptional f) x r (not-true _ (and-left _ _ other)))
       ∙ beside-listed (f .names) x (and-right _ _ other))
 
   number-field : (f : Field) (i at to : ℕ) (a : Answer) → isArray f ≡ false
       → judgeField l pool f i ≡ done a
-      → Stands m at (fieldOctets pool f a) to → ReadAs f at a × (contentOf m a ≡ contentOf pool a)
+      → Stands m at (fieldOctets big pool f a) to → ReadAs f at a × (contentOf m a ≡ contentOf pool a)
   unfolding if_then_else_ contentOf
   number-field f i at to a y e s =
       let q = number-said l pool f i a y e in
@@ -120,7 +120,8 @@ module _ (l pool m : List ℕ) (v : ℕ) (small : Numbers64 l) where
       rw (← (q .is)) (ap (λ (r : List ℕ). 2 ∷ r) w)
 
   -- Of an array that was written, the octets that were said stand first.
-  said-stands : (f : Field) (i at to : ℕ) (a : Answer) → OctetsSaid l pool i a → Stands m at (fieldOctets pool f a) to
+  said-stands : (f : Field) (i at to : ℕ) (a : Answer) → OctetsSaid l pool i a
+      → Stands m at (fieldOctets big pool f a) to
       → Stands m at (spanOctets pool a) (at + third l i)
   unfolding fieldOctets spanOf
   said-stands f i at to a q s =
@@ -131,7 +132,7 @@ module _ (l pool m : List ℕ) (v : ℕ) (small : Numbers64 l) where
       (omega (arith, span-long pool start len (q .within))) (rw (← (q .is)) at s) .0)
 
   null-array : (f : Field) (at to : ℕ) → isArray f ≡ true → isChar f ≡ true → isOptional f ≡ true
-      → Stands m at (fieldOctets pool f Null) to → arrayAt m at f ≡ Null
+      → Stands m at (fieldOctets big pool f Null) to → arrayAt m at f ≡ Null
   unfolding fieldOctets arrayAt if_then_else_ _and_
   null-array f at to y c o s =
       let n = f .length in
@@ -145,7 +146,7 @@ module _ (l pool m : List ℕ) (v : ℕ) (small : Numbers64 l) where
   -- A text is read up to where it ended.
   text-array : (f : Field) (i at to : ℕ) → isChar f ≡ true → textFits l pool f i ≡ true
       → second l i + third l i ≤ length pool
-      → Stands m at (fieldOctets pool f (Octets (second l i) (third l i))) to
+      → Stands m at (fieldOctets big pool f (Octets (second l i) (third l i))) to
       → arrayAt m at f ≡ Octets at (third l i)
   unfolding fieldOctets spanOf arrayAt if_then_else_
   text-array f i at to c h within s =
@@ -167,7 +168,7 @@ module _ (l pool m : List ℕ) (v : ℕ) (small : Numbers64 l) where
       rw (c, ends, not-true (isOptional f and eqb len 0) (and-right _ _ rest)) refl
 
   array-field : (f : Field) (i at to : ℕ) (a : Answer) → isArray f ≡ true → ArraySaid l pool f i a
-      → Stands m at (fieldOctets pool f a) to → contentOf m (arrayAt m at f) ≡ contentOf pool a
+      → Stands m at (fieldOctets big pool f a) to → contentOf m (arrayAt m at f) ≡ contentOf pool a
   unfolding contentOf
   array-field f i at to a y (null c n o e) s = rw (← e, null-array f at to y c o (rw (← e) at s)) refl
   array-field f i at to a y (text c q h) s =
@@ -178,7 +179,8 @@ module _ (l pool m : List ℕ) (v : ℕ) (small : Numbers64 l) where
 
   field-back : (f : Field) (i base to : ℕ) (a : Answer) → f .since ≤ v
       → judgeField l pool f i ≡ done a
-      → Stands m (base + f .offset) (fieldOctets pool f a) to → contentOf m (readField m v base f) ≡ contentOf pool a
+      → Stands m (base + f .offset) (fieldOctets big pool f a) to
+      → contentOf m (readField big m v base f) ≡ contentOf pool a
   unfolding readField if_then_else_
   field-back f i base to a h e s = rw (le-leb (f .since) v h) (go (isArray f) refl)
     where
@@ -187,7 +189,7 @@ module _ (l pool m : List ℕ) (v : ℕ) (small : Numbers64 l) where
 
       go : (y : Bool) → isArray f ≡ y
           → contentOf m (if y then arrayAt m (base + f .offset) f else beside (f .names) (classify k
-          (isOptional f) (valueOf k (numberAt (k .width) m (base + f .offset))))) ≡ contentOf pool a
+          (isOptional f) (valueOf k (numberAt big (k .width) m (base + f .offset))))) ≡ contentOf pool a
       go true y = array-field f i (base + f .offset) to a y (array-said l pool f i a y e) s
       go false y =
           let b = number-field f i (base + f .offset) to a y e s in
@@ -197,8 +199,8 @@ module _ (l pool m : List ℕ) (v : ℕ) (small : Numbers64 l) where
 
   fields-back : (fs : List Field) (len from i base to : ℕ) (r : List Answer × ℕ) → fieldsGood len from fs ≡ true
       → UpTo v (fieldSinces fs) → judgeFields l pool fs i ≡ done r
-      → Stands m (base + from) (blockOctets pool len from fs (r .0)) to
-      → contentsOf m (map (readField m v base) fs) ≡ contentsOf pool (r .0)
+      → Stands m (base + from) (blockOctets big pool len from fs (r .0)) to
+      → contentsOf m (map (readField big m v base) fs) ≡ contentsOf pool (r .0)
   unfolding Each judgeFields blockOctets
   fields-back [] len from i base to r g u e s = ap (λ (x : List Answer × ℕ). contentsOf pool (x .0)) (done-inj e)
   fields-back (f ∷ fs) len from i base to r g u e s =
@@ -207,28 +209,29 @@ module _ (l pool m : List ℕ) (v : ℕ) (small : Numbers64 l) where
       let rest : List Answer × ℕ = p .other in
       let q : (a ∷ rest .0, rest .1) ≡ r = p .is in
       let k = field-good len from f fs g in
-      let xs = fieldOctets pool f a in
-      let ys = blockOctets pool len (end f) fs (rest .0) in
+      let xs = fieldOctets big pool f a in
+      let ys = blockOctets big pool len (end f) fs (rest .0) in
       let pad = length-replicate {A = ℕ} (f .offset - from) 0 in
       let o₁ = split-to (replicate (f .offset - from) 0) (xs ++ ys) (base + f .offset) (omega (arith, k .placed, pad))
       (rw (← q) at s) in
-      let o₂ = split-to xs ys (base + end f) (omega (arith, field-long l pool f i a (k .length) (p .first))) (o₁ .1) in
+      let long = field-long big l pool f i a (k .length) (p .first) in
+      let o₂ = split-to xs ys (base + end f) (omega (arith, long)) (o₁ .1) in
       let b = field-back f i base (base + end f) a (u .0) (p .first) (o₂ .0) in
       cons-same b (fields-back fs len (end f) (suc i) base to rest (k .rest) (u .1) (p .second) (o₂ .1))
       ∙ ap (λ (x : List Answer × ℕ). contentsOf pool (x .0)) q
 
   -- ---- data
 
-  data-at : (at len : ℕ) → number16 m at ≡ len → at + 2 ≤ length m → len < 65535 → at + 2 + len ≤ length m
-      → readData m at ≡ done (Octets (at + 2) len, at + 2 + len)
+  data-at : (at len : ℕ) → number16 big m at ≡ len → at + 2 ≤ length m → len < 65535 → at + 2 + len ≤ length m
+      → readData big m at ≡ done (Octets (at + 2) len, at + 2 + len)
   unfolding readData must _>>=_
   data-at at len n a b c = rw (n, le-leb (at + 2) (length m) a, lt-ltb len 65535 b, le-leb (at + 2 + len) (length m) c)
       refl
 
   data-back : (i at to : ℕ) (a : Answer) (ds : List Answer) → judgeData l pool i ≡ done a
-      → Stands m at (dataOctets pool (a ∷ ds)) to
-      → (b : Answer × ℕ) × (readData m at ≡ done b) × (contentOf m (b .0) ≡ contentOf pool a)
-      × (Stands m (b .1) (dataOctets pool ds) to)
+      → Stands m at (dataOctets big pool (a ∷ ds)) to
+      → (b : Answer × ℕ) × (readData big m at ≡ done b) × (contentOf m (b .0) ≡ contentOf pool a)
+      × (Stands m (b .1) (dataOctets big pool ds) to)
   unfolding dataOctets spanOf
   data-back i at to a ds e s =
       let d = data-said l pool i a e in
@@ -237,10 +240,10 @@ module _ (l pool m : List ℕ) (v : ℕ) (small : Numbers64 l) where
       let len = third l i in
       let long = span-long pool start len (q .within) in
       let xs = take len (drop start pool) in
-      let o₁ = split-to (octetsOf 2 len) (xs ++ dataOctets pool ds) (at + 2) (omega (arith, length-octets 2 len))
-      (rw (← (q .is)) at s) in
-      let o₂ = split-to xs (dataOctets pool ds) (at + 2 + len) (omega (arith, long)) (o₁ .1) in
-      let n = number-stands 2 len (o₁ .0) ∙ mod-eq-of-lt (omega (arith, d .1)) in (
+      let o₁ = split-to (octetsOf big 2 len) (xs ++ dataOctets big pool ds) (at + 2)
+      (omega (arith, length-octets big 2 len)) (rw (← (q .is)) at s) in
+      let o₂ = split-to xs (dataOctets big pool ds) (at + 2 + len) (omega (arith, long)) (o₁ .1) in
+      let n = number-stands big 2 len (o₁ .0) ∙ mod-eq-of-lt (omega (arith, d .1)) in (
         (Octets (at + 2) len, at + 2 + len),
         data-at at len n (o₁ .0 .fits) (d .1) (o₂ .0 .fits),
         octets-same a (at + 2) (at + 2 + len) i q (rw (← (q .is)) (o₂ .0)),
@@ -248,20 +251,20 @@ module _ (l pool m : List ℕ) (v : ℕ) (small : Numbers64 l) where
       )
 
   datas-next : (d : Data) (ds : List Data) (at to : ℕ) (b : Answer × ℕ) (w : List Answer) → d .since ≤ v
-      → readData m at ≡ done b → readDatas m v ds 0 (b .1) ≡ done (w, to)
-      → readDatas m v (d ∷ ds) 0 at ≡ done (b .0 ∷ w, to)
+      → readData big m at ≡ done b → readDatas big m v ds 0 (b .1) ≡ done (w, to)
+      → readDatas big m v (d ∷ ds) 0 at ≡ done (b .0 ∷ w, to)
   unfolding readDatas _>>=_ if_then_else_
   datas-next d ds at to b w h e q = rw (le-leb (d .since) v h, e, q) refl
 
   datas-back : (ds : List Data) (i at to : ℕ) (r : List Answer × ℕ) → UpTo v (dataSinces ds)
-      → judgeDatas l pool ds i ≡ done r → Stands m at (dataOctets pool (r .0)) to
-      → (b : List Answer) × (readDatas m v ds 0 at ≡ done (b, to)) × (contentsOf m b ≡ contentsOf pool (r .0))
+      → judgeDatas l pool ds i ≡ done r → Stands m at (dataOctets big pool (r .0)) to
+      → (b : List Answer) × (readDatas big m v ds 0 at ≡ done (b, to)) × (contentsOf m b ≡ contentsOf pool (r .0))
   unfolding judgeDatas Each dataOctets
   datas-back [] i at to r u e s =
       let q : ([], i) ≡ r = done-inj e in
       let s′ : Stands m at [] to = rw (← q) at s in
       let w : at ≡ to = omega (arith, s′ .ends) in
-      ([], rw (← w) (no-datas m v at), rw (← q) refl)
+      ([], rw (← w) (no-datas big m v at), rw (← q) refl)
   datas-back (d ∷ ds) i at to r u e s =
       let p = inv-both _ _ _ _ e in
       let q : (p .value ∷ p .other .0, p .other .1) ≡ r = p .is in
@@ -292,7 +295,7 @@ module _ (l pool m : List ℕ) (v : ℕ) (small : Numbers64 l) where
 
   -- A row of nothing is read where it stands.
   nothing-back : (s : Shape) (gs : Groups) (f : ℕ → Result (Values × ℕ)) (at to : ℕ) → f at ≡ done (nil, at)
-      → Stands m at (rowOctets pool s gs nil) to → RowBack nil to (f at)
+      → Stands m at (rowOctets big pool s gs nil) to → RowBack nil to (f at)
   unfolding rowOctets
   nothing-back s gs f at to e o =
       let q : at ≡ to = omega (arith, o .ends) in
@@ -300,37 +303,37 @@ module _ (l pool m : List ℕ) (v : ℕ) (small : Numbers64 l) where
 
   block-reads : (s : Shape) (f : ℕ → Result (Values × ℕ)) (n at x to : ℕ) (g : Values) (ds : List Answer)
       → at + n ≤ length m
-      → f (at + n) ≡ done (g, x) → readDatas m v (s .datas) 0 x ≡ done (ds, to)
-      → readBlock m v s f 0 n at ≡ done (map (readField m v at) (s .fields), g, ds, to)
+      → f (at + n) ≡ done (g, x) → readDatas big m v (s .datas) 0 x ≡ done (ds, to)
+      → readBlock big m v s f 0 n at ≡ done (map (readField big m v at) (s .fields), g, ds, to)
   unfolding readBlock must _>>=_
   block-reads s f n at x to g ds h e q = rw (le-leb (at + n) (length m) h, e, q) refl
 
   module _ (s : Shape) (gs : Groups) (good : GoodShape v s) (f′ : ℕ → Result (Values × ℕ)) (f : ℕ → Result (Values × ℕ))
-      (ih : (i at to : ℕ) (r : Values × ℕ) → f′ i ≡ done r → Stands m at (rowOctets pool s gs (r .0)) to
+      (ih : (i at to : ℕ) (r : Values × ℕ) → f′ i ≡ done r → Stands m at (rowOctets big pool s gs (r .0)) to
       → RowBack (r .0) to (f at)) where
     abbrev pub entryOctets : Entry → List ℕ
-    entryOctets b = blockOctets pool (s .length) 0 (s .fields) (b .0)
-        ++ (rowOctets pool s gs (b .1) ++ dataOctets pool (b .2))
+    entryOctets b = blockOctets big pool (s .length) 0 (s .fields) (b .0)
+        ++ (rowOctets big pool s gs (b .1) ++ dataOctets big pool (b .2))
 
     abbrev readOne : ℕ → Result Entry
-    readOne at = readBlock m v s f 0 (s .length) at
+    readOne at = readBlock big m v s f 0 (s .length) at
 
     block-forth : (i j k e at to : ℕ) (fs : List Answer) (g : Values) (ds : List Answer)
         → judgeFields l pool (s .fields) i ≡ done (fs, j) → f′ j ≡ done (g, k)
         → judgeDatas l pool (s .datas) k ≡ done (ds, e)
         → Stands m at (entryOctets (fs, g, ds, e)) to → EntryBack (fs, g, ds, e) to (readOne at)
     block-forth i j k e at to fs g ds a b c st =
-        let xs = blockOctets pool (s .length) 0 (s .fields) fs in
-        let ys = rowOctets pool s gs g in
+        let xs = blockOctets big pool (s .length) 0 (s .fields) fs in
+        let ys = rowOctets big pool s gs g in
         let mid = at + s .length in
         let start : at + 0 ≡ at = omega arith in
-        let long = fields-long l pool (s .fields) (s .length) 0 i (fs, j) (good .fields) (omega arith) a in
-        let o₁ = split-to xs (ys ++ dataOctets pool ds) mid (omega (arith, long)) st in
-        let o₂ = split-to ys (dataOctets pool ds) (mid + length ys) refl (o₁ .1) in
+        let long = fields-long big l pool (s .fields) (s .length) 0 i (fs, j) (good .fields) (omega arith) a in
+        let o₁ = split-to xs (ys ++ dataOctets big pool ds) mid (omega (arith, long)) st in
+        let o₂ = split-to ys (dataOctets big pool ds) (mid + length ys) refl (o₁ .1) in
         let w₂ = ih j mid (mid + length ys) (g, k) b (o₂ .0) in
         let w₃ = datas-back (s .datas) k (mid + length ys) to (ds, e) (good .datasIn) c (o₂ .1) in
         record {
-          fields = map (readField m v at) (s .fields);
+          fields = map (readField big m v at) (s .fields);
           groups = w₂ .values;
           datas = w₃ .0;
           reads = block-reads s f (s .length) at (mid + length ys) to (w₂ .values) (w₃ .0) (o₁ .0 .fits) (w₂ .reads)
@@ -360,13 +363,13 @@ module _ (l pool m : List ℕ) (v : ℕ) (small : Numbers64 l) where
     entries-next k at x to fs g ds r e q = rw (e, q) refl
 
     entries-forth : (k i at to : ℕ) (b : Entry) (r : Values × ℕ) → judgeBlock l pool s f′ i ≡ done b
-        → ((x : ℕ) → Stands m x (rowOctets pool s gs (r .0)) to → RowBack (r .0) to (readEntries k readOne x))
-        → Stands m at (rowOctets pool s gs (entry (b .0) (b .1) (b .2) (r .0))) to
+        → ((x : ℕ) → Stands m x (rowOctets big pool s gs (r .0)) to → RowBack (r .0) to (readEntries k readOne x))
+        → Stands m at (rowOctets big pool s gs (entry (b .0) (b .1) (b .2) (r .0))) to
         → RowBack (entry (b .0) (b .1) (b .2) (r .0)) to (readEntries (suc k) readOne at)
     unfolding rowOctets treeContents
     entries-forth k i at to b r e rest st =
         let mid = at + length (entryOctets b) in
-        let o = split-to (entryOctets b) (rowOctets pool s gs (r .0)) mid refl st in
+        let o = split-to (entryOctets b) (rowOctets big pool s gs (r .0)) mid refl st in
         let w = block-back i at mid b e (o .0) in
         let z = rest mid (o .1) in
         record {
@@ -377,50 +380,50 @@ module _ (l pool m : List ℕ) (v : ℕ) (small : Numbers64 l) where
 
     entries-back : (k i at to : ℕ) (r : Values × ℕ)
         → judgeEntries l pool k (judgeBlock l pool s f′) i ≡ done r
-        → Stands m at (rowOctets pool s gs (r .0)) to → RowBack (r .0) to (readEntries k readOne at)
+        → Stands m at (rowOctets big pool s gs (r .0)) to → RowBack (r .0) to (readEntries k readOne at)
     unfolding judgeEntries
     entries-back zero i at to r e st =
-        subst (λ (x : Values × ℕ). Stands m at (rowOctets pool s gs (x .0)) to
+        subst (λ (x : Values × ℕ). Stands m at (rowOctets big pool s gs (x .0)) to
         → RowBack (x .0) to (readEntries 0 readOne at)) (done-inj e)
         (nothing-back s gs (readEntries 0 readOne) at to (unfold readEntries in refl)) st
     entries-back (suc k) i at to r e st =
         let p = inv-both _ _ _ _ e in
-        subst (λ (x : Values × ℕ). Stands m at (rowOctets pool s gs (x .0)) to
+        subst (λ (x : Values × ℕ). Stands m at (rowOctets big pool s gs (x .0)) to
         → RowBack (x .0) to (readEntries (suc k) readOne at)) (p .is)
         (entries-forth k i at to (p .value) (p .other) (p .first)
         (λ x o. entries-back k (p .value .3) x to (p .other) (p .second) o)) st
 
-  dimension-reads : (least n k at : ℕ) → AreAt m at (n ∷ k ∷ []) → at + dimensionSize ≤ length m → n < null16
+  dimension-reads : (least n k at : ℕ) → AreAt big m at (n ∷ k ∷ []) → at + dimensionSize ≤ length m → n < null16
       → k < null16 → least ≤ n
-      → readDimension m least at ≡ done (n, k)
+      → readDimension big m least at ≡ done (n, k)
   unfolding readDimension must _>>=_ _and_ AreAt
   dimension-reads least n k at a c d e f =
       rw (a .0, a .1 .0, le-leb (at + 4) (length m) c, lt-ltb n null16 d, lt-ltb k null16 e, le-leb least n f) refl
 
   groups-next : (i since : ℕ) (s : Shape) (inner rest : Groups) (at x to n k : ℕ) (es r : Values) → since ≤ v
-      → readDimension m (need v s) at ≡ done (n, k)
-      → readEntries k (readBlock m v s (readGroups m v inner 0) 0 n) (at + dimensionSize) ≡ done (es, x)
-      → readGroups m v rest 0 x ≡ done (r, to)
-      → readGroups m v (more i since s inner rest) 0 at ≡ done (group (Group k) es r, to)
+      → readDimension big m (need v s) at ≡ done (n, k)
+      → readEntries k (readBlock big m v s (readGroups big m v inner 0) 0 n) (at + dimensionSize) ≡ done (es, x)
+      → readGroups big m v rest 0 x ≡ done (r, to)
+      → readGroups big m v (more i since s inner rest) 0 at ≡ done (group (Group k) es r, to)
   unfolding readGroups readGroup _>>=_ if_then_else_
   groups-next i since s inner rest at x to n k es r h a b c = rw (le-leb since v h, a, b, c) refl
 
   groups-forth : (i since : ℕ) (s : Shape) (inner rest : Groups) (s₀ : Shape) (k at to : ℕ) (es r : Values) → since ≤ v
       → GoodShape v s → k < null16
-      → ((x y : ℕ) → Stands m x (rowOctets pool s inner es) y
-      → RowBack es y (readEntries k (readBlock m v s (readGroups m v inner 0) 0 (s .length)) x))
-      → ((x y : ℕ) → Stands m x (rowOctets pool s₀ rest r) y → RowBack r y (readGroups m v rest 0 x))
-      → Stands m at (rowOctets pool s₀ (more i since s inner rest) (group (Group k) es r)) to
-      → RowBack (group (Group k) es r) to (readGroups m v (more i since s inner rest) 0 at)
+      → ((x y : ℕ) → Stands m x (rowOctets big pool s inner es) y
+      → RowBack es y (readEntries k (readBlock big m v s (readGroups big m v inner 0) 0 (s .length)) x))
+      → ((x y : ℕ) → Stands m x (rowOctets big pool s₀ rest r) y → RowBack r y (readGroups big m v rest 0 x))
+      → Stands m at (rowOctets big pool s₀ (more i since s inner rest) (group (Group k) es r)) to
+      → RowBack (group (Group k) es r) to (readGroups big m v (more i since s inner rest) 0 at)
   unfolding rowOctets entriesIn treeContents contentOf Each
   groups-forth i since s inner rest s₀ k at to es r h good few entries after st =
       let d = s .length ∷ k ∷ [] in
-      let xs = rowOctets pool s inner es in
-      let ys = rowOctets pool s₀ rest r in
+      let xs = rowOctets big pool s inner es in
+      let ys = rowOctets big pool s₀ rest r in
       let mid = at + dimensionSize in
-      let o₁ = split-to (numbers16 d) (xs ++ ys) mid (omega (arith, length-numbers d)) st in
+      let o₁ = split-to (numbers16 big d) (xs ++ ys) mid (omega (arith, length-numbers big d)) st in
       let o₂ = split-to xs ys (mid + length xs) refl (o₁ .1) in
-      let reads = dimension-reads (need v s) (s .length) k at (numbers-are d (good .short, (few, tt)) (o₁ .0))
+      let reads = dimension-reads (need v s) (s .length) k at (numbers-are big d (good .short, (few, tt)) (o₁ .0))
       (o₁ .0 .fits) (good .short) few
       (need-within v (s .length) 0 0 (s .fields) (good .fields) (omega arith)) in
       let w = entries mid (mid + length xs) (o₂ .0) in
@@ -434,21 +437,21 @@ module _ (l pool m : List ℕ) (v : ℕ) (small : Numbers64 l) where
 
   pub groups-back : (gs : Groups) (s₀ : Shape) (i at to : ℕ) (r : Values × ℕ) → GoodGroups v gs
       → judgeGroups l pool gs i ≡ done r
-      → Stands m at (rowOctets pool s₀ gs (r .0)) to → RowBack (r .0) to (readGroups m v gs 0 at)
+      → Stands m at (rowOctets big pool s₀ gs (r .0)) to → RowBack (r .0) to (readGroups big m v gs 0 at)
   unfolding judgeGroups GoodGroups
   groups-back none s₀ i at to r good e st =
-      subst (λ (x : Values × ℕ). Stands m at (rowOctets pool s₀ none (x .0)) to
-      → RowBack (x .0) to (readGroups m v none 0 at)) (done-inj e)
-      (nothing-back s₀ none (readGroups m v none 0) at to (no-groups m v at)) st
+      subst (λ (x : Values × ℕ). Stands m at (rowOctets big pool s₀ none (x .0)) to
+      → RowBack (x .0) to (readGroups big m v none 0 at)) (done-inj e)
+      (nothing-back s₀ none (readGroups big m v none 0) at to (no-groups big m v at)) st
   groups-back (more id since s inner rest) s₀ i at to r good e st =
       let n = inv-bind _ _ _ (inv-bind _ _ _ e .next) in
       let p = inv-both _ _ _ _ (n .next) in
       let k = second l i in
       let gs = more id since s inner rest in
-      subst (λ (x : Values × ℕ). Stands m at (rowOctets pool s₀ gs (x .0)) to
-      → RowBack (x .0) to (readGroups m v gs 0 at)) (p .is)
+      subst (λ (x : Values × ℕ). Stands m at (rowOctets big pool s₀ gs (x .0)) to
+      → RowBack (x .0) to (readGroups big m v gs 0 at)) (p .is)
       (groups-forth id since s inner rest s₀ k at to (p .value .0) (p .other .0) (good .0) (good .1)
       (ltb-true k null16 (inv-must _ _ _ _ (n .first)))
-      (λ x y o. entries-back s inner (good .1) (judgeGroups l pool inner) (readGroups m v inner 0)
+      (λ x y o. entries-back s inner (good .1) (judgeGroups l pool inner) (readGroups big m v inner 0)
       (λ i′ at′ to′ r′ e′ o′. groups-back inner s i′ at′ to′ r′ (good .2) e′ o′) k (suc i) x y (p .value) (p .first) o)
       (λ x y o. groups-back rest s₀ (p .value .1) x y (p .other) (good .3) (p .second) o)) st

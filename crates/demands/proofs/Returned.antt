@@ -1,7 +1,7 @@
 -- The second round trip, from octets to octets: a message that could have been written with the book, listed and
 -- written back with itself as pool, is itself.
 use mathlib.Core.Path.{_∙_, _≡_, ap, refl, subst, sym}
-use mathlib.Core.Bool.{true}
+use mathlib.Core.Bool.{Bool, true}
 use mathlib.Core.List.{List}
 use mathlib.Core.Option.{some}
 use Prim.Native.Nat.{_-_, _≤_, ℕ}
@@ -9,7 +9,7 @@ use native.Mathlib.Nat.{le-refl}
 use native.Mathlib.Omega.{arith}
 use lib.ListN.{length, length-map}
 use borrow.Author.Tests.{eqb-true, le-leb, leb-true}
-use Rattle.layout.specs.Result.{_>>=_, _and_, done, if_then_else_, must, orRefuse}
+use Rattle.layout.specs.Result.{Result, _>>=_, _and_, done, if_then_else_, must, orRefuse}
 use Rattle.layout.specs.Octets.{AllOctets}
 use Rattle.layout.specs.Book.{Book, Data, Template, dataSinces, findTemplate, groupSinces, present}
 use Rattle.layout.specs.BookRules.{bookOf}
@@ -29,12 +29,18 @@ use Rattle.layout.proofs.Stands.{AreAt, Stands, join, nothing-stands, numbers-s
 
 -- ---- the root of a message of the book's own version and root block length
 
+-- Its block, with surplus groups and data.
+abbrev rootBlock : Book → Template → List ℕ → ℕ → ℕ → Result Entry
+rootBlock b t m groups datas =
+    let big = b .format .big in
+    let v = b .version in
+    readBlock big m v (t .shape) (readGroups big m v (t .groups) groups) datas (t .shape .length) headerSize
+
 record RootRead (b : Book) (t : Template) (m : List ℕ) (r : Values) : Type 0 where
   root : Entry
-  groups-is : groupCount m ≡ length (groupSinces (t .groups))
-  datas-is : dataCount m ≡ length (t .shape .datas)
-  reads : readBlock m (b .version) (t .shape) (readGroups m (b .version) (t .groups) 0) 0 (t .shape .length) headerSize
-      ≡ done root
+  groups-is : groupCount (b .format .big) m ≡ length (groupSinces (t .groups))
+  datas-is : dataCount (b .format .big) m ≡ length (t .shape .datas)
+  reads : rootBlock b t m 0 0 ≡ done root
   ends : root .3 ≡ length m
   is : entry (root .0) (root .1) (root .2) nil ≡ r
 
@@ -42,30 +48,30 @@ count-is : (v : ℕ) (ss : List ℕ) (n : ℕ) → UpTo v ss → countGood v v s
 unfolding countGood if_then_else_
 count-is v ss n u e = eqb-true n (present v ss) (rw (le-leb v v (le-refl v)) at e)
 
-root-read : (b : Book) (t : Template) (m : List ℕ) (r : Values) → Writable b t → versionOf m ≡ b .version
-    → blockLength m ≡ t .shape .length
-    → readRoot (b .version) t m ≡ done r → RootRead b t m r
+root-read : (b : Book) (t : Template) (m : List ℕ) (r : Values) → Writable b t → let big = b .format .big in
+    versionOf big m ≡ b .version → blockLength big m ≡ t .shape .length
+    → readRoot big (b .version) t m ≡ done r → RootRead b t m r
 unfolding readRoot surplusOf readWhole
 root-read b t m r w ve le e =
     let v = b .version in
+    let big = b .format .big in
     let gs = groupSinces (t .groups) in
     let ds = dataSinces (t .shape .datas) in
     let p₁ = inv-bind _ _ _ (rw (ve, le) at e) in
     let p₂ = inv-both _ _ _ _ (inv-bind _ _ _ (p₁ .first) .next) in
     let left = p₂ .is in
     let p₄ = inv-both _ _ _ _ (rw (sym left, ve, le) at (p₁ .next)) in
-    let g = count-is v gs (groupCount m) (w .groupsIn) (inv-must _ _ _ _ (p₂ .first)) in
-    let d = count-is v ds (dataCount m) (w .shape .datasIn) (inv-must _ _ _ _ (p₂ .second)) in
-    let zg : 0 ≡ groupCount m - present v gs = omega (arith, g) in
-    let zd : 0 ≡ dataCount m - present v ds = omega (arith, d) in
+    let g = count-is v gs (groupCount big m) (w .groupsIn) (inv-must _ _ _ _ (p₂ .first)) in
+    let d = count-is v ds (dataCount big m) (w .shape .datasIn) (inv-must _ _ _ _ (p₂ .second)) in
+    let zg : 0 ≡ groupCount big m - present v gs = omega (arith, g) in
+    let zd : 0 ≡ dataCount big m - present v ds = omega (arith, d) in
     record {
       root = p₄ .value;
       groups-is = g ∙ present-up v v gs (w .groupsIn) (le-refl v);
       datas-is = d ∙ present-up v v ds (w .shape .datasIn) (le-refl v)
           ∙ length-map (t .shape .datas) (λ (x : Data). x .since);
-      reads = ap (λ (x : ℕ). readBlock m v (t .shape) (readGroups m v (t .groups) x) 0 (t .shape .length) headerSize) zg
-          ∙ ap (λ (x : ℕ). readBlock m v (t .shape) (readGroups m v (t .groups) (groupCount m - present v gs)) x
-          (t .shape .length) headerSize) zd
+      reads = ap (λ (x : ℕ). rootBlock b t m x 0) zg
+          ∙ ap (rootBlock b t m (groupCount big m - present v gs)) zd
           ∙ p₄ .first;
       ends = eqb-true (p₄ .value .3) (length m) (inv-must _ _ _ _ (p₄ .second));
       is = p₄ .is;
@@ -74,76 +80,81 @@ root-read b t m r w ve le e =
 -- ---- the tree is printed as the message, and the listing judged to be the tree
 
 module _ (b : Book) (t : Template) (m : List ℕ) (octets : AllOctets m) (w : Writable b t) where
+  abbrev big : Bool
+  big = b .format .big
+
   root-stands : (x : Entry) → let r = entry (x .0) (x .1) (x .2) nil in x .3 ≡ length m
-      → OwnBlocks m (t .shape) (t .groups) headerSize r → AllSound r
-      → readBlock m (b .version) (t .shape) (readGroups m (b .version) (t .groups) 0) 0 (t .shape .length) headerSize
-      ≡ done x
-      → Stands m headerSize (rowOctets m (t .shape) (t .groups) r) (length m)
+      → OwnBlocks big m (t .shape) (t .groups) headerSize r → AllSound r
+      → rootBlock b t m 0 0 ≡ done x
+      → Stands m headerSize (rowOctets big m (t .shape) (t .groups) r) (length m)
   unfolding OwnBlocks AllSound rowOctets
   root-stands x e own sound q =
       let v = b .version in
-      let s = block-stands m v octets (t .shape) (t .groups) (readGroups m v (t .groups) 0) headerSize x (w .shape)
-      (groups-stand m v octets (t .groups) (t .shape) (w .groups)) (own .0) (own .1) (own .2) (sound .0) (sound .1) q
-      .0 in
-      join _ _ (subst (λ (y : ℕ). Stands m headerSize (entryPrinted m v octets (t .shape) (t .groups) x) y) e s)
+      let s = block-stands big m v octets (t .shape) (t .groups) (readGroups big m v (t .groups) 0) headerSize x
+      (w .shape) (groups-stand big m v octets (t .groups) (t .shape) (w .groups)) (own .0) (own .1) (own .2) (sound .0)
+      (sound .1) q .0 in
+      join _ _ (subst (λ (y : ℕ). Stands m headerSize (entryPrinted big m v octets (t .shape) (t .groups) x) y) e s)
       (nothing-stands m (length m) (le-refl (length m)))
 
-  printed : (r : Values) → headerSize ≤ length m → schemaId m ≡ b .schema → templateId m ≡ t .id → AsWritten b t m r
-      → RootRead b t m r
+  printed : (r : Values) → headerSize ≤ length m → schemaId big m ≡ b .schema → templateId big m ≡ t .id
+      → AsWritten b t m r → RootRead b t m r
       → messageOctets b t m r ≡ m
   unfolding messageOctets AreAt
   printed r h schema id a k =
-      let root = subst (λ (x : Values). OwnBlocks m (t .shape) (t .groups) headerSize x → AllSound x
-      → Stands m headerSize (rowOctets m (t .shape) (t .groups) x) (length m)) (k .is)
+      let root = subst (λ (x : Values). OwnBlocks big m (t .shape) (t .groups) headerSize x → AllSound x
+      → Stands m headerSize (rowOctets big m (t .shape) (t .groups) x) (length m)) (k .is)
       (λ own sound. root-stands (k .root) (k .ends) own sound (k .reads)) (a .blocks) (a .sound) in
-      stands-all (join _ _ (numbers-stand m octets 0 headerSize (headerOf b t) (omega arith) h
+      stands-all (join _ _ (numbers-stand big m octets 0 headerSize (headerOf b t) (omega arith) h
       (a .length, (id, (schema, (a .version, (k .groups-is, (k .datas-is, tt))))))) root)
 
   judged : (r : Values) → AllSound r → RootRead b t m r → judgeListing (listing r) m t ≡ done r
   judged r sound k =
       subst (λ (x : Values). AllSound x → judgeListing (listing x) m t ≡ done x) (k .is)
-      (λ i. listing-judged _ m (b .version) t (t .shape .length) headerSize (k .root) (w .shape) (w .groups)
+      (λ i. listing-judged big _ m (b .version) t (t .shape .length) headerSize (k .root) (w .shape) (w .groups)
       (need-within (b .version) (t .shape .length) 0 0 (t .shape .fields) (w .shape .fields) (omega arith)) i
       (k .reads) refl) sound
 
 -- ---- from the octets
 
 -- The header of an accepted message.
-record HeaderRead (schema : ℕ) (m : List ℕ) : Type 0 where
-  long : headerSize ≤ length m
-  short : length m ≤ 65535
-  same : schemaId m ≡ schema
+pub record HeaderRead (big : Bool) (schema : ℕ) (m : List ℕ) : Type 0 where
+  pub long : headerSize ≤ length m
+  pub short : length m ≤ 65535
+  pub same : schemaId big m ≡ schema
 
-header-read : (schema : ℕ) (m : List ℕ) (u : Unit {0}) → checkHeader schema m ≡ done u → HeaderRead schema m
+pub header-read : (big : Bool) (schema : ℕ) (m : List ℕ) (u : Unit {0}) → checkHeader big schema m ≡ done u
+    → HeaderRead big schema m
 unfolding checkHeader
-header-read schema m u e =
+header-read big schema m u e =
     let p = inv-bind _ _ _ e in
     let h = inv-must _ _ _ _ (p .first) in
     record {
       long = leb-true headerSize (length m) (and-left _ _ h);
       short = leb-true (length m) 65535 (and-right _ _ h);
-      same = eqb-true (schemaId m) schema (inv-must _ _ _ u (inv-bind _ _ _ (p .next) .next));
+      same = eqb-true (schemaId big m) schema (inv-must _ _ _ u (inv-bind _ _ _ (p .next) .next));
     }
 
-message-read : (b : Book) (t : Template) (m : List ℕ) (r : Values) → findTemplate (templateId m) (b .templates) ≡ some t
+message-read : (b : Book) (t : Template) (m : List ℕ) (r : Values)
+    → findTemplate (templateId (b .format .big) m) (b .templates) ≡ some t
     → readMessage b m ≡ done r
-    → HeaderRead (b .schema) m × (readRoot (b .version) t m ≡ done r)
+    → HeaderRead (b .format .big) (b .schema) m × (readRoot (b .format .big) (b .version) t m ≡ done r)
 unfolding readMessage orRefuse
 message-read b t m r h q =
+    let big = b .format .big in
     let p = inv-bind _ _ _ q in (
-      header-read (b .schema) m (p .value) (p .first),
-      sym (bind-done t (λ x. readRoot (b .version) x m))
-          ∙ rw h at (p .next),
+      header-read big (b .schema) m (p .value) (p .first),
+      sym (bind-done t (λ x. readRoot big (b .version) x m)) ∙ rw h at (p .next),
     )
 
 pub written-back : (book m : List ℕ) (room : ℕ) (b : Book) (t : Template) (r : Values) → AllOctets m
     → bookOf book ≡ done b
-    → findTemplate (templateId m) (b .templates) ≡ some t → readMessage b m ≡ done r → AsWritten b t m r
+    → findTemplate (templateId (b .format .big) m) (b .templates) ≡ some t → readMessage b m ≡ done r
+    → AsWritten b t m r
     → length m ≤ room
-    → writeOf book (templateId m) (listing r) m room ≡ done m
+    → writeOf book (templateId (b .format .big) m) (listing r) m room ≡ done m
 unfolding writeOf must _>>=_ orRefuse _and_
 written-back book m room b t r octets e h q a fits =
-    let c = accepted book b (templateId m) t e h in
+    let c = accepted book b (templateId (b .format .big) m) t e h in
     let w = writable b t (c .1) in
     let k = message-read b t m r h q in
     let root = root-read b t m r w (a .version) (a .length) (k .1) in

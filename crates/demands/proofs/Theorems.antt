@@ -1,11 +1,12 @@
 -- The theorems, over the definitions of document 01 in crates/layout/specs. Octets, words and numbers are natural
 -- numbers; a book, a message and a pool are lists of octets, a listing is a list of numbers. An operation comes to
 -- `done` with its result or `refused` with number and place.
-use mathlib.Core.Path.{_∙_, _≡_}
+use mathlib.Core.Path.{_∙_, _≡_, ap, sym}
 use mathlib.Core.Bool.{true}
 use mathlib.Core.List.{List}
 use mathlib.Core.Option.{some}
 use Prim.Native.Nat.{_*_, _<_, _≤_, ℕ}
+use native.Mathlib.Omega.{arith}
 use lib.ListN.{length}
 use Rattle.layout.specs.Result.{Each, _>>=_, done}
 use Rattle.layout.specs.Octets.{AllOctets, Numbers64}
@@ -18,14 +19,17 @@ use Rattle.layout.specs.Message.{readMessage, templateId, versionOf}
 use Rattle.layout.specs.Reading.{checkOf, hasPlace, listOf, placeOf}
 use Rattle.layout.specs.Writing.{judgeListing, messageOctets, writeOf, writtenLength}
 use Rattle.layout.specs.Extension.{Extends}
-use Rattle.layout.specs.Demands.{AlikeOrUnlisted, AsWritten, contents, namesAt}
+use Rattle.layout.specs.Demands.{AlikeOrUnlisted, AsWritten, OtherWay, contents, namesAt, otherOrder, reordered}
 use Rattle.layout.proofs.Lengths.{written-long}
 use Rattle.demands.proofs.Kept.{seen-by-none, seen-says}
+use Rattle.demands.proofs.OtherBook.{other-book}
+use Rattle.demands.proofs.OtherOrder.{turned-message, writes-alike}
 use Rattle.demands.proofs.Returned.{written-back}
 use Rattle.demands.proofs.TwoBooks.{accepts-too, same-verdict, seen-answer}
 use Rattle.demands.proofs.Written.{reads-again, written-by}
 use Rattle.layout.proofs.Accepted.{EachField, accepted}
 use Rattle.layout.proofs.Bits.{bits-within}
+use Rattle.layout.proofs.Results.{bind-done}
 use Rattle.layout.specs.declared.Element.{Element}
 
 -- ---- an accepted book
@@ -59,11 +63,11 @@ written-reads-back book id l pool room m small e =
 pub read-writes-back : (book m : List ℕ) (room : ℕ) (b : Book) (t : Template) (r : Values)
     → AllOctets m
     → bookOf book ≡ done b
-    → findTemplate (templateId m) (b .templates) ≡ some t
+    → findTemplate (templateId (b .format .big) m) (b .templates) ≡ some t
     → readMessage b m ≡ done r
     → AsWritten b t m r
     → length m ≤ room
-    → writeOf book (templateId m) (listing r) m room ≡ done m
+    → writeOf book (templateId (b .format .big) m) (listing r) m room ≡ done m
 read-writes-back = written-back
 
 -- "Its length is 12 plus the declared root block, 4 per group record, the declared block per entry, and 2 plus its
@@ -86,7 +90,7 @@ module _
     (extends : Extends old new)
     (m : List ℕ)
     (t : Template)
-    (inBoth : findTemplate (templateId m) (old .templates) ≡ some t) where
+    (inBoth : findTemplate (templateId (old .format .big) m) (old .templates) ≡ some t) where
   -- "if the newer accepts it, so does the older"
   pub older-accepts : checkOf newer m ≡ done tt → checkOf older m ≡ done tt
   older-accepts = accepts-too older newer old new isOlder isNewer extends m t inBoth
@@ -118,5 +122,39 @@ module _
 
   -- "if the message's version is no later than the older book's, both accept or both refuse, with the same number and
   -- place"
-  pub both-say-the-same : versionOf m ≤ old .version → checkOf older m ≡ checkOf newer m
+  pub both-say-the-same : versionOf (old .format .big) m ≤ old .version → checkOf older m ≡ checkOf newer m
   both-say-the-same = same-verdict older newer old new isOlder isNewer extends m t inBoth
+
+-- ---- "A venue that sends big-endian": a book, and the same book with the other order word. All that is above holds of
+-- either order, and this of both at once.
+
+module _ (book : List ℕ) (b : Book) (isBook : bookOf book ≡ done b) where
+  -- With the other order word it is the same book but for its order.
+  pub other-order : bookOf (reordered book) ≡ done (otherOrder b)
+  other-order = other-book book b isBook
+
+  -- Every message that the one reads has a message, the same but for numbers turned, that the other reads alike.
+  pub turned-reads-alike : (m : List ℕ) (r : Values) → readMessage b m ≡ done r → (m′ : List ℕ) × OtherWay b m r m′
+  turned-reads-alike m r = turned-message book m b r isBook
+
+  -- For a listing both have a message, of one length, or refuse alike ..
+  pub both-orders-write-alike : (id : ℕ) (l pool : List ℕ) (room : ℕ)
+      → (writeOf (reordered book) id l pool room >>= λ m. done (length m))
+      ≡ (writeOf book id l pool room >>= λ m. done (length m))
+  unfolding writeOf
+  both-orders-write-alike id l pool room =
+      rw (isBook, other-order, bind-done, bind-done) (writes-alike book b isBook id l pool room)
+
+  -- .. and what they write reads back alike.
+  pub both-orders-read-back-alike : (id : ℕ) (l pool : List ℕ) (room : ℕ) (m m′ : List ℕ)
+      → Numbers64 l
+      → writeOf book id l pool room ≡ done m
+      → writeOf (reordered book) id l pool room ≡ done m′
+      → (n : ℕ) × (read read′ : List ℕ) × (listOf book m (length l) ≡ done (n, read))
+      × (listOf (reordered book) m′ (length l) ≡ done (n, read′))
+      × (contents m read ≡ contents m′ read′)
+  both-orders-read-back-alike id l pool room m m′ small e e′ =
+      let r = written-reads-back book id l pool room m small e in
+      let r′ = written-reads-back (reordered book) id l pool room m′ small e′ in
+      let one : r′ .0 ≡ r .0 = omega (arith, r .3, r′ .3) in
+      (r .0, r .1, r′ .1, r .2, r′ .2 ∙ ap (λ (n : ℕ). done (n, r′ .1)) one, r .5 ∙ sym (r′ .5))

@@ -1,5 +1,5 @@
 -- Demand 3: what an older book makes of a message that a newer book, its legal extension, accepts.
-use mathlib.Core.Path.{_∙_, _≡_, ap, refl, sym}
+use mathlib.Core.Path.{_∙_, _≡_, ap, refl, subst, sym}
 use mathlib.Core.Bool.{Bool, false, false≢true, true}
 use mathlib.Core.List.{List, [], _++_, _∷_}
 use mathlib.Core.Option.{some}
@@ -10,8 +10,8 @@ use lib.ListN.{length, length-append}
 use borrow.Author.Tests.{eqb-true, le-leb, leb-false, leb-true, lt-ltb, ltb-true}
 use Rattle.layout.specs.Result.{Result, _>>=_, _and_, done, if_then_else_, must, orRefuse, refused}
 use Rattle.layout.specs.Octets.{number16}
-use Rattle.layout.specs.Book.{Book, Data, Field, Groups, Shape, Template, dataSinces, findTemplate, groupSinces, more}
-use Rattle.layout.specs.Book.{none, present}
+use Rattle.layout.specs.Book.{Book, Data, Field, Format, Groups, Shape, Template, dataSinces, findTemplate, groupSinces}
+use Rattle.layout.specs.Book.{more, none, present}
 use Rattle.layout.specs.BookRules.{bookOf, layoutGood}
 use Rattle.layout.specs.Values.{Step, Values, answerAt, entry, nil}
 use Rattle.layout.specs.Message.{blockLength, countGood, readMessage, readRoot, readWhole, surplusOf, templateId}
@@ -83,50 +83,50 @@ three-tests true false c n₁ p₁ n₂ p₂ n₃ p₃ x k = refl
 three-tests true true false n₁ p₁ n₂ p₂ n₃ p₃ x k = refl
 three-tests true true true n₁ p₁ n₂ p₂ n₃ p₃ x k = refl
 
-module _ (vo vn : ℕ) (old : Template) (news : List Template) (m : List ℕ) (strict : Bool) (newer : vo < vn)
+module _ (big : Bool) (vo vn : ℕ) (old : Template) (news : List Template) (m : List ℕ) (strict : Bool) (newer : vo < vn)
     (x : StandsIn vo old news) (layout : layoutGood (x .newer) ≡ true)
     (datasIn : UpTo vo (dataSinces (old .shape .datas)))
     (groupsIn : UpTo vo (groupSinces (old .groups)))
-    (early : strict ≡ true → versionOf m ≤ vo) where
-  sees-root : Sees strict (kept (old .shape) (old .groups)) (readRoot vo old m) (readRoot vn (x .newer) m)
+    (early : strict ≡ true → versionOf big m ≤ vo) where
+  sees-root : Sees strict (kept (old .shape) (old .groups)) (readRoot big vo old m) (readRoot big vn (x .newer) m)
   unfolding readRoot surplusOf readWhole kept
   sees-root =
-      let v = versionOf m in
+      let v = versionOf big m in
       let new = x .newer in
       let fields = x .shape .fields in
       let datas = x .shape .datas in
-      let g = present-groups m v strict vo true (old .groups) (new .groups) (x .groups) in
+      let g = present-groups big m v strict vo true (old .groups) (new .groups) (x .groups) in
       let d = present-datas v vo (old .shape .datas) (new .shape .datas) datas in
       let dl : present v (dataSinces (old .shape .datas)) ≤ present v (dataSinces (new .shape .datas)) =
       omega (arith, d) in
       let de : v ≤ vo → present v (dataSinces (old .shape .datas)) ≡ present v (dataSinces (new .shape .datas)) =
       λ h. omega (arith, d, present-absent v vo (dataSinces (datas .added)) (datas .young) h) in
-      sees-equal strict _ (three-tests _ _ _ 14 0 15 8 15 10 _ (readWhole old m))
-      (three-tests _ _ _ 14 0 15 8 15 10 _ (readWhole new m))
+      sees-equal strict _ (three-tests _ _ _ 14 0 15 8 15 10 _ (readWhole big old m))
+      (three-tests _ _ _ 14 0 15 8 15 10 _ (readWhole big new m))
       (sees-bind strict (λ (u : Unit {0}). u) _ _ _ _ _
       (sees-leb strict _ _ _ 14 0 (need-extends v vo strict (new .shape .length) (old .shape .fields)
       (new .shape .fields) fields (and-right _ _ (and-left _ _ layout)) early)) λ _.
       sees-then strict (λ (u : Unit {0}). u) _ _ _ _ _
       (sees-count vo vn v (groupSinces (old .groups)) (groupSinces (new .groups)) newer groupsIn (g .0) (g .1) strict
-      (number16 m 8) 8 early) λ _ cg.
+      (number16 big m 8) 8 early) λ _ cg.
       sees-then strict (λ (u : Unit {0}). u) _ _ _ _ _
       (sees-count vo vn v (dataSinces (old .shape .datas))
-      (dataSinces (new .shape .datas)) newer datasIn dl de strict (number16 m 10) 10 early) λ _ cd.
+      (dataSinces (new .shape .datas)) newer datasIn dl de strict (number16 big m 10) 10 early) λ _ cd.
       sees-bind strict (keptBlock (old .shape) (old .groups)) _ _ _ _ _
-      (sees-block m v strict vo (old .shape) (new .shape) (old .groups) _ _ _ _ (blockLength m) 12 fields datas
+      (sees-block big m v strict vo (old .shape) (new .shape) (old .groups) _ _ _ _ (blockLength big m) 12 fields datas
       (omega (
         arith,
         d,
         count-covers vo vn v (dataSinces (old .shape .datas))
-            (dataSinces (new .shape .datas)) newer datasIn dl de (number16 m 10) (inv-must _ _ _ _ cd),
+            (dataSinces (new .shape .datas)) newer datasIn dl de (number16 big m 10) (inv-must _ _ _ _ cd),
       )) λ y.
-      sees-groups m v strict vo true (old .groups) (new .groups) (old .shape) _ _ y (x .groups)
+      sees-groups big m v strict vo true (old .groups) (new .groups) (old .shape) _ _ y (x .groups)
       (and-right _ _ layout) early
       (omega (
         arith,
         g .0,
         count-covers vo vn v (groupSinces (old .groups))
-            (groupSinces (new .groups)) newer groupsIn (g .0) (g .1) (number16 m 8) (inv-must _ _ _ _ cg),
+            (groupSinces (new .groups)) newer groupsIn (g .0) (g .1) (number16 big m 8) (inv-must _ _ _ _ cg),
       ))) λ b.
       sees-bind strict (λ (u : Unit {0}). u) _ _ _ _ _ (sees-same strict _) λ _.
       sees-done strict _ (entry (b .0) (b .1) (b .2) nil) _ refl)
@@ -188,26 +188,33 @@ verdicts f x (done a) h = rw h refl
 verdicts f x (refused n p) h = rw h refl
 
 module _ (o n : List ℕ) (old new : Book) (ao : bookOf o ≡ done old) (an : bookOf n ≡ done new) (x : Extends old new)
-    (m : List ℕ) (t : Template) (e : findTemplate (templateId m) (old .templates) ≡ some t) where
-  stands : (t .id ≡ templateId m) × StandsIn (old .version) t (new .templates)
-  stands = found-holds _ (old .templates) (x .templates) (templateId m) t e
+    (m : List ℕ) (t : Template) (e : findTemplate (templateId (old .format .big) m) (old .templates) ≡ some t) where
+  abbrev id : ℕ
+  id = templateId (old .format .big) m
+
+  stands : (t .id ≡ id) × StandsIn (old .version) t (new .templates)
+  stands = found-holds _ (old .templates) (x .templates) id t e
 
   newer : Template
   newer = stands .1 .newer
 
-  there : findTemplate (templateId m) (new .templates) ≡ some newer
+  there : findTemplate id (new .templates) ≡ some newer
   unfolding newer
   there = rw (← (stands .0)) (stands .1 .there)
 
-  sees-message : (strict : Bool) → (strict ≡ true → versionOf m ≤ old .version)
+  -- "A legal extension keeps the order": the newer book reads the same id.
+  found : findTemplate (templateId (new .format .big) m) (new .templates) ≡ some newer
+  found = subst (λ (f : Format). findTemplate (templateId (f .big) m) (new .templates) ≡ some newer) (x .format) there
+
+  sees-message : (strict : Bool) → (strict ≡ true → versionOf (old .format .big) m ≤ old .version)
       → Sees strict (kept (t .shape) (t .groups)) (readMessage old m) (readMessage new m)
   unfolding readMessage orRefuse newer
   sees-message strict h =
-      let w = writable old t (accepted o old (templateId m) t ao e .1) in
-      rw (x .schema, e, there, bind-done, bind-done)
+      let w = writable old t (accepted o old id t ao e .1) in
+      rw (x .schema, ← (x .format), e, there, bind-done, bind-done)
       (sees-bind strict (λ (u : Unit {0}). u) _ _ _ _ _ (sees-same strict _) λ _.
-      sees-root (old .version) (new .version) t (new .templates) m strict (x .version) (stands .1)
-      (accepted n new (templateId m) newer an there .1 .layout) (w .shape .datasIn) (w .groupsIn) h)
+      sees-root (old .format .big) (old .version) (new .version) t (new .templates) m strict (x .version) (stands .1)
+      (accepted n new id newer an there .1 .layout) (w .shape .datasIn) (w .groupsIn) h)
 
   older-reads : (r : Values) → readMessage new m ≡ done r → readMessage old m ≡ done (kept (t .shape) (t .groups) r)
   older-reads r q = seen-done false _ _ _ r (sees-message false λ z. absurd (false≢true z)) q
@@ -235,10 +242,10 @@ module _ (o n : List ℕ) (old new : Book) (ao : bookOf o ≡ done old) (an : bo
       let r = newer-reads a in
       let has = has-place (old .version) p y true (t .shape) (newer .shape) (t .groups) (newer .groups) (s .shape)
       (s .groups) h in
-      rw (ao, an, older-reads (r .0) (r .1), r .1, e, there, h, has, kept-answer p y (t .shape) (t .groups) (r .0) h)
+      rw (ao, an, older-reads (r .0) (r .1), r .1, e, found, h, has, kept-answer p y (t .shape) (t .groups) (r .0) h)
       (sym (bind-assoc (must (whole and leb (length p) 4 and true) 30 0) (λ _. answerAt p y (r .0))
       (λ z. done (beside (namesAt p y (t .shape) (t .groups)) z))))
 
-  pub same-verdict : versionOf m ≤ old .version → checkOf o m ≡ checkOf n m
+  pub same-verdict : versionOf (old .format .big) m ≤ old .version → checkOf o m ≡ checkOf n m
   unfolding checkOf
   same-verdict h = rw (ao, an, bind-done, bind-done) (verdicts _ _ _ (sees-message true λ _. h))

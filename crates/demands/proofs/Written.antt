@@ -1,6 +1,7 @@
 -- The first round trip, from octets to octets: what `writeOf` gives is accepted under the same book and reads back with
 -- the same values.
 use mathlib.Core.Path.{_∙_, _≡_, ap, refl, subst, sym}
+use mathlib.Core.Bool.{Bool}
 use mathlib.Core.List.{List, [], _∷_}
 use mathlib.Core.Option.{some}
 use Prim.Native.Nat.{_*_, _+_, _-_, _≤_, ℕ}
@@ -32,22 +33,23 @@ use Rattle.layout.specs.declared.Answer.{Answer}
 
 -- ---- the header
 
-header-whole : (m : List ℕ) (at : ℕ) (xs : List ℕ) → AreAt m at xs → AllWhole xs
-    → headerWhole m (length xs) at ≡ done tt
+header-whole : (big : Bool) (m : List ℕ) (at : ℕ) (xs : List ℕ) → AreAt big m at xs → AllWhole xs
+    → headerWhole big m (length xs) at ≡ done tt
 unfolding headerWhole AreAt Each must _>>=_
-header-whole m at [] a h = refl
-header-whole m at (x ∷ xs) a h = rw (a .0, lt-ltb x null16 (h .0)) (header-whole m (at + 2) xs (a .1) (h .1))
+header-whole big m at [] a h = refl
+header-whole big m at (x ∷ xs) a h = rw (a .0, lt-ltb x null16 (h .0)) (header-whole big m (at + 2) xs (a .1) (h .1))
 
 header-good : (b : Book) (t : Template) (m : List ℕ) → headerSize ≤ length m → length m ≤ 65535
-    → AreAt m 0 (headerOf b t)
-    → AllWhole (headerOf b t) → checkHeader (b .schema) m ≡ done tt
+    → let big = b .format .big in
+    AreAt big m 0 (headerOf b t) → AllWhole (headerOf b t) → checkHeader big (b .schema) m ≡ done tt
 unfolding checkHeader must _>>=_ _and_
 header-good b t m long few a h =
-    let schema : schemaId m ≡ b .schema = unfold AreAt in a .1 .1 .0 in
+    let big = b .format .big in
+    let schema : schemaId big m ≡ b .schema = unfold AreAt in a .1 .1 .0 in
     rw (
       le-leb 12 (length m) long,
       le-leb (length m) 65535 few,
-      header-whole m 0 (headerOf b t) a h,
+      header-whole big m 0 (headerOf b t) a h,
       schema,
       eq-eqb (b .schema) (b .schema) refl,
     ) refl
@@ -55,32 +57,36 @@ header-good b t m long few a h =
 -- The header stands at the start of what is written, and the root after it.
 header-stands : (b : Book) (t : Template) (pool : List ℕ) (r : Values) → AllWhole (headerOf b t)
     → let m = messageOctets b t pool r in
-    AreAt m 0 (headerOf b t) × (headerSize ≤ length m)
-    × Stands m headerSize (rowOctets pool (t .shape) (t .groups) r) (length m)
+    let big = b .format .big in
+    AreAt big m 0 (headerOf b t) × (headerSize ≤ length m)
+    × Stands m headerSize (rowOctets big pool (t .shape) (t .groups) r) (length m)
 unfolding messageOctets
 header-stands b t pool r h =
     let m = messageOctets b t pool r in
+    let big = b .format .big in
     let xs = headerOf b t in
-    let o = split-to (numbers16 xs) (rowOctets pool (t .shape) (t .groups) r) headerSize
-    (omega (arith, length-numbers xs)) (all-stands m) in
-    (numbers-are xs h (o .0), o .0 .fits, o .1)
+    let o = split-to (numbers16 big xs) (rowOctets big pool (t .shape) (t .groups) r) headerSize
+    (omega (arith, length-numbers big xs)) (all-stands m) in
+    (numbers-are big xs h (o .0), o .0 .fits, o .1)
 
 -- ---- the root
 
 root-reads : (b : Book) (t : Template) (m : List ℕ) (fs : List Answer) (g : Values) (ds : List Answer)
     → let v = b .version in
-    AreAt m 0 (headerOf b t) → Writable b t
-    → readBlock m v (t .shape) (readGroups m v (t .groups) 0) 0 (t .shape .length) headerSize
+    let big = b .format .big in
+    AreAt big m 0 (headerOf b t) → Writable b t
+    → readBlock big m v (t .shape) (readGroups big m v (t .groups) 0) 0 (t .shape .length) headerSize
     ≡ done (fs, g, ds, length m)
-    → readRoot v t m ≡ done (entry fs g ds nil)
+    → readRoot big v t m ≡ done (entry fs g ds nil)
 unfolding readRoot surplusOf readWhole must _>>=_ countGood if_then_else_ AreAt
 root-reads b t m fs g ds a w e =
     let v = b .version in
+    let big = b .format .big in
     let n = length (groupSinces (t .groups)) in
     let k = length (t .shape .datas) in
     let c : length (dataSinces (t .shape .datas)) ≡ k = length-map (t .shape .datas) (λ (d : Data). d .since) in
     let no-surplus : (x : ℕ) → x - x ≡ 0 = λ x. omega arith in
-    let none-left : surplusOf v t m ≡ done (0, 0) = rw (
+    let none-left : surplusOf big v t m ≡ done (0, 0) = rw (
       a .0,
       a .1 .1 .1 .0,
       a .1 .1 .1 .1 .0,
@@ -95,7 +101,7 @@ root-reads b t m fs g ds a w e =
       no-surplus n,
       no-surplus k,
     ) refl in
-    let reads : readWhole t m (0, 0) ≡ done (entry fs g ds nil) =
+    let reads : readWhole big t m (0, 0) ≡ done (entry fs g ds nil) =
     rw (a .0, a .1 .1 .1 .0, e, eq-eqb (length m) (length m) refl) refl in
     rw none-left reads
 
@@ -125,8 +131,9 @@ module _ (b : Book) (t : Template) (l pool : List ℕ) (small : Numbers64 l) (a 
         ),
       )
 
-  message-reads : (m : List ℕ) (r : Values) → checkHeader (b .schema) m ≡ done tt → AreAt m 0 (headerOf b t)
-      → readRoot (b .version) t m ≡ done r → readMessage b m ≡ done r
+  message-reads : (m : List ℕ) (r : Values) → let big = b .format .big in
+      checkHeader big (b .schema) m ≡ done tt → AreAt big m 0 (headerOf b t)
+      → readRoot big (b .version) t m ≡ done r → readMessage b m ≡ done r
   unfolding readMessage orRefuse AreAt
   message-reads m r h i e = rw (h, i .1 .0, a .there, bind-done, bind-done) e
 
@@ -136,18 +143,19 @@ module _ (b : Book) (t : Template) (l pool : List ℕ) (small : Numbers64 l) (a 
   unfolding rowOctets treeContents
   entry-reads x e few =
       let v = b .version in
+      let big = b .format .big in
       let w = writable b t a in
       let said = entry (x .0) (x .1) (x .2) nil in
       let m = messageOctets b t pool said in
       let h = header-stands b t pool said whole in
-      let xs = entryOctets l pool m v small (t .shape) (t .groups) (w .shape) (judgeGroups l pool (t .groups))
-      (readGroups m v (t .groups) 0)
-      (λ i at to r e′ st. groups-back l pool m v small (t .groups) (t .shape) i at to r (w .groups) e′ st) x in
+      let xs = entryOctets big l pool m v small (t .shape) (t .groups) (w .shape)
+      (judgeGroups l pool (t .groups)) (readGroups big m v (t .groups) 0)
+      (λ i at to r e′ st. groups-back big l pool m v small (t .groups) (t .shape) i at to r (w .groups) e′ st) x in
       let o = split-to xs [] (length m) (omega (arith, h .2 .ends, length-append xs [])) (h .2) in
-      let k = block-back l pool m v small (t .shape) (t .groups) (w .shape) (judgeGroups l pool (t .groups))
-      (readGroups m v (t .groups) 0)
-      (λ i at to r e′ st. groups-back l pool m v small (t .groups) (t .shape) i at to r (w .groups) e′ st) 0 headerSize
-      (length m) x e (o .0) in
+      let k = block-back big l pool m v small (t .shape) (t .groups) (w .shape)
+      (judgeGroups l pool (t .groups)) (readGroups big m v (t .groups) 0)
+      (λ i at to r e′ st. groups-back big l pool m v small (t .groups) (t .shape) i at to r (w .groups) e′ st) 0
+      headerSize (length m) x e (o .0) in
       record {
         values = entry (k .fields) (k .groups) (k .datas) nil;
         accepts = message-reads m _ (header-good b t m (h .1) few (h .0) whole) (h .0)

@@ -20,37 +20,39 @@ use Rattle.layout.specs.declared.Answer.{Answer}
 use Rattle.layout.proofs.ListLaws.{beside-none, read-beside}
 use Rattle.layout.proofs.Fields.{FieldGood, field-good}
 use Rattle.layout.proofs.Results.{and-left, each-way, either, or-right}
-use Rattle.number_types.proofs.Types.{each-width, is-width}
+use Rattle.layout.proofs.TypeLaws.{width-listed}
+use Rattle.number_types.proofs.Types.{each-width}
 use Rattle.prepared.specs.Names.{listsAt, namesAt}
 use Rattle.prepared.specs.Positions.{IsField, fieldAt}
 use Rattle.fields.specs.Readable.{Fits, plain}
 
-module _ (m : List ℕ) (v at : ℕ) (f : Field) where
-  pub field-absent : v < f .since → readField m v at f ≡ Absent
+-- A field that is present lies in the message.
+module _ (m : List ℕ) (v at : ℕ) (f : Field) (h : f .since ≤ v) (p : Fits m v at f) where
+  pub array-inside : at + f .offset + f .length ≤ length m
+  array-inside =
+      let some : 1 ≤ typeAt (f .type) .width =
+      each-width (λ w. 1 ≤ w) (omega arith) (omega arith) (omega arith) (omega arith) _ (width-listed (f .type)) in
+      omega (arith, mul-le-mul-right (f .length) some, p .inside h)
+
+  pub number-inside : f .length ≤ 1 → at + f .offset + typeAt (f .type) .width ≤ length m
+  number-inside l =
+      let one : f .length ≡ 1 = omega (arith, p .some) in
+      omega (arith, rw (one, mul-one) at (p .inside h))
+
+module _ (big : Bool) (m : List ℕ) (v at : ℕ) (f : Field) where
+  pub field-absent : v < f .since → readField big m v at f ≡ Absent
   unfolding readField if_then_else_
   field-absent h = rw (lt-leb (f .since) v h) refl
 
   module _ (h : f .since ≤ v) where
-    pub field-array : 1 < f .length → readField m v at (plain f) ≡ arrayAt m (at + f .offset) f
+    pub field-array : 1 < f .length → readField big m v at (plain f) ≡ arrayAt m (at + f .offset) f
     unfolding readField arrayAt if_then_else_
     field-array l = rw (le-leb (f .since) v h, lt-ltb 1 (f .length) l) refl
 
-    pub array-inside : Fits m v at f → at + f .offset + f .length ≤ length m
-    array-inside p =
-        let some : 1 ≤ typeAt (f .type) .width =
-        each-width (λ w. 1 ≤ w) (omega arith) (omega arith) (omega arith) (omega arith) _ (is-width (f .type)) in
-        omega (arith, mul-le-mul-right (f .length) some, p .inside h)
-
-    module _ (l : f .length ≤ 1) where
-      pub field-number : readField m v at (plain f) ≡ classify (typeAt (f .type)) (isOptional f)
-          (valueOf (typeAt (f .type)) (numberAt (typeAt (f .type) .width) m (at + f .offset)))
-      unfolding readField if_then_else_
-      field-number = rw (le-leb (f .since) v h, le-ltb 1 (f .length) l) (beside-none _)
-
-      pub number-inside : Fits m v at f → at + f .offset + typeAt (f .type) .width ≤ length m
-      number-inside p =
-          let one : f .length ≡ 1 = omega (arith, p .some) in
-          omega (arith, rw (one, mul-one) at (p .inside h))
+    pub field-number : f .length ≤ 1 → readField big m v at (plain f) ≡ classify (typeAt (f .type)) (isOptional f)
+        (valueOf (typeAt (f .type)) (numberAt big (typeAt (f .type) .width) m (at + f .offset)))
+    unfolding readField if_then_else_
+    field-number l = rw (le-leb (f .since) v h, le-ltb 1 (f .length) l) (beside-none _)
 
 -- ---- arrays
 
@@ -125,12 +127,12 @@ fields-each P p zero f h e = absurd (omega arith)
 fields-each P p (suc n) f h e = let q : suc n - 1 ≡ n = omega arith in rw q e
 
 -- What a field is without its list, seen beside the list that its table leads to, is what it is.
-module _ (p : List ℕ) (f t : ℕ) (m : List ℕ) (v at : ℕ) (a : Answer) (field : IsField p f t)
-    (is : a ≡ readField m v at (plain (fieldAt p f))) where
-  pub field-beside : (r : Answer) → r ≡ beside (namesAt p (word p (t + 5))) a → r ≡ readField m v at (fieldAt p f)
+module _ (big : Bool) (p : List ℕ) (f t : ℕ) (m : List ℕ) (v at : ℕ) (a : Answer) (field : IsField p f t)
+    (is : a ≡ readField big m v at (plain (fieldAt p f))) where
+  pub field-beside : (r : Answer) → r ≡ beside (namesAt p (word p (t + 5))) a → r ≡ readField big m v at (fieldAt p f)
   field-beside r told =
       told ∙ rw (is, field .derived .names .names) (sym (read-beside (fieldAt p f .names) noNames
-      (λ x. ap (beside (fieldAt p f .names)) (beside-none x)) m v at (fieldAt p f)))
+      (λ x. ap (beside (fieldAt p f .names)) (beside-none x)) big m v at (fieldAt p f)))
 
-  pub field-bare : fieldAt p f .names ≡ noNames → a ≡ readField m v at (fieldAt p f)
+  pub field-bare : fieldAt p f .names ≡ noNames → a ≡ readField big m v at (fieldAt p f)
   field-bare e = field-beside a (rw (field .derived .names .names, e) (sym (beside-none a)))

@@ -2,8 +2,10 @@
 use mathlib.Core.List.{List}
 use Prim.Native.Nat.{ℕ, _+_, _≤_}
 use lib.ListN.{length}
+use Rattle.layout.specs.Types.{classify, typeAt}
 use Rattle.layout.specs.Lists.{noNames}
-use Rattle.layout.specs.Book.{Field, end, withNames}
+use Rattle.layout.specs.Book.{Field, end, isOptional, withNames}
+use Rattle.layout.specs.declared.Answer.{Answer}
 use Rattle.prepared.specs.Positions.{IsField, fieldAt}
 
 pub record Fits (m : List ℕ) (v at : ℕ) (f : Field) : Type 0 where
@@ -18,3 +20,7 @@ pub record Readable (p : List ℕ) (x t : ℕ) (m : List ℕ) (v at : ℕ) : Typ
 -- A field without its list.
 abbrev pub plain : Field → Field
 plain f = withNames f noNames
+
+-- What the value x is to the field at place f of the prepared numbers p.
+abbrev pub classOf : List ℕ → ℕ → ℕ → Answer
+classOf p f x = classify (typeAt (fieldAt p f .type)) (isOptional (fieldAt p f)) x

@@ -26,13 +26,13 @@ use Rattle.layout.specs.declared.Refusal.{Refusal}
 use Rattle.layout.proofs.Results.{Reached, and-assoc, and-left, and-right, bind-assoc, bind-done, each-way, none-left}
 use Rattle.layout.proofs.Results.{one-less, some-left}
 use Rattle.layout.proofs.Said.{OctetsSaid, octets-said}
-use Rattle.layout.proofs.TypeLaws.{each-type, inside-not-null}
-use Rattle.number_types.proofs.Types.{in-span}
+use Rattle.layout.proofs.TypeLaws.{inside-not-null}
 use Rattle.prepared.specs.Numbers.{spread}
 use Rattle.prepared.specs.Names.{listsAt}
 use Rattle.prepared.specs.Positions.{IsBlock, datasFrom, fieldAt, groupsFrom, innerAt}
 use Rattle.prepared.specs.Positions.{manyDatas, manyGroups, shapeAt}
 use Rattle.prepared.proofs.Open.{no-datas-at, no-groups-at}
+use Rattle.prepared.proofs.Ranges.{in-range}
 use Rattle.judges.specs.Judges.{capped, datasEnd, fieldEnd, fieldsEnd, judged, listingEnd}
 use Rattle.judges.specs.Judges.{limit, octetsEnd, rowEnd}
 use Rattle.judges.specs.declared.Judged.{Judged}
@@ -177,27 +177,19 @@ module _ (l : List ℕ) (f : Field) (i : ℕ) where
     unfolding judgeNumber judged must _>>=_
     number-whole k = rw (h, k) refl
 
--- The greatest of a type is its spread above the least.
-spread-to : (t : ℕ) → (spread (typeAt t) + typeAt t .least) % 2 ^ 64 ≡ typeAt t .greatest
-spread-to t =
-    each-type (λ k. (spread k + k .least) % 2 ^ 64 ≡ k .greatest) refl
-    (λ w a. omega (arith, a .even, a .whole, a .many)) (λ w a. omega (arith, a .whole, a .many)) t
-
 -- What is in range is not null.
 inside-only : (t x : ℕ) → (inRange (typeAt t) x and not (eqb x (typeAt t .null))) ≡ inRange (typeAt t) x
 unfolding _and_
 inside-only t x =
     each-way (inRange (typeAt t) x) (λ e. rw (e, inside-not-null t x e) refl) (λ e. rw e refl)
 
--- A number d above the least of a type fits it where d is no more than the spread.
--- A number fits a field of type t, whose list has it or not, if it is in the type's range.
+-- A number d above the least of a field's type fits the field where d is no more than the spread and its list has it.
 pub within : (t x d least far : ℕ) (listed : Bool) → d < 2 ^ 64 → (d + least) % 2 ^ 64 ≡ x → least ≡ typeAt t .least
     → far ≡ spread (typeAt t)
     → (inRange (typeAt t) x and not (eqb x (typeAt t .null)) and listed) ≡ (leb d far and listed)
 within t x d least far listed small e p q =
     sym (and-assoc (inRange (typeAt t) x) (not (eqb x (typeAt t .null))) listed)
-    ∙ rw (inside-only t x, q) (ap (λ (b : Bool). b and listed)
-    (in-span t x d _ (rw p at e) (spread-to t) small (omega arith)))
+    ∙ ap (λ (b : Bool). b and listed) (inside-only t x ∙ in-range t x d least far small e p q)
 
 -- ---- fields
 

@@ -12,15 +12,14 @@ use borrow.Author.Tests.{leb-true}
 use Rattle.layout.specs.Result.{Result, done, if_then_else_}
 use Rattle.layout.specs.Octets.{octetsOf}
 use Rattle.layout.specs.Types.{typeAt}
-use Rattle.layout.specs.Book.{Book, Data, Field, Groups, Shape, Template, end, groupSinces, isArray, more, none}
-use Rattle.layout.specs.Book.{size}
+use Rattle.layout.specs.Book.{Book, Data, Field, Groups, Shape, Template, end, isArray, more, none, size}
 use Rattle.layout.specs.BookRules.{fieldsGood, groupsGood, layoutGood, lengthGood}
 use Rattle.layout.specs.Values.{Values, entry, group, nil}
 use Rattle.layout.specs.Message.{Entry}
-use Rattle.layout.specs.Writing.{blockOctets, dataOctets, datasLength, entriesIn, fieldOctets, first, judgeBlock}
-use Rattle.layout.specs.Writing.{judgeData, judgeDatas, judgeEntries, judgeField, judgeFields, judgeGroups}
-use Rattle.layout.specs.Writing.{judgeListing, messageOctets, numbers16, rowLength, rowOctets, second, spanOctets}
-use Rattle.layout.specs.Writing.{spanOf, third, writtenLength}
+use Rattle.layout.specs.Writing.{blockOctets, dataOctets, datasLength, entriesIn, fieldOctets, first, headerOf}
+use Rattle.layout.specs.Writing.{judgeBlock, judgeData, judgeDatas, judgeEntries, judgeField, judgeFields}
+use Rattle.layout.specs.Writing.{judgeGroups, judgeListing, messageOctets, numbers16, rowLength, rowOctets}
+use Rattle.layout.specs.Writing.{second, spanOctets, spanOf, third, writtenLength}
 use Rattle.layout.proofs.Said.{ArraySaid, array-said, data-said, null, number-said, plain, text}
 use Rattle.layout.proofs.Fields.{field-good, size-array, size-plain}
 use Rattle.layout.proofs.Results.{and-left, and-right, done-inj, each-way, inv-bind, inv-both}
@@ -34,21 +33,21 @@ span-long pool start len h = length-take-le len (drop start pool) (rw length-dro
 filled-long : (xs : List ℕ) (n x : ℕ) → length (xs ++ replicate n x) ≡ length xs + n
 filled-long xs n x = length-append xs (replicate n x) ∙ ap (λ k. length xs + k) (length-replicate n x)
 
-module _ (l pool : List ℕ) where
+module _ (big : Bool) (l pool : List ℕ) where
   -- ---- fields
 
   array-long : (f : Field) (start len : ℕ) → start + len ≤ length pool → len ≤ f .length
-      → length (fieldOctets pool f (Octets start len)) ≡ f .length
+      → length (fieldOctets big pool f (Octets start len)) ≡ f .length
   unfolding fieldOctets spanOf
   array-long f start len h k =
       filled-long (take len (drop start pool)) (f .length - len) _ ∙ omega (arith, span-long pool start len h)
 
-  null-long : (f : Field) → isArray f ≡ true → length (fieldOctets pool f Null) ≡ f .length
+  null-long : (f : Field) → isArray f ≡ true → length (fieldOctets big pool f Null) ≡ f .length
   unfolding fieldOctets if_then_else_
   null-long f y = rw y (length-replicate {A = ℕ} (f .length) _)
 
   said-long : (f : Field) (i : ℕ) (a : Answer) → isArray f ≡ true → ArraySaid l pool f i a
-      → length (fieldOctets pool f a) ≡ f .length
+      → length (fieldOctets big pool f a) ≡ f .length
   said-long f i a y (null c n o e) = rw (← e) (null-long f y)
   said-long f i a y (text c q h) =
       rw (← (q .is))
@@ -57,13 +56,13 @@ module _ (l pool : List ℕ) where
       rw (← (q .is)) (array-long f (second l i) (third l i) (q .within) (omega arith))
 
   number-long : (f : Field) (b : Bool) (x : ℕ) → isArray f ≡ false
-      → length (fieldOctets pool f (if b then Null else Number x)) ≡ typeAt (f .type) .width
+      → length (fieldOctets big pool f (if b then Null else Number x)) ≡ typeAt (f .type) .width
   unfolding fieldOctets if_then_else_
-  number-long f true x y = rw y (length-octets _ _)
-  number-long f false x y = length-octets _ _
+  number-long f true x y = rw y (length-octets big _ _)
+  number-long f false x y = length-octets big _ _
 
   pub field-long : (f : Field) (i : ℕ) (a : Answer) → lengthGood f ≡ true → judgeField l pool f i ≡ done a
-      → length (fieldOctets pool f a) ≡ size f
+      → length (fieldOctets big pool f a) ≡ size f
   field-long f i a g e =
       each-way (isArray f)
       (λ y. said-long f i a y (array-said l pool f i a y e) ∙ sym (size-array f g y))
@@ -72,15 +71,15 @@ module _ (l pool : List ℕ) where
 
   pub fields-long : (fs : List Field) (len from i : ℕ) (r : List Answer × ℕ) → fieldsGood len from fs ≡ true
       → from ≤ len
-      → judgeFields l pool fs i ≡ done r → from + length (blockOctets pool len from fs (r .0)) ≡ len
+      → judgeFields l pool fs i ≡ done r → from + length (blockOctets big pool len from fs (r .0)) ≡ len
   unfolding judgeFields blockOctets
   fields-long [] len from i r g h e = rw (length-replicate {A = ℕ} (len - from)) (omega arith)
   fields-long (f ∷ fs) len from i r g h e =
       let p = inv-both _ _ _ _ e in
       let k = field-good len from f fs g in
-      let a = fieldOctets pool f (p .value) in
-      let b = blockOctets pool len (end f) fs (p .other .0) in
-      subst (λ (x : List Answer × ℕ). from + length (blockOctets pool len from (f ∷ fs) (x .0)) ≡ len)
+      let a = fieldOctets big pool f (p .value) in
+      let b = blockOctets big pool len (end f) fs (p .other .0) in
+      subst (λ (x : List Answer × ℕ). from + length (blockOctets big pool len from (f ∷ fs) (x .0)) ≡ len)
       (p .is)
       (rw (
         length-append (replicate (f .offset - from) 0) (a ++ b),
@@ -104,20 +103,20 @@ module _ (l pool : List ℕ) where
       rw (← (s .is)) (span-long pool (second l i) (third l i) (s .within))
 
   datas-long : (ds : List Data) (i : ℕ) (r : List Answer × ℕ) → judgeDatas l pool ds i ≡ done r
-      → length (dataOctets pool (r .0)) ≡ datasLength (r .0)
+      → length (dataOctets big pool (r .0)) ≡ datasLength (r .0)
   unfolding judgeDatas dataOctets datasLength
-  datas-long [] i r e = subst (λ (x : List Answer × ℕ). length (dataOctets pool (x .0)) ≡ datasLength (x .0))
+  datas-long [] i r e = subst (λ (x : List Answer × ℕ). length (dataOctets big pool (x .0)) ≡ datasLength (x .0))
       (done-inj e) refl
   datas-long (d ∷ ds) i r e =
       let p = inv-both _ _ _ _ e in
-      let n = octetsOf 2 (spanOf (p .value) .1) in
+      let n = octetsOf big 2 (spanOf (p .value) .1) in
       let a = spanOctets pool (p .value) in
-      let b = dataOctets pool (p .other .0) in
-      subst (λ (x : List Answer × ℕ). length (dataOctets pool (x .0)) ≡ datasLength (x .0)) (p .is)
+      let b = dataOctets big pool (p .other .0) in
+      subst (λ (x : List Answer × ℕ). length (dataOctets big pool (x .0)) ≡ datasLength (x .0)) (p .is)
       (rw (
         length-append n (a ++ b),
         length-append a b,
-        length-octets 2 (spanOf (p .value) .1),
+        length-octets big 2 (spanOf (p .value) .1),
         data-long i (p .value)
             (p .first),
       )
@@ -126,19 +125,19 @@ module _ (l pool : List ℕ) where
   -- ---- rows
 
   abbrev Long : Shape → Groups → Values → Type 0
-  Long s gs r = length (rowOctets pool s gs r) ≡ rowLength s gs r
+  Long s gs r = length (rowOctets big pool s gs r) ≡ rowLength s gs r
 
   entry-long : (s : Shape) (gs : Groups) (fs : List Answer) (g : Values) (ds : List Answer) (rest : Values)
-      → length (blockOctets pool (s .length) 0 (s .fields) fs) ≡ s .length → Long s gs g
-      → length (dataOctets pool ds) ≡ datasLength ds → Long s gs rest → Long s gs (entry fs g ds rest)
+      → length (blockOctets big pool (s .length) 0 (s .fields) fs) ≡ s .length → Long s gs g
+      → length (dataOctets big pool ds) ≡ datasLength ds → Long s gs rest → Long s gs (entry fs g ds rest)
   unfolding rowOctets rowLength
   entry-long s gs fs g ds rest a b c d =
-      let xs = blockOctets pool (s .length) 0 (s .fields) fs in
-      let ys = rowOctets pool s gs g in
+      let xs = blockOctets big pool (s .length) 0 (s .fields) fs in
+      let ys = rowOctets big pool s gs g in
       rw (
-        length-append (xs ++ (ys ++ dataOctets pool ds)) (rowOctets pool s gs rest),
-        length-append xs (ys ++ dataOctets pool ds),
-        length-append ys (dataOctets pool ds),
+        length-append (xs ++ (ys ++ dataOctets big pool ds)) (rowOctets big pool s gs rest),
+        length-append xs (ys ++ dataOctets big pool ds),
+        length-append ys (dataOctets big pool ds),
         a,
         b,
         c,
@@ -175,9 +174,9 @@ module _ (l pool : List ℕ) where
   unfolding rowOctets rowLength
   group-long i since s inner rest s₀ a es gs x y =
       let d = s .length ∷ entriesIn a ∷ [] in
-      let xs = rowOctets pool s inner es in
-      let ys = rowOctets pool s₀ rest gs in
-      rw (length-append (numbers16 d) (xs ++ ys), length-append xs ys, length-numbers d, x, y) (omega arith)
+      let xs = rowOctets big pool s inner es in
+      let ys = rowOctets big pool s₀ rest gs in
+      rw (length-append (numbers16 big d) (xs ++ ys), length-append xs ys, length-numbers big d, x, y) (omega arith)
 
   groups-long : (gs : Groups) (s₀ : Shape) (i : ℕ) (r : Values × ℕ) → groupsGood gs ≡ true
       → judgeGroups l pool gs i ≡ done r → Long s₀ gs (r .0)
@@ -193,23 +192,19 @@ module _ (l pool : List ℕ) where
       (λ j x z. groups-long inner s j x (and-left _ _ h) z) (second l i) (suc i) (p .value) (p .first))
       (groups-long rest s₀ (p .value .1) (p .other) (and-right _ _ h) (p .second)))
 
-  -- The whole message.
-  pub written-long : (b : Book) (t : Template) (r : Values) → layoutGood t ≡ true
-      → judgeListing l pool t ≡ done r
-      → length (messageOctets b t pool r) ≡ writtenLength t r
-  unfolding judgeListing messageOctets
-  written-long b t r g e =
-      let p = inv-both _ _ _ _ e in
-      let x = p .value in
-      let long = block-long (t .shape) (t .groups) (and-right _ _ (and-left _ _ g))
-      (judgeGroups l pool (t .groups))
-      (λ j y z. groups-long (t .groups) (t .shape) j y (and-right _ _ g) z) 0 x nil (p .first)
-      (unfold rowOctets rowLength in refl) in
-      subst (λ (y : Values). length (messageOctets b t pool y) ≡ writtenLength t y) (p .is)
-      (length-append (numbers16 _) (rowOctets pool (t .shape) (t .groups) (entry (x .0) (x .1) (x .2) nil))
-      ∙ omega (
-        arith,
-        length-numbers (t .shape .length ∷ t .id ∷ b .schema ∷ b .version
-            ∷ length (groupSinces (t .groups)) ∷ length (t .shape .datas) ∷ []),
-        long,
-      ))
+-- The whole message.
+pub written-long : (l pool : List ℕ) (b : Book) (t : Template) (r : Values) → layoutGood t ≡ true
+    → judgeListing l pool t ≡ done r
+    → length (messageOctets b t pool r) ≡ writtenLength t r
+unfolding judgeListing messageOctets
+written-long l pool b t r g e =
+    let big = b .format .big in
+    let p = inv-both _ _ _ _ e in
+    let x = p .value in
+    let row = rowOctets big pool (t .shape) (t .groups) (entry (x .0) (x .1) (x .2) nil) in
+    let long = block-long big l pool (t .shape) (t .groups) (and-right _ _ (and-left _ _ g))
+    (judgeGroups l pool (t .groups))
+    (λ j y z. groups-long big l pool (t .groups) (t .shape) j y (and-right _ _ g) z) 0 x nil (p .first)
+    (unfold rowOctets rowLength in refl) in
+    subst (λ (y : Values). length (messageOctets b t pool y) ≡ writtenLength t y) (p .is)
+    (length-append (numbers16 big (headerOf b t)) row ∙ omega (arith, length-numbers big (headerOf b t), long))

@@ -153,7 +153,7 @@ module _ (l l′ : Names) (twice : (a : Answer) → beside l (beside l′ a) ≡
   choice-beside false y x x′ a e = refl
 
   -- What a field is with the names l is what it is with the names l′, seen beside l, where l lacks what l′ lacks.
-  pub read-beside : (m : List ℕ) (v at : ℕ) (f : Field)
-      → readField m v at (withNames f l) ≡ beside l (readField m v at (withNames f l′))
+  pub read-beside : (big : Bool) (m : List ℕ) (v at : ℕ) (f : Field)
+      → readField big m v at (withNames f l) ≡ beside l (readField big m v at (withNames f l′))
   unfolding readField
-  read-beside m v at f = choice-beside _ _ _ _ _ (array-beside m _ f)
+  read-beside big m v at f = choice-beside _ _ _ _ _ (array-beside m _ f)

@@ -7,7 +7,7 @@ use native.Mathlib.Omega.{arith}
 use lib.Dec.{eqb, leb}
 use borrow.Author.Tests.{le-leb, leb-true, lt-leb, ne-eqb}
 use Rattle.layout.specs.Result.{_and_, _or_, if_then_else_}
-use Rattle.layout.specs.Octets.{octetsOf}
+use Rattle.layout.specs.Octets.{inOrder, lowest, octetsOf}
 use Rattle.layout.specs.Types.{TypeRow, char, inRange, int, isSigned, isWidth, rowOf, typeAt, uint, valueOf}
 use Rattle.layout.specs.Types.{widthOf}
 use Rattle.layout.proofs.Results.{and-right, each-way, either, or-right}
@@ -47,6 +47,10 @@ each-type P c i u t = go (leb 1 t and leb t 8) refl (isSigned t)
     go true e true = i _ (width-at t (omega (arith, leb-true t 8 (and-right _ _ e))))
     go true e false = u _ (width-at t (omega (arith, leb-true t 8 (and-right _ _ e))))
     go false e s = c
+
+pub width-listed : (t : ℕ) → isWidth (typeAt t .width) ≡ true
+unfolding _or_
+width-listed t = each-type (λ k. isWidth (k .width) ≡ true) refl (λ w a. a .listed) (λ w a. a .listed) t
 
 pub width-few : (t : ℕ) → typeAt t .width ≤ 8
 width-few t = each-type (λ k. k .width ≤ 8) (omega arith) (λ w a. a .few) (λ w a. a .few) t
@@ -120,27 +124,28 @@ inside-not-null t x r =
 
 -- ---- read and written again
 
-octets-add : (w k x : ℕ) → octetsOf w (x + k * 256 ^ w) ≡ octetsOf w x
-unfolding octetsOf
-octets-add zero k x = refl
-octets-add (suc w) k x =
+pub lowest-add : (w k x : ℕ) → lowest w (x + k * 256 ^ w) ≡ lowest w x
+unfolding lowest
+lowest-add zero k x = refl
+lowest-add (suc w) k x =
     let l : (x + 256 * (k * 256 ^ w)) % 256 ≡ x % 256 = omega arith in
     let r : (x + 256 * (k * 256 ^ w)) / 256 ≡ x / 256 + k * 256 ^ w = omega arith in
-    rw (pow-succ', mul-left-comm k 256 (256 ^ w), l, r, octets-add w k (x / 256)) refl
+    rw (pow-succ', mul-left-comm k 256 (256 ^ w), l, r, lowest-add w k (x / 256)) refl
 
-plain-octets : (k : TypeRow) (x : ℕ) → k .signed ≡ false → octetsOf (k .width) (valueOf k x) ≡ octetsOf (k .width) x
+plain-octets : (k : TypeRow) (x : ℕ) → k .signed ≡ false → lowest (k .width) (valueOf k x) ≡ lowest (k .width) x
 unfolding valueOf if_then_else_ _and_
 plain-octets k x s = rw s refl
 
-int-octets : (w : ℕ) → Width w → (x : ℕ) → octetsOf w (valueOf (int w) x) ≡ octetsOf w x
+int-octets : (w : ℕ) → Width w → (x : ℕ) → lowest w (valueOf (int w) x) ≡ lowest w x
 unfolding valueOf _and_
 int-octets w a x =
     let up : 2 ^ 64 - 256 ^ w ≡ a .above * 256 ^ w = omega (arith, a .whole) in
-    either (λ (y : ℕ). octetsOf w y ≡ octetsOf w x) (leb (256 ^ w / 2) x) (x + (2 ^ 64 - 256 ^ w)) x
-    (rw up (octets-add w (a .above) x)) refl
+    either (λ (y : ℕ). lowest w y ≡ lowest w x) (leb (256 ^ w / 2) x) (x + (2 ^ 64 - 256 ^ w)) x
+    (rw up (lowest-add w (a .above) x)) refl
 
 -- A value has the octets of the number that it is the value of.
-pub octets-value : (t x : ℕ) → octetsOf (typeAt t .width) (valueOf (typeAt t) x) ≡ octetsOf (typeAt t .width) x
-octets-value t x =
-    each-type (λ k. octetsOf (k .width) (valueOf k x) ≡ octetsOf (k .width) x)
-    (plain-octets char x refl) (λ w a. int-octets w a x) (λ w a. plain-octets (uint w) x refl) t
+pub octets-value : (big : Bool) (t x : ℕ)
+    → octetsOf big (typeAt t .width) (valueOf (typeAt t) x) ≡ octetsOf big (typeAt t .width) x
+octets-value big t x =
+    ap (inOrder big) (each-type (λ k. lowest (k .width) (valueOf k x) ≡ lowest (k .width) x)
+    (plain-octets char x refl) (λ w a. int-octets w a x) (λ w a. plain-octets (uint w) x refl) t)

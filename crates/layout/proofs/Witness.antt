@@ -11,8 +11,8 @@ use borrow.Author.Tests.{eq-eqb}
 use Rattle.layout.specs.Result.{Each, _or_, done, if_then_else_, refused}
 use Rattle.layout.specs.Octets.{AllOctets, Numbers64}
 use Rattle.layout.specs.Lists.{KeepsNames, NameList, Names, isOneOf, namesOf, noNames}
-use Rattle.layout.specs.Book.{Book, Data, Field, Groups, Shape, Template, dataSinces, fieldSinces, findTemplate}
-use Rattle.layout.specs.Book.{groupSinces, more, none}
+use Rattle.layout.specs.Book.{Book, Data, Field, Format, Groups, Shape, Template, dataSinces, fieldSinces}
+use Rattle.layout.specs.Book.{findTemplate, groupSinces, more, none}
 use Rattle.layout.specs.BookRules.{bookOf}
 use Rattle.layout.specs.Values.{Values, entry, group, listing, nil}
 use Rattle.layout.specs.Message.{readMessage}
@@ -21,8 +21,10 @@ use Rattle.layout.specs.Writing.{writeOf}
 use Rattle.layout.specs.Extension.{AddedGroups, AddsGroups, AllAbove, Extends, ExtendsFields, ExtendsGroups}
 use Rattle.layout.specs.Extension.{ExtendsShape}
 use Rattle.layout.specs.All.{all}
-use Rattle.layout.specs.Cases.{bookA, bookB, bookFew, bookMany, bookT, messageM, messageT, minus5, with16}
-use Rattle.layout.specs.Demands.{AllSound, AsWritten, OwnBlocks, Sound, ZeroPadding}
+use Rattle.layout.specs.Cases.{bigA, bigM, bookA, bookB, bookFew, bookMany, bookT, messageM, messageT, minus5}
+use Rattle.layout.specs.Cases.{with16}
+use Rattle.layout.specs.Demands.{AllSound, AsWritten, OtherWay, OwnBlocks, Sound, ZeroPadding, contents, kept}
+use Rattle.layout.specs.Demands.{reordered, row, turned}
 use Rattle.layout.proofs.ListLaws.{or-either}
 use Rattle.layout.specs.declared.Answer.the-variants.{Group, Null, Number, Octets, Unlisted}
 
@@ -67,10 +69,22 @@ groupsWith w fs gs = more 453 0 (blockWith w fs) none gs
 abbrev pub templateA : Template
 templateA = record { id = 1; shape = rootWith noList [] []; groups = groupsWith noList [] none }
 
--- A book whose only template has this root block and these groups.
+abbrev little : Format
+little = record { big = false }
+
+abbrev big : Format
+big = record { big = true }
+
+-- A book of little-endian messages whose only template has this root block and these groups.
 abbrev single : ℕ → List NameList → Shape → Groups → Book
 single version ls s gs =
-    record { schema = 7; version = version; lists = ls; templates = record { id = 1; shape = s; groups = gs } ∷ [] }
+    record {
+      schema = 7;
+      version = version;
+      format = little;
+      lists = ls;
+      templates = record { id = 1; shape = s; groups = gs } ∷ [];
+    }
 
 abbrev pub treeA : Book
 treeA = single 0 [] (templateA .shape) (templateA .groups)
@@ -144,6 +158,7 @@ extends {ls′ = ls′} {s′ = s′} {gs′ = gs′} x =
     record {
       schema = refl;
       version = omega arith;
+      format = refl;
       templates = (
         record {
           newer = getD (single 1 ls′ s′ gs′ .templates) 0 templateA;
@@ -272,20 +287,26 @@ abbrev grouped : Groups → Book
 grouped gs = single 1 [] (templateA .shape) gs
 
 -- "the schema id is equal"
-pub other-schema : ¬ Extends treeA (record { schema = 8; version = 1; lists = []; templates = treeA .templates })
+pub other-schema : ¬ Extends treeA
+    (record { schema = 8; version = 1; format = little; lists = []; templates = treeA .templates })
 other-schema x = omega (arith, x .schema)
 
 -- "its version is greater"
 pub same-version : ¬ Extends treeA treeA
 same-version x = omega (arith, x .version)
 
+-- "A legal extension keeps the order"
+pub other-order : ¬ Extends treeA
+    (record { schema = 7; version = 1; format = big; lists = []; templates = treeB .templates })
+other-order x = false≢true (ap (λ (f : Format). f .big) (x .format))
+
 -- "each older template stands in it": the second of two is missing
 abbrev template2 : Template
 template2 = record { id = 2; shape = templateA .shape; groups = none }
 
 pub missing-template : ¬ Extends
-    (record { schema = 7; version = 0; lists = []; templates = templateA ∷ template2 ∷ [] })
-    (record { schema = 7; version = 1; lists = []; templates = templateA ∷ [] })
+    (record { schema = 7; version = 0; format = little; lists = []; templates = templateA ∷ template2 ∷ [] })
+    (record { schema = 7; version = 1; format = little; lists = []; templates = templateA ∷ [] })
 unfolding Each findTemplate if_then_else_
 missing-template x =
     let there = x .templates .1 .0 .there in
@@ -536,7 +557,7 @@ templateT =
     }
 
 abbrev treeT : Book
-treeT = record { schema = 7; version = 0; lists = []; templates = templateT ∷ [] }
+treeT = record { schema = 7; version = 0; format = little; lists = []; templates = templateT ∷ [] }
 
 pub T-is : bookOf bookT ≡ done treeT
 unfolding all
@@ -585,6 +606,40 @@ text-empty = refl
 pub text-null : writeOf bookT 1 (1 ∷ 0 ∷ 0 ∷ []) [] 20 ≡ refused 52 0
 unfolding all
 text-null = refl
+
+-- So is M turned, with A of big-endian messages.
+abbrev pub bigTreeA : Book
+bigTreeA = record { schema = 7; version = 0; format = big; lists = []; templates = templateA ∷ [] }
+
+pub bigA-is : bookOf bigA ≡ done bigTreeA
+unfolding all
+bigA-is = refl
+
+pub bigM-is : readMessage bigTreeA bigM ≡ done valuesM
+unfolding all valuesM
+bigM-is = refl
+
+-- A of big-endian messages is A with the other order word, and M's numbers are turned, and nothing else.
+pub A-reordered : reordered bookA ≡ bigA
+A-reordered = refl
+
+pub M-turned : OtherWay treeA messageM valuesM bigM
+unfolding all valuesM contents
+M-turned =
+    record {
+      runs = row (turned 0 2 refl) (row (turned 2 2 refl) (row (turned 4 2 refl) (row (turned 6 2 refl)
+          (row (turned 8 2 refl) (row (turned 10 2 refl)
+          (row (turned 12 4 refl) (row (turned 16 2 refl) (row (kept 18 2)
+          (row (turned 20 2 refl) (row (turned 22 2 refl) (row (kept 24 4)
+          (row (turned 28 2 refl) (kept 30 2)))))))))))));
+      template = refl;
+      reads = refl;
+      octets = refl;
+    }
+
+pub bigM-written : writeOf bigA 1 (listing valuesM) messageM 32 ≡ done bigM
+unfolding all valuesM
+bigM-written = refl
 
 -- ---- "Readings that look right": two of the worked cases shut out the first and the third, and these the others
 

@@ -1,6 +1,6 @@
 -- Everything that computes, under one name: what says `unfolding all` is evaluated to its answer.
 use Rattle.layout.specs.Result.{_>>=_, must, orRefuse, asRefusal, _and_, _or_, if_then_else_}
-use Rattle.layout.specs.Octets.{numberOf, octetsOf, textLength, wordsOf}
+use Rattle.layout.specs.Octets.{inOrder, lowest, numberOf, textLength, wordsOf}
 use Rattle.layout.specs.Types.{typeAt, valueOf, inRange, classify}
 use Rattle.layout.specs.Lists.{findNames, isOneOf, onlyBits, isListed, beside}
 use Rattle.layout.specs.Book.{findTemplate, needAfter, groupSinces, present}
@@ -22,7 +22,7 @@ use Rattle.layout.specs.Writing.{writeOf, judgeNull, judgeArray}
 unfoldable pub all : Unit {0}
 unfolding
     _>>=_ must orRefuse asRefusal _and_ _or_ if_then_else_
-    numberOf octetsOf textLength wordsOf
+    numberOf lowest inOrder textLength wordsOf
     typeAt valueOf inRange classify
     findNames isOneOf onlyBits isListed beside
     findTemplate needAfter groupSinces present

@@ -43,9 +43,14 @@ pub record Template : Type 0 where
   pub shape : Shape
   pub groups : Groups
 
+-- What the head says of every message by the book: whether it is big-endian.
+pub record Format : Type 0 where
+  pub big : Bool
+
 pub record Book : Type 0 where
   pub schema : ℕ
   pub version : ℕ
+  pub format : Format
   pub lists : List NameList
   pub templates : List Template
 

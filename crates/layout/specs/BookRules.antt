@@ -9,7 +9,7 @@ use Rattle.layout.specs.Result.{Result, done, refused, _>>=_, must, asRe
 use Rattle.layout.specs.Octets.{wordsOf, null16}
 use Rattle.layout.specs.Types.{typeAt}
 use Rattle.layout.specs.Lists.{Kind, NameList, enumeration, findNames, free, isOneOf, missing, set}
-use Rattle.layout.specs.Book.{Field, Data, Shape, Groups, none, more, Template, Book, end, isArray}
+use Rattle.layout.specs.Book.{Field, Data, Shape, Groups, none, more, Template, Format, Book, end, isArray}
 use Rattle.layout.specs.Book.{fieldSinces, dataSinces}
 
 abbrev pub word : List ℕ → ℕ → ℕ
@@ -195,9 +195,9 @@ eachMust f n t [] = done tt
 eachMust f n t (x ∷ xs) = must (f x) n t >>= λ _. eachMust f n (suc t) xs
 
 -- "Head, four words: schema id, schema version, number of templates (1 to 64), number of words in the book"; "The head
--- gains a fifth word, the number of lists".
+-- gains a fifth word, the number of lists", and "a sixth word, 0 little or 1 big".
 abbrev pub headSize : ℕ
-headSize = 5
+headSize = 6
 
 abbrev pub contentsSize : List ℕ → ℕ
 contentsSize b = 3 * (word b 2 + word b 4)
@@ -218,7 +218,10 @@ listsOf b = map (nameListOf b) (listRows b)
 abbrev pub headGood : List ℕ → Bool
 headGood b =
     eqb (word b 3) (length b) and ltb (word b 0) null16 and ltb (word b 1) null16
-    and leb 1 (word b 2) and leb (word b 2) 64 and leb (headSize + contentsSize b) (length b)
+    and leb 1 (word b 2) and leb (word b 2) 64 and leb (word b 5) 1 and leb (headSize + contentsSize b) (length b)
+
+abbrev pub formatOf : List ℕ → Format
+formatOf b = record { big = eqb (word b 5) 1 }
 
 -- "1: book octets odd, under 8 or over 8,192"
 abbrev pub sizeGood : List ℕ → Bool
@@ -243,4 +246,4 @@ bookOf octets = do
   _ ← eachMust listGood 4 (word b 2) ls
   _ ← eachMust layoutGood 5 0 ts
   _ ← eachMust (sinceGood (word b 1)) 6 0 ts
-  done (record { schema = word b 0; version = word b 1; lists = ls; templates = ts })
+  done (record { schema = word b 0; version = word b 1; format = formatOf b; lists = ls; templates = ts })

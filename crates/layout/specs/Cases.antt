@@ -1,5 +1,5 @@
--- The cases that document 01 marks P, and some of name lists and of text: one table, one theorem, which the checker
--- computes.
+-- The cases that document 01 marks P, and some of name lists, of text and of the order: one table, one theorem, which
+-- the checker computes.
 use mathlib.Core.Path.{_≡_, refl}
 use mathlib.Core.Bool.{Bool, true, false}
 use mathlib.Core.List.{List, [], _∷_, _++_, map}
@@ -7,7 +7,7 @@ use Prim.Native.Nat.{ℕ, _+_, _-_, _/_, _%_, _^_}
 use lib.ListN.{take, set, length}
 use Rattle.layout.specs.All.{all}
 use Rattle.layout.specs.Result.{Result, _>>=_, _and_, done, if_then_else_, refused}
-use Rattle.layout.specs.Octets.{numberOf}
+use Rattle.layout.specs.Octets.{numberAt}
 use Rattle.layout.specs.Types.{TypeRow, typeAt, valueOf, classify}
 use Rattle.layout.specs.Values.{recordOf}
 use Rattle.layout.specs.Reading.{listOf}
@@ -18,12 +18,13 @@ words [] = []
 words (w ∷ ws) = w % 256 ∷ w / 256 ∷ words ws
 
 -- "Book A (37 words): head 7 0 1 37; contents 1 7 30; block 8 2 1 1; fields 38 6 1 0 0 0 and 44 3 1 4 1 0; data 58 0;
--- group 453 0, block 2 1 0 0, field 452 2 1 0 0 0", recast "with each new word": the head's fifth, a field's seventh.
-abbrev pub bookA : List ℕ
-bookA =
+-- group 453 0, block 2 1 0 0, field 452 2 1 0 0 0", recast "with each new word": the head's fifth, a field's seventh,
+-- and the order as the head's sixth.
+abbrev pub orderedA : ℕ → List ℕ
+orderedA order =
     words
-    (7 ∷ 0 ∷ 1 ∷ 41 ∷ 0
-    ∷ 1 ∷ 8 ∷ 33
+    (7 ∷ 0 ∷ 1 ∷ 42 ∷ 0 ∷ order
+    ∷ 1 ∷ 9 ∷ 33
     ∷ 8 ∷ 2 ∷ 1 ∷ 1
     ∷ 38 ∷ 6 ∷ 1 ∷ 0 ∷ 0 ∷ 0 ∷ 0
     ∷ 44 ∷ 3 ∷ 1 ∷ 4 ∷ 1 ∷ 0 ∷ 0
@@ -31,13 +32,19 @@ bookA =
     ∷ 453 ∷ 0 ∷ 2 ∷ 1 ∷ 0 ∷ 0 ∷ 452 ∷ 2 ∷ 1 ∷ 0 ∷ 0 ∷ 0 ∷ 0
     ∷ [])
 
+abbrev pub bookA : List ℕ
+bookA = orderedA 0
+
+abbrev pub bigA : List ℕ
+bigA = orderedA 1
+
 -- "Book B extends A at version 1: root field uint8, offset 6, required, since 1; a second root group, block 4, one
 -- required uint32, since 1."
 abbrev pub bookB : List ℕ
 bookB =
     words
-    (7 ∷ 1 ∷ 1 ∷ 61 ∷ 0
-    ∷ 1 ∷ 8 ∷ 53
+    (7 ∷ 1 ∷ 1 ∷ 62 ∷ 0 ∷ 0
+    ∷ 1 ∷ 9 ∷ 53
     ∷ 8 ∷ 3 ∷ 2 ∷ 1
     ∷ 38 ∷ 6 ∷ 1 ∷ 0 ∷ 0 ∷ 0 ∷ 0
     ∷ 44 ∷ 3 ∷ 1 ∷ 4 ∷ 1 ∷ 0 ∷ 0
@@ -51,10 +58,10 @@ bookB =
 abbrev pub bookL : ℕ → List ℕ → List ℕ → List ℕ
 bookL version flags codes =
     words
-    (7 ∷ version ∷ 1 ∷ (49 + length flags + length codes) ∷ 2
-    ∷ 1 ∷ 14 ∷ 33
-    ∷ 2 ∷ 47 ∷ (1 + length flags)
-    ∷ 9 ∷ (48 + length flags) ∷ (1 + length codes)
+    (7 ∷ version ∷ 1 ∷ (50 + length flags + length codes) ∷ 2 ∷ 0
+    ∷ 1 ∷ 15 ∷ 33
+    ∷ 2 ∷ 48 ∷ (1 + length flags)
+    ∷ 9 ∷ (49 + length flags) ∷ (1 + length codes)
     ∷ 8 ∷ 2 ∷ 1 ∷ 1
     ∷ 38 ∷ 6 ∷ 1 ∷ 0 ∷ 0 ∷ 0 ∷ 3
     ∷ 44 ∷ 3 ∷ 1 ∷ 4 ∷ 1 ∷ 0 ∷ 0
@@ -77,6 +84,15 @@ messageM =
     ∷ 0xe8 ∷ 0x03 ∷ 0x00 ∷ 0x00 ∷ 0xfb ∷ 0xff ∷ 0x00 ∷ 0x00
     ∷ 0x02 ∷ 0x00 ∷ 0x02 ∷ 0x00 ∷ 0x01 ∷ 0x00 ∷ 0x03 ∷ 0x00
     ∷ 0x02 ∷ 0x00 ∷ 0x61 ∷ 0x62
+    ∷ []
+
+-- M for a book of big-endian messages: each number turned, all other octets as they are.
+abbrev pub bigM : List ℕ
+bigM =
+    0x00 ∷ 0x08 ∷ 0x00 ∷ 0x01 ∷ 0x00 ∷ 0x07 ∷ 0x00 ∷ 0x00 ∷ 0x00 ∷ 0x01 ∷ 0x00 ∷ 0x01
+    ∷ 0x00 ∷ 0x00 ∷ 0x03 ∷ 0xe8 ∷ 0xff ∷ 0xfb ∷ 0x00 ∷ 0x00
+    ∷ 0x00 ∷ 0x02 ∷ 0x00 ∷ 0x02 ∷ 0x01 ∷ 0x00 ∷ 0x03 ∷ 0x00
+    ∷ 0x00 ∷ 0x02 ∷ 0x61 ∷ 0x62
     ∷ []
 
 -- "B's message with 9 and one entry 42"
@@ -125,8 +141,8 @@ nine-rows = refl
 abbrev pub bookT : List ℕ
 bookT =
     words
-    (7 ∷ 0 ∷ 1 ∷ 26 ∷ 0
-    ∷ 1 ∷ 8 ∷ 18
+    (7 ∷ 0 ∷ 1 ∷ 27 ∷ 0 ∷ 0
+    ∷ 1 ∷ 9 ∷ 18
     ∷ 8 ∷ 2 ∷ 0 ∷ 0
     ∷ 55 ∷ 0 ∷ 4 ∷ 0 ∷ 0 ∷ 0 ∷ 0
     ∷ 65 ∷ 0 ∷ 4 ∷ 4 ∷ 1 ∷ 0 ∷ 0
@@ -138,12 +154,13 @@ messageT texts = 0x08 ∷ 0 ∷ 0x01 ∷ 0 ∷ 0x07 ∷ 0 ∷ 0 ∷ 0 ∷ 0 ∷ 
 pub data Case : Type 0 where
   -- a book and a message, listed by the program's room
   listed : List ℕ → List ℕ → Case
-  -- a type, whether the field is optional, and its octets
-  holds : ℕ → Bool → List ℕ → Case
+  -- whether big-endian, a type, whether the field is optional, and its octets
+  holds : Bool → ℕ → Bool → List ℕ → Case
 
 abbrev pub answer : Case → Result (List ℕ)
 answer (listed b m) = listOf b m 6000 >>= λ l. done (l .1)
-answer (holds t optional s) = done (recordOf (classify (typeAt t) optional (valueOf (typeAt t) (numberOf s))))
+answer (holds big t optional s) =
+    let k = typeAt t in done (recordOf (classify k optional (valueOf k (numberAt big (k .width) s 0))))
 
 pub record Row : Type 0 where
   pub case : Case
@@ -185,9 +202,17 @@ table =
     ∷ (listed bookA (with16 messageM 8 2) says refused 15 8)
     ∷ (listed bookA (with16 messageM 28 65535) says refused 19 28)
     ∷ (listed bookA (with16 messageM 28 65534) says refused 16 28)
-    ∷ (holds 6 false (0x10 ∷ 0x27 ∷ 0x00 ∷ 0x00 ∷ []) says done (0 ∷ 10000 ∷ 0 ∷ []))
-    ∷ (holds 1 true (128 ∷ []) says done (1 ∷ 0 ∷ 0 ∷ []))
-    ∷ (holds 1 true (129 ∷ []) says done (0 ∷ minus 127 ∷ 0 ∷ []))
+    ∷ (holds false 6 false (0x10 ∷ 0x27 ∷ 0x00 ∷ 0x00 ∷ []) says done (0 ∷ 10000 ∷ 0 ∷ []))
+    ∷ (holds false 1 true (128 ∷ []) says done (1 ∷ 0 ∷ 0 ∷ []))
+    ∷ (holds false 1 true (129 ∷ []) says done (0 ∷ minus 127 ∷ 0 ∷ []))
+    -- the order: M turned lists alike; neither message is the other book's; "2 also for another order word"
+    ∷ (listed bigA bigM says
+    done (0 ∷ 1000 ∷ 0 ∷ 0 ∷ minus5 ∷ 0 ∷ 4 ∷ 2 ∷ 0 ∷ 0 ∷ 1 ∷ 0 ∷ 0 ∷ 3 ∷ 0 ∷ 2 ∷ 30 ∷ 2 ∷ []))
+    ∷ (listed bigA messageM says refused 12 4)
+    ∷ (listed bookA bigM says refused 12 4)
+    ∷ (listed bigA (with16 bigM 28 65535) says refused 19 28)
+    ∷ (listed (orderedA 2) messageM says refused 2 0)
+    ∷ (holds true 6 false (0x00 ∷ 0x00 ∷ 0x27 ∷ 0x10 ∷ []) says done (0 ∷ 10000 ∷ 0 ∷ []))
     ∷ []
 
 pub all-hold : map (λ (r : Row). answer (r .case)) table ≡ map (λ (r : Row). r .says) table

@@ -1,17 +1,22 @@
--- The words in which demands 2 and 3 are said.
+-- The words in which demands 2 and 3 are said, and what the two orders have in common.
 use mathlib.Core.Path.{_≡_}
-use mathlib.Core.Bool.{false, true}
-use mathlib.Core.List.{List, [], _∷_, map}
-use Prim.Native.Nat.{_+_, _-_, suc, zero, ℕ}
+use mathlib.Core.Bool.{Bool, false, not, true}
+use mathlib.Core.List.{List, [], _++_, _∷_, map, reverse}
+use Prim.Native.Nat.{_*_, _+_, _-_, suc, zero, ℕ}
 use lib.Dec.{eqb}
-use lib.ListN.{drop, getD, replicate, take}
-use Rattle.layout.specs.Result.{Each, if_then_else_}
+use lib.ListN.{drop, getD, length, replicate, set, take}
+use Rattle.layout.specs.Result.{Each, done, if_then_else_}
 use Rattle.layout.specs.Octets.{number16, textLength}
+use Rattle.layout.specs.Types.{isWidth}
 use Rattle.layout.specs.Lists.{Names, beside, has, noNames}
 use Rattle.layout.specs.Book.{Book, Field, Groups, Shape, Template, end, isText, more, none}
-use Rattle.layout.specs.Values.{Step, Values, entry, group, nil}
-use Rattle.layout.specs.Message.{blockLength, dimensionSize, headerSize, versionOf}
+use Rattle.layout.specs.Values.{Step, Values, entry, group, listing, nil}
+use Rattle.layout.specs.Message.{blockLength, dimensionSize, headerSize, readMessage, templateId, versionOf}
 use Rattle.layout.specs.Writing.{rowLength}
+use Rattle.layout.specs.Contracts.{AnswersPlace, Checks, Lists}
+use Rattle.layout.specs.declared.Checked.{Checked}
+use Rattle.layout.specs.declared.Counted as Counted
+use Rattle.layout.specs.declared.Counted.{Counted}
 use Rattle.layout.specs.declared.Found as Found
 use Rattle.layout.specs.declared.Found.{Found}
 use Rattle.layout.specs.declared.Element as Element
@@ -50,18 +55,18 @@ ZeroTail m at f =
 
 -- A row at `at` has the book's own block lengths, zero padding, and zeros after each text. Each entry or group
 -- therefore starts where the ones before it end by the formula of the written length.
-unfoldable pub OwnBlocks : List ℕ → Shape → Groups → ℕ → Values → Type 0
-OwnBlocks m s gs at nil = Unit {0}
-OwnBlocks m s gs at (entry fs g ds rest) =
+unfoldable pub OwnBlocks : Bool → List ℕ → Shape → Groups → ℕ → Values → Type 0
+OwnBlocks big m s gs at nil = Unit {0}
+OwnBlocks big m s gs at (entry fs g ds rest) =
     ZeroPadding m at (s .length) 0 (s .fields)
     × Each (ZeroTail m at) (s .fields)
-    × OwnBlocks m s gs (at + s .length) g
-    × OwnBlocks m s gs (at + rowLength s gs (entry fs g ds nil)) rest
-OwnBlocks m s none at (group a es rest) = Unit {0}
-OwnBlocks m s (more i since sh inner gs) at (group a es rest) =
-    (number16 m at ≡ sh .length)
-    × OwnBlocks m sh inner (at + dimensionSize) es
-    × OwnBlocks m s gs (at + dimensionSize + rowLength sh inner es) rest
+    × OwnBlocks big m s gs (at + s .length) g
+    × OwnBlocks big m s gs (at + rowLength s gs (entry fs g ds nil)) rest
+OwnBlocks big m s none at (group a es rest) = Unit {0}
+OwnBlocks big m s (more i since sh inner gs) at (group a es rest) =
+    (number16 big m at ≡ sh .length)
+    × OwnBlocks big m sh inner (at + dimensionSize) es
+    × OwnBlocks big m s gs (at + dimensionSize + rowLength sh inner es) rest
 
 -- "no value out of range", and "demand 2's writing back also asks for no kind 6".
 unfoldable pub Sound : Answer → Type 0
@@ -80,9 +85,9 @@ AllSound (group a es rest) = AllSound es × AllSound rest
 
 -- The message m, read as r, could have been written with the book.
 pub record AsWritten (b : Book) (t : Template) (m : List ℕ) (r : Values) : Type 0 where
-  pub version : versionOf m ≡ b .version
-  pub length : blockLength m ≡ t .shape .length
-  pub blocks : OwnBlocks m (t .shape) (t .groups) headerSize r
+  pub version : versionOf (b .format .big) m ≡ b .version
+  pub length : blockLength (b .format .big) m ≡ t .shape .length
+  pub blocks : OwnBlocks (b .format .big) m (t .shape) (t .groups) headerSize r
   pub sound : AllSound r
 
 -- ---- "Demand 3 then allows the older book kind 6 with the same number where only its list lacks it": the names of a
@@ -115,3 +120,47 @@ pub data AlikeOrUnlisted {R : Type 0} (is : Answer → R) (l : Names) (older new
   alike : older ≡ newer → AlikeOrUnlisted is l older newer
   unlisted : (x : ℕ) → newer ≡ is (Number x) → older ≡ is (Unlisted x) → has l x ≡ false
       → AlikeOrUnlisted is l older newer
+
+-- ---- "A venue that sends big-endian": a book, and the same book with the other order word
+
+abbrev pub otherOrder : Book → Book
+otherOrder b =
+    record {
+      schema = b .schema;
+      version = b .version;
+      format = record { big = not (b .format .big) };
+      lists = b .lists;
+      templates = b .templates;
+    }
+
+-- Its octets: word 5, the order, is "0 little or 1 big", so that the first of its two octets says it.
+abbrev pub reordered : List ℕ → List ℕ
+reordered book = set book 10 (1 - getD book 10 0)
+
+-- The octets of m from one place to another, the same but for numbers turned: each a run of 1, 2, 4 or 8 octets, and
+-- what is between them kept.
+pub data Runs (m : List ℕ) : ℕ → List ℕ → ℕ → Type 0 where
+  kept : (at n : ℕ) → Runs m at (take n (drop at m)) (at + n)
+  turned : (at w : ℕ) → isWidth w ≡ true → Runs m at (reverse (take w (drop at m))) (at + w)
+  row : {at mid to : ℕ} {xs ys : List ℕ} → Runs m at xs mid → Runs m mid ys to → Runs m at (xs ++ ys) to
+
+-- m′ is to the book of the other order what m, read as the tree r, is to b: the same but for numbers turned, and read
+-- by the same template as the same tree, of the same octets.
+pub record OtherWay (b : Book) (m : List ℕ) (r : Values) (m′ : List ℕ) : Type 0 where
+  pub runs : Runs m 0 m′ (length m)
+  pub template : templateId (otherOrder b .format .big) m′ ≡ templateId (b .format .big) m
+  pub reads : readMessage (otherOrder b) m′ ≡ done r
+  pub octets : contents m′ (listing r) ≡ contents m (listing r)
+
+-- Every call answers alike, starts included: it returns the same for m by `book` and for m′ by book′, and leaves the
+-- same in the room that it was lent. The octets that a listing leads to are the same too.
+pub record CallsAlike (book m book′ m′ : List ℕ) : Type 0 where
+  pub checks : (r r′ : Checked) → Checks book m r → Checks book′ m′ r′ → r ≡ r′
+  pub lists : (before after after′ : List ℕ) (r r′ : Counted) → Lists book m before r after
+      → Lists book′ m′ before r′ after′
+      → (r ≡ r′) × (after ≡ after′)
+  pub answers : (steps : List ℕ) (x : Element) (r r′ : Found) → AnswersPlace book m steps x r
+      → AnswersPlace book′ m′ steps x r′
+      → r ≡ r′
+  pub octets : (before after : List ℕ) (n : ℕ) → Lists book m before (Counted.the-variants.Count n) after
+      → contents m (take (3 * n) after) ≡ contents m′ (take (3 * n) after)

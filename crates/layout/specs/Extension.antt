@@ -78,8 +78,9 @@ module _ (limit : ℕ) where
     pub groups : ExtendsGroups true (old .groups) (newer .groups)
 
 -- "the schema id is equal, its version is greater, and each older template stands in it"; "templates that only the
--- newer book has are free"
+-- newer book has are free"; "A legal extension keeps the order"
 pub record Extends (old new : Book) : Type 0 where
   pub schema : old .schema ≡ new .schema
   pub version : old .version < new .version
+  pub format : old .format ≡ new .format
   pub templates : Each (λ t. StandsIn (old .version) t (new .templates)) (old .templates)

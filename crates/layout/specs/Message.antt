@@ -22,37 +22,39 @@ headerNumbers = 6
 abbrev pub headerSize : ℕ
 headerSize = 12
 
-abbrev pub blockLength : List ℕ → ℕ
-blockLength m = number16 m 0
+-- They are in the book's order, as every number of a message is.
 
-abbrev pub templateId : List ℕ → ℕ
-templateId m = number16 m 2
+abbrev pub blockLength : Bool → List ℕ → ℕ
+blockLength big m = number16 big m 0
 
-abbrev pub schemaId : List ℕ → ℕ
-schemaId m = number16 m 4
+abbrev pub templateId : Bool → List ℕ → ℕ
+templateId big m = number16 big m 2
 
-abbrev pub versionOf : List ℕ → ℕ
-versionOf m = number16 m 6
+abbrev pub schemaId : Bool → List ℕ → ℕ
+schemaId big m = number16 big m 4
 
-abbrev pub groupCount : List ℕ → ℕ
-groupCount m = number16 m 8
+abbrev pub versionOf : Bool → List ℕ → ℕ
+versionOf big m = number16 big m 6
 
-abbrev pub dataCount : List ℕ → ℕ
-dataCount m = number16 m 10
+abbrev pub groupCount : Bool → List ℕ → ℕ
+groupCount big m = number16 big m 8
+
+abbrev pub dataCount : Bool → List ℕ → ℕ
+dataCount big m = number16 big m 10
 
 -- "a dimension (block length and entry count, 16 bits each ..)"
 abbrev pub dimensionSize : ℕ
 dimensionSize = 4
 
--- ---- what may be surplus: m is the message
+-- ---- what may be surplus: m is the message, of big-endian numbers if `big`
 
-module _ (m : List ℕ) where
+module _ (big : Bool) (m : List ℕ) where
   -- "A data is a 16-bit length and that many octets": what it is, and where it ends. "at data 16 for the length, 19, 16
   -- for the octets"
   unfoldable pub readData : ℕ → Result (Answer × ℕ)
   readData at = do
     _ ← must (leb (at + 2) (length m)) 16 at
-    let n = number16 m at
+    let n = number16 big m at
     _ ← must (ltb n null16) 19 at
     _ ← must (leb (at + 2 + n) (length m)) 16 at
     done (Octets (at + 2) n, at + 2 + n)
@@ -69,8 +71,8 @@ module _ (m : List ℕ) where
   unfoldable pub readDimension : ℕ → ℕ → Result (ℕ × ℕ)
   readDimension least at = do
     _ ← must (leb (at + dimensionSize) (length m)) 16 at
-    let l = number16 m at
-    let k = number16 m (at + 2)
+    let l = number16 big m at
+    let k = number16 big m (at + 2)
     _ ← must (ltb l null16 and ltb k null16) 17 at
     _ ← must (leb least l) 18 at
     done (l, k)
@@ -111,13 +113,13 @@ module _ (m : List ℕ) where
   arrayAt start f = if isChar f then textAt start f else Octets start (f .length)
 
 -- "Let v be the message's version."
-module _ (m : List ℕ) (v : ℕ) where
+module _ (big : Bool) (m : List ℕ) (v : ℕ) where
   -- A field that is present in the block at `at`.
   abbrev pub presentField : ℕ → Field → Answer
   presentField at f =
       let k = typeAt (f .type) in
       let start = at + f .offset in
-      let value = valueOf k (numberAt (k .width) m start) in
+      let value = valueOf k (numberAt big (k .width) m start) in
       if isArray f then arrayAt m start f else beside (f .names) (classify k (isOptional f) value)
 
   -- "An element with since above v is absent, even where the block has octets for it."
@@ -127,10 +129,10 @@ module _ (m : List ℕ) (v : ℕ) where
   -- The data of a block in order, and then n surplus ones.
   unfoldable pub readDatas : List Data → ℕ → ℕ → Result (List Answer × ℕ)
   readDatas [] n at = do
-    x ← skipDatas m n at
+    x ← skipDatas big m n at
     done ([], x)
   readDatas (d ∷ ds) n at = do
-    (a, x) ← if leb (d .since) v then readData m at else done (Absent, at)
+    (a, x) ← if leb (d .since) v then readData big m at else done (Absent, at)
     (rest, y) ← readDatas ds n x
     done (a ∷ rest, y)
 
@@ -147,14 +149,14 @@ module _ (m : List ℕ) (v : ℕ) where
   -- group of zero entries; octets beyond are skipped."
   unfoldable pub readGroup : Shape → (ℕ → Result (Values × ℕ)) → ℕ → Result (Answer × Values × ℕ)
   readGroup s f at = do
-    (l, k) ← readDimension m (need v s) at
+    (l, k) ← readDimension big m (need v s) at
     (es, x) ← readEntries k (readBlock s f 0 l) (at + dimensionSize)
     done (Group k, es, x)
 
   -- The groups of a block in order, and then n surplus ones; inside groups there are none.
   unfoldable pub readGroups : Groups → ℕ → ℕ → Result (Values × ℕ)
   readGroups none n at = do
-    x ← skipGroups m n at
+    x ← skipGroups big m n at
     done (nil, x)
   readGroups (more i since s inner rest) n at = do
     (a, es, x) ← if leb since v then readGroup s (readGroups inner 0) at else done (Absent, nil, at)
@@ -164,20 +166,20 @@ module _ (m : List ℕ) (v : ℕ) where
 -- ---- the whole message
 
 -- "11: a header number is 65535 | offset of the first such": n numbers from `at` on.
-unfoldable pub headerWhole : List ℕ → ℕ → ℕ → Result (Unit {0})
-headerWhole m zero at = done tt
-headerWhole m (suc n) at = must (ltb (number16 m at) null16) 11 at >>= λ _. headerWhole m n (at + 2)
+unfoldable pub headerWhole : Bool → List ℕ → ℕ → ℕ → Result (Unit {0})
+headerWhole big m zero at = done tt
+headerWhole big m (suc n) at = must (ltb (number16 big m at) null16) 11 at >>= λ _. headerWhole big m n (at + 2)
 
 -- 10 to 12: "message under 12 or over 65,535 octets", 11, "schema id differs".
-unfoldable pub checkHeader : ℕ → List ℕ → Result (Unit {0})
-checkHeader schema m = do
+unfoldable pub checkHeader : Bool → ℕ → List ℕ → Result (Unit {0})
+checkHeader big schema m = do
   _ ← must (leb headerSize (length m) and leb (length m) 65535) 10 0
-  _ ← headerWhole m headerNumbers 0
-  must (eqb (schemaId m) schema) 12 4
+  _ ← headerWhole big m headerNumbers 0
+  must (eqb (schemaId big m) schema) 12 4
 
 -- 13: "template unknown".
 abbrev pub templateOf : Book → List ℕ → Result Template
-templateOf b m = orRefuse (findTemplate (templateId m) (b .templates)) 13 2
+templateOf b m = orRefuse (findTemplate (templateId (b .format .big) m) (b .templates)) 13 2
 
 -- "If v is at most the book's version, the header's counts equal the numbers of root groups and data with since at most
 -- v. If v is greater, each is at least the book's number": of the elements with these sinces the header counts n.
@@ -186,31 +188,31 @@ countGood version v ss n = if leb v version then eqb n (present v ss) else leb (
 
 -- 14 and 15, by the message's template and the book's version: how many groups and data of the root the header counts
 -- beyond those that are present.
-unfoldable pub surplusOf : ℕ → Template → List ℕ → Result (ℕ × ℕ)
-surplusOf version t m = do
-  let v = versionOf m
+unfoldable pub surplusOf : Bool → ℕ → Template → List ℕ → Result (ℕ × ℕ)
+surplusOf big version t m = do
+  let v = versionOf big m
   let groups = groupSinces (t .groups)
   let datas = dataSinces (t .shape .datas)
-  _ ← must (leb (need v (t .shape)) (blockLength m)) 14 0
-  _ ← must (countGood version v groups (groupCount m)) 15 8
-  _ ← must (countGood version v datas (dataCount m)) 15 10
-  done (groupCount m - present v groups, dataCount m - present v datas)
+  _ ← must (leb (need v (t .shape)) (blockLength big m)) 14 0
+  _ ← must (countGood version v groups (groupCount big m)) 15 8
+  _ ← must (countGood version v datas (dataCount big m)) 15 10
+  done (groupCount big m - present v groups, dataCount big m - present v datas)
 
 -- 16 to 20: the root block and what follows it, up to the message's end.
-unfoldable pub readWhole : Template → List ℕ → ℕ × ℕ → Result Values
-readWhole t m (groups, datas) = do
-  let v = versionOf m
-  let root = readGroups m v (t .groups) groups
-  (fs, gs, ds, e) ← readBlock m v (t .shape) root datas (blockLength m) headerSize
+unfoldable pub readWhole : Bool → Template → List ℕ → ℕ × ℕ → Result Values
+readWhole big t m (groups, datas) = do
+  let v = versionOf big m
+  let root = readGroups big m v (t .groups) groups
+  (fs, gs, ds, e) ← readBlock big m v (t .shape) root datas (blockLength big m) headerSize
   _ ← must (eqb e (length m)) 20 e
   done (entry fs gs ds nil)
 
-unfoldable pub readRoot : ℕ → Template → List ℕ → Result Values
-readRoot version t m = surplusOf version t m >>= readWhole t m
+unfoldable pub readRoot : Bool → ℕ → Template → List ℕ → Result Values
+readRoot big version t m = surplusOf big version t m >>= readWhole big t m
 
 -- "Message: 10 to 15 in order, then the walk in wire order, first fault only."
 unfoldable pub readMessage : Book → List ℕ → Result Values
 readMessage b m = do
-  _ ← checkHeader (b .schema) m
+  _ ← checkHeader (b .format .big) (b .schema) m
   t ← templateOf b m
-  readRoot (b .version) t m
+  readRoot (b .format .big) (b .version) t m

@@ -1,28 +1,38 @@
--- Numbers as octets, the least significant first, said once over the width. Every number of a book, a message or a
--- listing's pool is read by `numberAt` and written by `octetsOf`.
-use mathlib.Core.List.{List, [], _∷_}
+-- Numbers as octets, said once over the width and the order. Every number of a message is read by `numberAt` and
+-- written by `octetsOf`, which take the order: `big` is whether the most significant octet comes first.
+use mathlib.Core.Bool.{Bool, false, true}
+use mathlib.Core.List.{List, [], _∷_, reverse}
 use Prim.Native.Nat.{_%_, _*_, _+_, _/_, _<_, _^_, suc, zero, ℕ}
 use lib.Dec.{eqb}
 use lib.ListN.{drop, getD, take}
 use Rattle.layout.specs.Result.{if_then_else_}
 
--- The number that the octets are.
+-- The number that the octets are, the least significant first.
 unfoldable pub numberOf : List ℕ → ℕ
 numberOf [] = 0
 numberOf (b ∷ bs) = b + 256 * numberOf bs
 
--- The w lowest octets of x.
-unfoldable pub octetsOf : ℕ → ℕ → List ℕ
-octetsOf zero x = []
-octetsOf (suc w) x = x % 256 ∷ octetsOf w (x / 256)
+-- The w lowest octets of x, the least significant first.
+unfoldable pub lowest : ℕ → ℕ → List ℕ
+lowest zero x = []
+lowest (suc w) x = x % 256 ∷ lowest w (x / 256)
+
+-- "0 little or 1 big": a number's octets, from the least significant first to the message's order, and back.
+unfoldable pub inOrder : Bool → List ℕ → List ℕ
+inOrder false s = s
+inOrder true s = reverse s
+
+-- The w octets that x is written as.
+abbrev pub octetsOf : Bool → ℕ → ℕ → List ℕ
+octetsOf big w x = inOrder big (lowest w x)
 
 -- The number in the w octets of m at `at`.
-abbrev pub numberAt : ℕ → List ℕ → ℕ → ℕ
-numberAt w m at = numberOf (take w (drop at m))
+abbrev pub numberAt : Bool → ℕ → List ℕ → ℕ → ℕ
+numberAt big w m at = numberOf (inOrder big (take w (drop at m)))
 
 -- The 16-bit number there.
-abbrev pub number16 : List ℕ → ℕ → ℕ
-number16 m at = numberAt 2 m at
+abbrev pub number16 : Bool → List ℕ → ℕ → ℕ
+number16 big m at = numberAt big 2 m at
 
 -- The greatest 16-bit number, which no block length, id, version, count or length may be.
 abbrev pub null16 : ℕ
@@ -33,7 +43,8 @@ unfoldable pub textLength : List ℕ → ℕ
 textLength [] = 0
 textLength (b ∷ bs) = if eqb b 0 then 0 else suc (textLength bs)
 
--- "Words are 16-bit, least significant octet first."
+-- "Words are 16-bit, least significant octet first", whatever the order of the messages: "Books themselves stay as they
+-- are."
 unfoldable pub wordsOf : List ℕ → List ℕ
 wordsOf [] = []
 wordsOf (a ∷ []) = []

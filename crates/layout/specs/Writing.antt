@@ -147,9 +147,9 @@ module _ (l pool : List ℕ) where
 -- ---- the octets of a tree; starts refer to the pool
 
 -- Header and dimensions: 16-bit numbers, one after the other.
-unfoldable pub numbers16 : List ℕ → List ℕ
-numbers16 [] = []
-numbers16 (x ∷ xs) = octetsOf 2 x ++ numbers16 xs
+unfoldable pub numbers16 : Bool → List ℕ → List ℕ
+numbers16 big [] = []
+numbers16 big (x ∷ xs) = octetsOf big 2 x ++ numbers16 big xs
 
 -- The start and length of octets.
 unfoldable pub spanOf : Answer → ℕ × ℕ
@@ -175,12 +175,14 @@ module _ (pool : List ℕ) where
   abbrev pub spanOctets : Answer → List ℕ
   spanOctets a = take (spanOf a .1) (drop (spanOf a .0) pool)
 
+-- Numbers are written big-endian if `big`.
+module _ (big : Bool) (pool : List ℕ) where
   -- A text is filled with NUL: "The writer fills with NUL."
   unfoldable pub fieldOctets : Field → Answer → List ℕ
-  fieldOctets f (Number x) = octetsOf (typeAt (f .type) .width) x
+  fieldOctets f (Number x) = octetsOf big (typeAt (f .type) .width) x
   fieldOctets f Null =
-      if isArray f then replicate (f .length) 0 else octetsOf (typeAt (f .type) .width) (typeAt (f .type) .null)
-  fieldOctets f (Octets start len) = spanOctets (Octets start len) ++ replicate (f .length - len) 0
+      if isArray f then replicate (f .length) 0 else octetsOf big (typeAt (f .type) .width) (typeAt (f .type) .null)
+  fieldOctets f (Octets start len) = spanOctets pool (Octets start len) ++ replicate (f .length - len) 0
   fieldOctets f Absent = []
   fieldOctets f (Group k) = []
   fieldOctets f (OutOfRange x) = []
@@ -195,7 +197,7 @@ module _ (pool : List ℕ) where
 
   unfoldable pub dataOctets : List Answer → List ℕ
   dataOctets [] = []
-  dataOctets (a ∷ ds) = octetsOf 2 (spanOf a .1) ++ (spanOctets a ++ dataOctets ds)
+  dataOctets (a ∷ ds) = octetsOf big 2 (spanOf a .1) ++ (spanOctets pool a ++ dataOctets ds)
 
   -- A row: the entries of a block s with groups gs, or the groups gs of a block s.
   unfoldable pub rowOctets : Shape → Groups → Values → List ℕ
@@ -204,7 +206,7 @@ module _ (pool : List ℕ) where
       (blockOctets (s .length) 0 (s .fields) fs ++ (rowOctets s gs g ++ dataOctets ds)) ++ rowOctets s gs rest
   rowOctets s none (group a es rest) = []
   rowOctets s (more i since sh inner gs) (group a es rest) =
-      numbers16 (sh .length ∷ entriesIn a ∷ []) ++ (rowOctets sh inner es ++ rowOctets s gs rest)
+      numbers16 big (sh .length ∷ entriesIn a ∷ []) ++ (rowOctets sh inner es ++ rowOctets s gs rest)
 
 -- "It writes the book's version, declared block lengths, the book's counts and zero padding."
 abbrev pub headerOf : Book → Template → List ℕ
@@ -213,7 +215,7 @@ headerOf b t =
 
 unfoldable pub messageOctets : Book → Template → List ℕ → Values → List ℕ
 messageOctets b t pool r =
-    numbers16 (headerOf b t) ++ rowOctets pool (t .shape) (t .groups) r
+    numbers16 (b .format .big) (headerOf b t) ++ rowOctets (b .format .big) pool (t .shape) (t .groups) r
 
 -- "Its length is 12 plus the declared root block, 4 per group record, the declared block per entry, and 2 plus its
 -- length per data."

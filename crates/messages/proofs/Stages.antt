@@ -6,16 +6,17 @@ use Prim.Native.Nat.{ℕ, zero, suc, _+_, _*_, _<_, _≤_}
 use native.Mathlib.Omega.{arith}
 use lib.Dec.{eqb}
 use lib.ListN.{length}
-use borrow.Author.Tests.{eq-eqb, eqb-true, le-leb, leb-true, lt-leb, lt-ltb, ltb-true}
-use Rattle.layout.specs.Result.{_>>=_, _and_, done, must}
+use borrow.Author.Tests.{eq-eqb, eqb-true, le-leb, leb-true, lt-leb, ltb-true}
+use Rattle.layout.specs.Result.{Each, _>>=_, _and_, must}
 use Rattle.layout.specs.Octets.{null16}
 use Rattle.layout.specs.BookRules.{word}
 use Rattle.layout.specs.Contracts.{refusal}
-use Rattle.layout.specs.Message.{checkHeader, headerNumbers, headerSize, headerWhole, templateId}
+use Rattle.layout.specs.Message.{checkHeader, headerSize, templateId}
 use Rattle.layout.specs.declared.Refusal.{Refusal}
 use Rattle.layout.proofs.Results.{and-left, and-right, inv-if}
+use Rattle.layout.proofs.Stands.{AllWhole}
 use Rattle.prepared.specs.Numbers.{contentsFrom}
-use Rattle.prepared.specs.Positions.{BlockAt}
+use Rattle.prepared.specs.Positions.{BlockAt, isBig}
 use Rattle.prepared.specs.Books.{HoldsBook, locationAmong, locationOf}
 use Rattle.prepared.specs.declared.Located.{Located}
 use Rattle.prepared.specs.declared.Located.the-variants as Located
@@ -27,7 +28,7 @@ use Rattle.wire.specs.Walks.{headerEnd, walked}
 use Rattle.wire.specs.declared.Header.{Header}
 use Rattle.wire.specs.declared.Walked.the-variants.{To, Refused}
 use Rattle.wire.proofs.Answers.{inv-refused, inv-to}
-use Rattle.wire.proofs.Parts.{header-told}
+use Rattle.wire.proofs.Parts.{header-whole, numbersIn}
 use Rattle.walk.specs.Walks.{Lent}
 use Rattle.messages.specs.Openings.{isOwn, known, knownAt, openAt, opened, rootBy}
 use Rattle.messages.specs.declared.Opened.the-variants as Opened
@@ -36,22 +37,23 @@ use Rattle.messages.proofs.Counts.{over-none}
 use Rattle.messages.proofs.Openings.{openBy, opens-by}
 
 module _ (p m : List ℕ) where
-  pub too-short : length m < headerSize → opened m (openAt p m) ≡ Opened.Refused (refusal 10 0)
+  pub too-short : length m < headerSize → opened (isBig p) m (openAt p m) ≡ Opened.Refused (refusal 10 0)
   unfolding opened openAt checkHeader must _>>=_ _and_
   too-short h = rw (lt-leb headerSize (length m) h) refl
 
-  pub too-long : headerSize ≤ length m → 65535 < length m → opened m (openAt p m) ≡ Opened.Refused (refusal 10 0)
+  pub too-long : headerSize ≤ length m → 65535 < length m
+      → opened (isBig p) m (openAt p m) ≡ Opened.Refused (refusal 10 0)
   unfolding opened openAt checkHeader must _>>=_ _and_
   too-long h l = rw (le-leb headerSize (length m) h, lt-leb (length m) 65535 l) refl
 
   module _ (schema : ℕ) (is : schema ≡ word p 0) where
-    pub header-refused : (z : Refusal) → Refused z ≡ walked headerEnd (checkHeader schema m)
-        → opened m (openAt p m) ≡ Opened.Refused z
+    pub header-refused : (z : Refusal) → Refused z ≡ walked headerEnd (checkHeader (isBig p) schema m)
+        → opened (isBig p) m (openAt p m) ≡ Opened.Refused z
     unfolding opened openAt _>>=_
     header-refused z e = rw (← is, inv-refused headerEnd _ z e) refl
 
-    pub header-good : (x k : ℕ) → To x k ≡ walked headerEnd (checkHeader schema m)
-        → (id : ℕ) → id ≡ templateId m → (place : Located) → place ≡ locationOf p id
+    pub header-good : (x k : ℕ) → To x k ≡ walked headerEnd (checkHeader (isBig p) schema m)
+        → (id : ℕ) → id ≡ templateId (isBig p) m → (place : Located) → place ≡ locationOf p id
         → openAt p m ≡ (known place >>= λ a. rootBy p a m)
     unfolding openAt knownAt _>>=_
     header-good x k e id i place q = rw (← is, inv-to headerEnd _ x k e .is, ← i, ← q) refl
@@ -68,34 +70,13 @@ rows-less p id a (suc n) w rows e =
     (λ h q. omega (arith, eqb-true (word p w) id h, rw (unshifted w) at (rows 0 (omega arith))))
     (λ h q. rows-less p id a n (w + 2) (λ i h. rw (shifted w i) at (rows (suc i) (omega arith))) q)
 
-module _ (p : List ℕ) (book : HoldsBook p) (m : List ℕ) (lent : Lent m headerSize) (h : Header) (is : IsHeader m h)
-    (a : ℕ) (at : locationOf p (h .template) ≡ Located.At a) where
+module _ (p : List ℕ) (book : HoldsBook p) (m : List ℕ) (lent : Lent m headerSize) (h : Header)
+    (is : IsHeader (isBig p) m h) (a : ℕ) (at : locationOf p (h .template) ≡ Located.At a) where
   pub own-block : BlockAt p 4 a
   own-block = found p book (h .template) a at .block
 
-  whole : h .length < null16 → h .schema < null16 → h .version < null16 → h .groups < null16 → h .datas < null16
-      → headerWhole m headerNumbers 0 ≡ done tt
-  unfolding headerWhole must _>>=_
-  whole l s v g d =
-      let less = rows-less p (h .template) a (word p 2) contentsFrom
-      (λ i n. let t = book .templates i n in omega (arith, t .less)) at in
-      rw (
-        ← (is .length .value),
-        ← (is .template .value),
-        ← (is .schema .value),
-        ← (is .version .value),
-        ← (is .groups .value),
-        ← (is .datas .value),
-        lt-ltb (h .length) null16 l,
-        lt-ltb (h .template) null16 less,
-        lt-ltb (h .schema) null16 s,
-        lt-ltb (h .version) null16 v,
-        lt-ltb (h .groups) null16 g,
-        lt-ltb (h .datas) null16 d,
-      ) refl
-
-  pub opens-own : isOwn p a h ≡ true → opened m (openAt p m) ≡ Opened.At a (h .version) (h .length) 0 0
-  unfolding isOwn openAt knownAt known must openBy _>>=_
+  pub opens-own : isOwn p a h ≡ true → opened (isBig p) m (openAt p m) ≡ Opened.At a (h .version) (h .length) 0 0
+  unfolding isOwn known must openBy _>>=_ walked Each
   opens-own own =
       let first = and-left _ _ own in
       let last = and-right _ _ own in
@@ -109,11 +90,16 @@ module _ (p : List ℕ) (book : HoldsBook p) (m : List ℕ) (lent : Lent m heade
       let short = ltb-true (h .length) null16 (and-right _ _ long) in
       let block = own-block .block in
       let v : word p 1 ≤ h .version = omega (arith, version) in
-      let good = header-told (word p 0) m (lent .inside, lent .short) (done tt)
-      (whole short (omega (arith, schema, book .schema)) (omega (arith, version, book .version))
-      (omega (arith, groups, block .fewGroups)) (omega (arith, datas, block .fewDatas))) (h .schema)
-      (is .schema .value) true (eq-eqb _ _ schema) in
-      rw (good, ← (is .template .value), at)
+      let less = rows-less p (h .template) a (word p 2) contentsFrom
+      (λ i n. let t = book .templates i n in omega (arith, t .less)) at in
+      let s : h .schema < null16 = omega (arith, schema, book .schema) in
+      let w : h .version < null16 = omega (arith, version, book .version) in
+      let g : h .groups < null16 = omega (arith, groups, block .fewGroups) in
+      let d : h .datas < null16 = omega (arith, datas, block .fewDatas) in
+      let whole : AllWhole (numbersIn h) = (short, (less, (s, (w, (g, (d, tt)))))) in
+      let good = header-whole h (word p 0) (To 12 0) whole true (eq-eqb _ _ schema) refl in
+      let checked = good (isBig p) m (lent .inside, lent .short) is in
+      rw (header-good p m (word p 0) refl 12 0 checked _ (is .template .value) _ (sym at))
       (opens-by p a m h is true (Is 0) (Is 0) (le-leb _ _ (rw (block .needs (h .version) v) at enough))
       (over-none (word p 1) (h .version) (h .groups) _ (omega (arith, version))
       (groups ∙ sym (groups-here p (h .version) 4 _ _ v (own-block .row))))

@@ -10,6 +10,7 @@ use Rattle.layout.specs.Book.{present}
 use Rattle.layout.specs.BookRules.{word}
 use Rattle.layout.specs.Contracts.{refusal}
 use Rattle.layout.specs.Message.{blockLength, checkHeader, countGood, surplusOf, templateId, versionOf}
+use Rattle.prepared.specs.Positions.{isBig}
 use Rattle.prepared.specs.Books.{locationOf, templateAt}
 use Rattle.prepared.specs.declared.Located as Located
 use Rattle.prepared.specs.declared.Located.{Located}
@@ -37,23 +38,23 @@ known Located.the-variants.Unknown = refused 13 2
 
 -- 14 and 15, by the template's block at a: that place, and how many groups and data are surplus.
 abbrev pub rootBy : List ℕ → ℕ → List ℕ → Result (ℕ × ℕ × ℕ)
-rootBy p a m = surplusOf (word p 1) (templateAt p a) m >>= λ s. done (a, s .0, s .1)
+rootBy p a m = surplusOf (isBig p) (word p 1) (templateAt p a) m >>= λ s. done (a, s .0, s .1)
 
 -- 13 to 15.
 unfoldable pub knownAt : List ℕ → List ℕ → Result (ℕ × ℕ × ℕ)
-knownAt p m = known (locationOf p (templateId m)) >>= λ a. rootBy p a m
+knownAt p m = known (locationOf p (templateId (isBig p) m)) >>= λ a. rootBy p a m
 
 -- 10 to 15.
 unfoldable pub openAt : List ℕ → List ℕ → Result (ℕ × ℕ × ℕ)
-openAt p m = checkHeader (word p 0) m >>= λ _. knownAt p m
+openAt p m = checkHeader (isBig p) (word p 0) m >>= λ _. knownAt p m
 
-unfoldable pub opened : List ℕ → Result (ℕ × ℕ × ℕ) → Opened
-opened m (done (a, g, d)) = Opened.the-variants.At a (versionOf m) (blockLength m) g d
-opened m (refused n p) = Opened.the-variants.Refused (refusal n p)
+unfoldable pub opened : Bool → List ℕ → Result (ℕ × ℕ × ℕ) → Opened
+opened big m (done (a, g, d)) = Opened.the-variants.At a (versionOf big m) (blockLength big m) g d
+opened big m (refused n p) = Opened.the-variants.Refused (refusal n p)
 
 -- r opens whatever message has these numbers for its header, by the template's block at a.
 abbrev pub OpensBy : List ℕ → ℕ → Header → Opened → Type 0
-OpensBy p a h r = (m : List ℕ) → IsHeader m h → r ≡ opened m (rootBy p a m)
+OpensBy p a h r = (m : List ℕ) → IsHeader (isBig p) m h → r ≡ opened (isBig p) m (rootBy p a m)
 
 -- The header is as a writer by the book has it for the template whose block stands at a; its block may be longer.
 unfoldable pub isOwn : List ℕ → ℕ → Header → Bool

@@ -10,7 +10,7 @@ ghost use Prim.Native.Nat.{_-_, _≤_};
 ghost use Rattle.layout.specs.Book.{dataSinces, groupSinces, present};
 ghost use Rattle.layout.specs.Contracts.{refusal};
 ghost use Rattle.layout.specs.Result.{if_then_else_, _and_};
-ghost use Rattle.prepared.specs.Positions.{BlockAt, IsBlock, innerAt, shapeAt, versionAt};
+ghost use Rattle.prepared.specs.Positions.{BlockAt, IsBlock, innerAt, isBig, shapeAt, versionAt};
 ghost use Rattle.prepared.specs.Books.{HoldsBook, locationOf};
 ghost use Rattle.wire.specs.Headers.{IsHeader};
 ghost use Rattle.walk.specs.Walks.{Lent};
@@ -157,11 +157,12 @@ fn open_by(p: &[u64], a: usize, h: Header) -> Opened
 
 // Test by test, in their order: 11 to 15. The place is that of the template.
 fn open_any(p: &[u64], m: &[u8], h: Header, place: Located) -> Opened
-    requires { ⌜ HoldsBook (now p) × Lent (now m) 12 × IsHeader (now m) h
+    requires { ⌜ HoldsBook (now p) × Lent (now m) 12 × IsHeader (isBig (now p)) (now m) h
         × (place ≡ locationOf (now p) (h .template)) ⌝ }
-    ensures { λ r. ⌜ r ≡ opened (now (m .entry)) (openAt (now (p .entry)) (now (m .entry))) ⌝ }
+    ensures { λ r. ⌜ r ≡ opened (isBig (now (p .entry))) (now (m .entry)) (openAt (now (p .entry)) (now (m
+        .entry))) ⌝ }
 {
-    let Walked::Refused(refusal) = wire::read_header(m, number(p, 0)) else {
+    let Walked::Refused(refusal) = wire::check_header(h, number(p, 0)) else {
         let Located::At(a) = place else {
             return refuse(13, 2);
         };
@@ -185,8 +186,9 @@ fn is_own(p: &[u64], a: usize, h: Header) -> bool
 // By the numbers of the header. Most are as a writer by the same book has them, and no test of 11 to 15 is asked of
 // those by itself.
 fn open_by_header(p: &[u64], m: &[u8], h: Header) -> Opened
-    requires { ⌜ HoldsBook (now p) × Lent (now m) 12 × IsHeader (now m) h ⌝ }
-    ensures { λ r. ⌜ r ≡ opened (now (m .entry)) (openAt (now (p .entry)) (now (m .entry))) ⌝ }
+    requires { ⌜ HoldsBook (now p) × Lent (now m) 12 × IsHeader (isBig (now p)) (now m) h ⌝ }
+    ensures { λ r. ⌜ r ≡ opened (isBig (now (p .entry))) (now (m .entry)) (openAt (now (p .entry)) (now (m
+        .entry))) ⌝ }
 {
     let place = prepared::find(p, h.template);
     let Located::At(a) = place else {
@@ -207,7 +209,8 @@ fn open_by_header(p: &[u64], m: &[u8], h: Header) -> Opened
 // A message up to its root block.
 pub fn open(p: &[u64], m: &[u8]) -> Opened
     requires { ⌜ HoldsBook (now p) ⌝ }
-    ensures { λ r. ⌜ r ≡ opened (now (m .entry)) (openAt (now (p .entry)) (now (m .entry))) ⌝ }
+    ensures { λ r. ⌜ r ≡ opened (isBig (now (p .entry))) (now (m .entry)) (openAt (now (p .entry)) (now (m
+        .entry))) ⌝ }
 {
     if m.len() < 12 {
         return refuse(10, 0);
@@ -215,5 +218,5 @@ pub fn open(p: &[u64], m: &[u8]) -> Opened
     if 65535 < m.len() {
         return refuse(10, 0);
     }
-    open_by_header(p, m, wire::header_of(m))
+    open_by_header(p, m, wire::header_of(prepared::is_big(p), m))
 }

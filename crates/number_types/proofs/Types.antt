@@ -1,22 +1,19 @@
 -- What the types have in common, in the code's terms.
-use mathlib.Core.Path.{_≡_, refl, sym}
+use mathlib.Core.Path.{_≡_, ap, refl, sym}
 use mathlib.Core.Bool.{Bool, false, false≢true, true}
-use Prim.Native.Nat.{_%_, _+_, _-_, _/_, _<_, _^_, _≤_, ℕ}
+use Prim.Native.Nat.{_%_, _*_, _+_, _-_, _/_, _<_, _^_, _≤_, suc, zero, ℕ}
 use native.Mathlib.Omega.{arith}
 use lib.Dec.{eqb, leb}
-use borrow.Author.Tests.{eqb-false, eqb-true, le-leb, leb-false, leb-true, lt-leb, ne-eqb}
+use borrow.Author.Tests.{eq-eqb, eqb-false, eqb-true, le-leb, leb-false, leb-true, lt-leb, ne-eqb}
 use Rattle.layout.specs.Result.{_and_, _or_, if_then_else_}
 use Rattle.layout.specs.Types.{TypeRow, char, classify, inRange, int, isSigned, isWidth, rowOf, typeAt, valueOf}
 use Rattle.layout.specs.Types.{widthOf}
 use Rattle.layout.specs.declared.Answer.the-variants.{Number}
 use Rattle.layout.proofs.Results.{each-way, or-right}
 use Rattle.layout.proofs.TypeLaws.{Width, each-type, inside-not-null}
+use Rattle.number_types.specs.Value.{coded, isBigIn, typeIn}
 
 -- ---- widths
-
-pub is-width : (t : ℕ) → isWidth (typeAt t .width) ≡ true
-unfolding _or_
-is-width t = each-type (λ k. isWidth (k .width) ≡ true) refl (λ w a. a .listed) (λ w a. a .listed) t
 
 pub width-eight : (w : ℕ) → isWidth w ≡ true → (w ≡ 1 → ⊥) → (w ≡ 2 → ⊥) → (w ≡ 4 → ⊥) → w ≡ 8
 width-eight w h a b c =
@@ -30,7 +27,7 @@ each-width P one two four eight w h =
     is : (k : ℕ) → P k → ((w ≡ k → ⊥) → P w) → P w
     is k p other = each-way (eqb w k) (λ e. rw (eqb-true w k e) p) (λ e. other (eqb-false w k e))
 
--- ---- the code of a type
+-- ---- the number of a type
 
 pub integer-at : (t : ℕ) → 1 ≤ t → t < 9 → typeAt t ≡ rowOf (widthOf t) (isSigned t)
 unfolding typeAt if_then_else_ _and_
@@ -39,6 +36,18 @@ integer-at t h k = rw (le-leb 1 t h, le-leb t 8 (omega arith)) refl
 pub char-at : (t : ℕ) → (1 ≤ t → 9 ≤ t) → typeAt t ≡ char
 unfolding typeAt if_then_else_ _and_
 char-at t h = each-way (leb 1 t) (λ e. rw (e, lt-leb t 8 (h (leb-true 1 t e))) refl) (λ e. rw e refl)
+
+-- ---- the code of a type and an order
+
+pub type-in : (big : Bool) (t : ℕ) → typeIn (coded big t) ≡ t
+unfolding if_then_else_
+type-in false t = omega arith
+type-in true t = omega arith
+
+pub is-big-in : (big : Bool) (t : ℕ) → isBigIn (coded big t) ≡ big
+unfolding if_then_else_
+is-big-in false t = ne-eqb ((2 * t + 0) % 2) 1 (λ e. omega arith)
+is-big-in true t = eq-eqb ((2 * t + 1) % 2) 1 (omega arith)
 
 -- ---- values
 
@@ -68,45 +77,3 @@ module _ (t x n g : ℕ) (s : typeAt t .signed ≡ true) (e : n ≡ typeAt t .nu
   value-fits h =
       of-signed (λ k. x < 256 ^ k .width → n + (x - g - 1) < 2 ^ 64)
       (λ w a e f b. omega (arith, e, f, a .even, a .whole, a .many))
-
--- ---- null and the range
-
--- d and s are how far x and the greatest, g, are from the least, l, counted upwards and around 2 ^ 64.
-module _ (l g x d s : ℕ) (e : (d + l) % 2 ^ 64 ≡ x) (f : (s + l) % 2 ^ 64 ≡ g) (a : d < 2 ^ 64) (b : s < 2 ^ 64) where
-  between : l ≤ g → g < 2 ^ 64 → (leb l x and leb x g) ≡ leb d s
-  unfolding _and_
-  between h k =
-      each-way (leb l x)
-      (λ p. each-way (leb x g)
-      (λ q. rw (p, q) (sym (le-leb d s (omega (arith, leb-true l x p, leb-true x g q, e, f)))))
-      (λ q. rw (p, q) (sym (lt-leb d s (omega (arith, leb-true l x p, leb-false x g q, e, f))))))
-      (λ p. rw p (sym (lt-leb d s (omega (arith, leb-false l x p, e, f)))))
-
-  around : g < l → l < 2 ^ 64 → (leb x g or leb l x) ≡ leb d s
-  unfolding _or_
-  around h k =
-      each-way (leb x g) (λ p. rw p (sym (le-leb d s (omega (arith, leb-true x g p, e, f)))))
-      (λ p. each-way (leb l x)
-      (λ q. rw (p, q) (sym (le-leb d s (omega (arith, leb-false x g p, leb-true l x q, e, f)))))
-      (λ q. rw (p, q) (sym (lt-leb d s (omega (arith, leb-false x g p, leb-false l x q, e, f))))))
-
--- So a value is in range where it is no farther than the greatest.
-pub in-span : (t x d s : ℕ) → (d + typeAt t .least) % 2 ^ 64 ≡ x → (s + typeAt t .least) % 2 ^ 64 ≡ typeAt t .greatest
-    → d < 2 ^ 64 → s < 2 ^ 64 → inRange (typeAt t) x ≡ leb d s
-unfolding inRange if_then_else_
-in-span t x d s =
-    each-type
-    (λ k. (d + k .least) % 2 ^ 64 ≡ x → (s + k .least) % 2 ^ 64 ≡ k .greatest → d < 2 ^ 64 → s < 2 ^ 64
-    → inRange k x ≡ leb d s)
-    (λ e f a b. between 32 126 x d s e f a b (omega arith) (omega arith))
-    (λ w k e f a b. around _ _ x d s e f a b (omega (arith, k .even, k .whole, k .many))
-    (omega (arith, k .even, k .many)))
-    (λ w k e f a b. between 0 _ x d s e f a b (omega arith) (omega (arith, k .whole)))
-    t
-
--- What is in range is a number, null or not being asked.
-pub in-range-number : (t : ℕ) (optional : Bool) (x : ℕ) → inRange (typeAt t) x ≡ true
-    → classify (typeAt t) optional x ≡ Number x
-unfolding classify if_then_else_ _and_
-in-range-number t false x e = rw e refl
-in-range-number t true x e = rw (inside-not-null t x e, e) refl

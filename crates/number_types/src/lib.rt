@@ -1,15 +1,13 @@
-// The nine types of number, and what a number is to a field of a type. A negative number is held as 2^64 + value.
-use layout::Answer;
-use std::num::wrapping_sub_u64;
+// The nine types of number, and their numbers read and stored. A negative number is held as 2^64 + value.
 ghost use mathlib.Core.Path.{_≡_};
 ghost use mathlib.Core.Bool.{true};
 ghost use Prim.Native.Nat.{_+_, _^_, _<_, _≤_};
 ghost use lib.ListN.{length};
 ghost use lib.Seq.{sets};
 ghost use Rattle.layout.specs.Octets.{octetsOf};
-ghost use Rattle.layout.specs.Types.{rowOf, typeAt, isWidth, valueOf, inRange, classify as classOf};
-ghost use Rattle.octets.specs.Spelt.{Spelt};
-ghost use Rattle.number_types.specs.Value.{kept, valueAt};
+ghost use Rattle.layout.specs.Types.{rowOf, typeAt, isWidth, valueOf};
+ghost use Rattle.ordered.specs.Order.{SpeltBy};
+ghost use Rattle.number_types.specs.Value.{isBigIn, kept, typeIn, valueAt};
 
 // A type: its octets, whether it has a sign, its range and its null.
 pub struct NumberType {
@@ -73,48 +71,16 @@ pub fn width_of(t: usize) -> usize
     number_type(t).width
 }
 
-pub fn null_of(t: usize) -> u64
-    ensures { λ r. ⌜ r ≡ typeAt t .null ⌝ }
-{
-    number_type(t).null
-}
-
 // The number that the w octets at `at` are.
-pub fn raw(s: &[u8], at: usize, w: usize) -> u64
+fn raw(big: bool, s: &[u8], at: usize, w: usize) -> u64
     requires { ⌜ (isWidth w ≡ true) × (at + w ≤ length (now s)) ⌝ }
-    ensures { λ r. ⌜ Spelt w (now (s .entry)) at r ⌝ }
+    ensures { λ r. ⌜ SpeltBy big w (now (s .entry)) at r ⌝ }
 {
     match w {
         1 => octets::get1(s, at),
-        2 => octets::get2(s, at),
-        4 => octets::get4(s, at),
-        _ => octets::get8(s, at),
-    }
-}
-
-// The w lowest octets of x, stored at `at`: how many they are. Each arm says its own number, so that what is stored
-// next does not wait for w to be worked out.
-pub fn store(s: &mut [u8], at: usize, w: usize, x: u64) -> usize
-    requires { ⌜ (isWidth w ≡ true) × (at + w ≤ length (now s)) ⌝ }
-    ensures { λ r. ⌜ (r ≡ w) × (now (s .exit) ≡ sets (now (s .entry)) at (octetsOf w x)) ⌝ }
-{
-    match w {
-        1 => {
-            octets::put1(s, at, x);
-            1
-        }
-        2 => {
-            octets::put2(s, at, x);
-            2
-        }
-        4 => {
-            octets::put4(s, at, x);
-            4
-        }
-        _ => {
-            octets::put8(s, at, x);
-            8
-        }
+        2 => ordered::get2(big, s, at),
+        4 => ordered::get4(big, s, at),
+        _ => ordered::get8(big, s, at),
     }
 }
 
@@ -133,54 +99,63 @@ pub fn value_of(t: usize, x: u64) -> u64
     x
 }
 
-// Whether a value lies in a type's range: it is no farther from the least than the greatest is, counted upwards and
-// around 2^64, since negatives are the larger as 64-bit numbers.
-pub fn in_range(t: usize, x: u64) -> bool
-    ensures { λ r. ⌜ r ≡ inRange (typeAt t) x ⌝ }
+// The value of the number of type t at `at`.
+fn value_as(big: bool, s: &[u8], at: usize, t: usize) -> u64
+    requires { ⌜ at + typeAt t .width ≤ length (now s) ⌝ }
+    ensures { λ r. ⌜ r ≡ valueAt big (now (s .entry)) at t ⌝ }
 {
-    let k = number_type(t);
-    wrapping_sub_u64(x, k.least) <= wrapping_sub_u64(k.greatest, k.least)
+    value_of(t, raw(big, s, at, width_of(t)))
 }
 
-// What a value is to an optional or a required field: a number, null, or out of range. No null is in its range, so that
-// what is most frequent is asked first.
-pub fn classify(t: usize, optional: bool, x: u64) -> Answer
-    ensures { λ r. ⌜ r ≡ classOf (typeAt t) optional x ⌝ }
+// The value of the number at `at` whose type and order are coded as c. The compiler works out each arm for its one
+// type and order.
+pub fn value_at(s: &[u8], at: usize, c: usize) -> u64
+    requires { ⌜ at + typeAt (typeIn c) .width ≤ length (now s) ⌝ }
+    ensures { λ r. ⌜ r ≡ valueAt (isBigIn c) (now (s .entry)) at (typeIn c) ⌝ }
 {
-    if in_range(t, x) {
-        return Answer::Number(x);
+    match c {
+        2 => value_as(false, s, at, 1),
+        3 => value_as(true, s, at, 1),
+        4 => value_as(false, s, at, 2),
+        5 => value_as(true, s, at, 2),
+        6 => value_as(false, s, at, 3),
+        7 => value_as(true, s, at, 3),
+        8 => value_as(false, s, at, 4),
+        9 => value_as(true, s, at, 4),
+        10 => value_as(false, s, at, 5),
+        11 => value_as(true, s, at, 5),
+        12 => value_as(false, s, at, 6),
+        13 => value_as(true, s, at, 6),
+        14 => value_as(false, s, at, 7),
+        15 => value_as(true, s, at, 7),
+        16 => value_as(false, s, at, 8),
+        17 => value_as(true, s, at, 8),
+        _ => value_as(c % 2 == 1, s, at, 0),
     }
-    if optional {
-        if x == null_of(t) {
-            return Answer::Null;
+}
+
+// The w lowest octets of x, stored at `at`: how many they are. Each arm says its own number, so that what is stored
+// next does not wait for w to be worked out.
+pub fn store(big: bool, s: &mut [u8], at: usize, w: usize, x: u64) -> usize
+    requires { ⌜ (isWidth w ≡ true) × (at + w ≤ length (now s)) ⌝ }
+    ensures { λ r. ⌜ (r ≡ w) × (now (s .exit) ≡ sets (now (s .entry)) at (octetsOf big w x)) ⌝ }
+{
+    match w {
+        1 => {
+            octets::put1(s, at, x);
+            1
         }
-    }
-    Answer::OutOfRange(x)
-}
-
-// What the octets of a number of type t at `at` are.
-fn read_as(s: &[u8], at: usize, t: usize, optional: bool) -> Answer
-    requires { ⌜ at + typeAt t .width ≤ length (now s) ⌝ }
-    ensures { λ r. ⌜ r ≡ classOf (typeAt t) optional (valueAt (now (s .entry)) at t) ⌝ }
-{
-    let x = raw(s, at, width_of(t));
-    classify(t, optional, value_of(t, x))
-}
-
-// The same. The compiler works out each arm for its one type.
-pub fn read(s: &[u8], at: usize, t: usize, optional: bool) -> Answer
-    requires { ⌜ at + typeAt t .width ≤ length (now s) ⌝ }
-    ensures { λ r. ⌜ r ≡ classOf (typeAt t) optional (valueAt (now (s .entry)) at t) ⌝ }
-{
-    match t {
-        1 => read_as(s, at, 1, optional),
-        2 => read_as(s, at, 2, optional),
-        3 => read_as(s, at, 3, optional),
-        4 => read_as(s, at, 4, optional),
-        5 => read_as(s, at, 5, optional),
-        6 => read_as(s, at, 6, optional),
-        7 => read_as(s, at, 7, optional),
-        8 => read_as(s, at, 8, optional),
-        _ => read_as(s, at, 0, optional),
+        2 => {
+            ordered::put2(big, s, at, x);
+            2
+        }
+        4 => {
+            ordered::put4(big, s, at, x);
+            4
+        }
+        _ => {
+            ordered::put8(big, s, at, x);
+            8
+        }
     }
 }

@@ -15,7 +15,7 @@ use Rattle.layout.specs.Values.{Step, Values, answerAt, elementOf, entry}
 use Rattle.layout.specs.declared.Answer.{Answer}
 use Rattle.layout.specs.declared.Element.{Element}
 use Rattle.layout.proofs.Results.{done-inj, each-way, inv-bind, inv-both}
-use Rattle.prepared.specs.Positions.{BlockAt, manyGroups, innerAt, shapeAt}
+use Rattle.prepared.specs.Positions.{BlockAt, manyGroups, innerAt, isBig, shapeAt}
 use Rattle.places.specs.Spots.{Spot, blockIn, nowhere, spotIn, stepSpot}
 use Rattle.places.specs.Seeks.{stepAt, stepsFrom}
 use Rattle.places.specs.Elements.{Accepted, Done, blockAfter, elementRead, entryRead}
@@ -74,10 +74,10 @@ module _ (p : List ℕ) (root : ℕ) (block : BlockAt p 4 root) (m : List ℕ) (
     (path : List ℕ) (some : 2 ≤ length path) (x : Element)
     (has : hasPlace (stepsOf path) x (shapeAt p root) (innerAt p 4 root) ≡ true) where
   abbrev spotOf : ℕ → Spot
-  spotOf at = stepSpot m v (stepAt path 0) (spotIn m v (stepsFrom path 2)) (innerAt p 4 root) at
+  spotOf at = stepSpot (isBig p) m v (stepAt path 0) (spotIn (isBig p) m v (stepsFrom path 2)) (innerAt p 4 root) at
 
   told : (ask : Element → Result Answer) (spot : Spot) → BlockThere p 4 root (stepsOf path) x
-      → Leads m v (blockIn (stepsOf path) (shapeAt p root, innerAt p 4 root)) spot ask
+      → Leads (isBig p) m v (blockIn (stepsOf path) (shapeAt p root, innerAt p 4 root)) spot ask
       → Answers p (4 - length (stepsOf path)) (blockAfter p (stepsOf path) root) m v spot x (ask x)
   unfolding elementRead
   told ask spot b (missing z a) = lacks z (a x)
@@ -87,7 +87,7 @@ module _ (p : List ℕ) (root : ℕ) (block : BlockAt p 4 root) (m : List ℕ) (
       stands far (record { stands = b .stands; short = short; enough = rw (b .is) at enough; reads = entry }) (b .has)
       (a x ∙ rw is refl)
 
-  pub path-answers : (n at : ℕ) (r : Values × ℕ) → readGroups m v (innerAt p 4 root) n at ≡ done r
+  pub path-answers : (n at : ℕ) (r : Values × ℕ) → readGroups (isBig p) m v (innerAt p 4 root) n at ≡ done r
       → (fs ds : List Answer) (rest : Values)
       → Answers p (4 - length (stepsOf path)) (blockAfter p (stepsOf path) root) m v (spotOf at) x
       (answerAt (stepsOf path) x (entry fs (r .0) ds rest))
@@ -95,21 +95,22 @@ module _ (p : List ℕ) (root : ℕ) (block : BlockAt p 4 root) (m : List ℕ) (
       let is : stepsOf path ≡ stepAt path 0 ∷ stepsFrom path 2 = steps-next path 0 some in
       told (λ y. answerAt (stepsOf path) y (entry fs (r .0) ds rest)) (spotOf at)
       (block-there p 4 root block (stepsOf path) x has)
-      (rw is (row-leads m v (shapeAt p root, innerAt p 4 root) (stepAt path 0) (stepsFrom path 2) n at r h fs ds rest))
+      (rw is (row-leads (isBig p) m v (shapeAt p root, innerAt p 4 root) (stepAt path 0) (stepsFrom path 2) n at r h
+      fs ds rest))
 
 -- ---- without steps: an entry with surplus data is the same without them
 
-module _ (m : List ℕ) (v : ℕ) where
+module _ (big : Bool) (m : List ℕ) (v : ℕ) where
   -- Where the data end without the surplus ones.
   record Less (ds : List Data) (at : ℕ) (r : List Answer × ℕ) : Type 0 where
     pub end : ℕ
-    pub reads : readDatas m v ds 0 at ≡ done (r .0, end)
+    pub reads : readDatas big m v ds 0 at ≡ done (r .0, end)
 
-  none-left : (at : ℕ) (r : List Answer) → [] ≡ r → readDatas m v [] 0 at ≡ done (r, at)
+  none-left : (at : ℕ) (r : List Answer) → [] ≡ r → readDatas big m v [] 0 at ≡ done (r, at)
   unfolding readDatas skipDatas _>>=_
   none-left at r e = rw (← e) refl
 
-  datas-less : (ds : List Data) (n at : ℕ) (r : List Answer × ℕ) → readDatas m v ds n at ≡ done r → Less ds at r
+  datas-less : (ds : List Data) (n at : ℕ) (r : List Answer × ℕ) → readDatas big m v ds n at ≡ done r → Less ds at r
   unfolding readDatas
   datas-less [] n at r h =
       let q = inv-bind _ _ _ h in
@@ -126,13 +127,13 @@ module _ (m : List ℕ) (v : ℕ) where
   -- Where the entry ends without them.
   record Whole (s : Shape) (f : ℕ → Result (Values × ℕ)) (l at : ℕ) (e : Entry) : Type 0 where
     pub end : ℕ
-    pub reads : readBlock m v s f 0 l at ≡ done (e .0, e .1, e .2, end)
+    pub reads : readBlock big m v s f 0 l at ≡ done (e .0, e .1, e .2, end)
 
-  block-less : (s : Shape) (f : ℕ → Result (Values × ℕ)) (n l at : ℕ) (e : Entry) → readBlock m v s f n l at ≡ done e
-      → Whole s f l at e
+  block-less : (s : Shape) (f : ℕ → Result (Values × ℕ)) (n l at : ℕ) (e : Entry)
+      → readBlock big m v s f n l at ≡ done e → Whole s f l at e
   unfolding readBlock must _>>=_
   block-less s f n l at e h =
-      let b = block-read m v s f n l at e h in
+      let b = block-read big m v s f n l at e h in
       let d = datas-less (s .datas) n (b .row .1) (e .2, e .3) (b .datas) in
       record {
         end = d .end;
@@ -142,12 +143,13 @@ module _ (m : List ℕ) (v : ℕ) where
 -- The entry itself, with k surplus data.
 module _ (p : List ℕ) (depth a : ℕ) (block : BlockAt p depth a) (m : List ℕ) (short : length m ≤ 65535) (v n k l at : ℕ)
     (enough : need v (shapeAt p a) ≤ l) (e : Entry)
-    (reads : readBlock m v (shapeAt p a) (readGroups m v (innerAt p depth a) n) k l at ≡ done e) where
+    (reads : readBlock (isBig p) m v (shapeAt p a) (readGroups (isBig p) m v (innerAt p depth a) n) k l at
+    ≡ done e) where
   pub root-accepted : Accepted p depth a m v n l at
   root-accepted =
-      let whole = block-less m v _ _ _ _ _ _ reads in
+      let whole = block-less (isBig p) m v _ _ _ _ _ _ reads in
       record { stands = block; short = short; enough = enough; reads = record { value = _; is = whole .reads } }
 
   pub root-answers : (x : Element) → elementRead x (entryRead p depth a m v n l at) ≡ elementOf x (e .0) (e .1) (e .2)
   unfolding elementRead
-  root-answers x = rw (block-less m v _ _ _ _ _ _ reads .reads) refl
+  root-answers x = rw (block-less (isBig p) m v _ _ _ _ _ _ reads .reads) refl

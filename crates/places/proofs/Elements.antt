@@ -1,6 +1,6 @@
 -- What each element of an entry is, as the code finds it.
 use mathlib.Core.Path.{_∙_, _≡_, ap, refl, sym}
-use mathlib.Core.Bool.{true}
+use mathlib.Core.Bool.{Bool, true}
 use mathlib.Core.List.{List, [], _∷_, map}
 use Prim.Native.Nat.{ℕ, zero, suc, _+_, _-_, _*_, _≤_, _<_}
 use native.Mathlib.Omega.{arith}
@@ -22,7 +22,7 @@ use Rattle.layout.specs.declared.Answer.the-variants.{Absent, Group, Octets}
 use Rattle.layout.proofs.Results.{and-right, done-inj, inv-bind, inv-both, inv-must}
 use Rattle.prepared.specs.Names.{listsAt}
 use Rattle.prepared.specs.Positions.{BlockAt, fieldAt, manyDatas, manyFields, fieldsFrom, manyGroups, groupsFrom}
-use Rattle.prepared.specs.Positions.{innerAt, shapeAt, tableFrom}
+use Rattle.prepared.specs.Positions.{innerAt, isBig, shapeAt, tableFrom}
 use Rattle.wire.specs.Walks.{skipEnd, walked}
 use Rattle.wire.specs.declared.Walked as Walked
 use Rattle.wire.proofs.Answers.{inv-to}
@@ -50,14 +50,15 @@ not-refused r f h z e =
 
 -- ---- fields
 
-pub field-in : (m : List ℕ) (v at : ℕ) (p : List ℕ) (n k f : ℕ) → k < n
-    → getD (map (readField m v at) (parseFields (listsAt p) p n f)) k Absent ≡ readField m v at (fieldAt p (f + 7 * k))
+pub field-in : (big : Bool) (m : List ℕ) (v at : ℕ) (p : List ℕ) (n k f : ℕ) → k < n
+    → getD (map (readField big m v at) (parseFields (listsAt p) p n f)) k Absent
+    ≡ readField big m v at (fieldAt p (f + 7 * k))
 unfolding parseFields getD map
-field-in m v at p zero k f h = absurd (omega arith)
-field-in m v at p (suc n) zero f h = let q : f + 7 * 0 ≡ f = omega arith in rw q refl
-field-in m v at p (suc n) (suc k) f h =
+field-in big m v at p zero k f h = absurd (omega arith)
+field-in big m v at p (suc n) zero f h = let q : f + 7 * 0 ≡ f = omega arith in rw q refl
+field-in big m v at p (suc n) (suc k) f h =
     let q : f + 7 * suc k ≡ f + 7 + 7 * k = omega arith in
-    rw q (field-in m v at p n k (f + 7) (omega (arith, h)))
+    rw q (field-in big m v at p n k (f + 7) (omega (arith, h)))
 
 field-fits : (P : Field → Type 0) (p : List ℕ) (n k f : ℕ) → k < n → Each P (parseFields (listsAt p) p n f)
     → P (fieldAt p (f + 7 * k))
@@ -82,7 +83,7 @@ field-readable p depth a m v l at k stands enough fits less =
 
 -- ---- a group
 
-module _ (m : List ℕ) (v : ℕ) where
+module _ (big : Bool) (m : List ℕ) (v : ℕ) where
   gone : (since : ℕ) (r : Result (Answer × Values × ℕ)) (at : ℕ) (a : Answer × Values × ℕ) → v < since
       → (if leb since v then r else done (Absent, nil, at)) ≡ done a → a .0 ≡ Absent
   unfolding if_then_else_
@@ -97,27 +98,27 @@ module _ (m : List ℕ) (v : ℕ) where
   pub record GroupHere (since at : ℕ) (is : Answer) : Type 0 where
     pub absent : v < since → is ≡ Absent
     pub fits : since ≤ v → at + 4 ≤ length m
-    pub counts : since ≤ v → is ≡ Group (number16 m (at + 2))
+    pub counts : since ≤ v → is ≡ Group (number16 big m (at + 2))
 
   first-group : (i since : ℕ) (s : Shape) (inner rest : Groups) (n at : ℕ) (r : Values × ℕ)
-      → readGroups m v (more i since s inner rest) n at ≡ done r → GroupHere since at (groupOf 0 (r .0))
+      → readGroups big m v (more i since s inner rest) n at ≡ done r → GroupHere since at (groupOf 0 (r .0))
   unfolding readGroups groupOf
   first-group i since s inner rest n at r h =
       let a = inv-both _ _ _ _ h in
       let is : groupOf 0 (r .0) ≡ a .value .0 = sym (ap (λ (d : Values × ℕ). groupOf 0 (d .0)) (a .is)) in
       record {
         absent = λ l. is ∙ gone since _ at _ l (a .first);
-        fits = λ l. group-read m v s inner at _ (here since _ at _ l (a .first)) .is .fits;
+        fits = λ l. group-read big m v s inner at _ (here since _ at _ l (a .first)) .is .fits;
         counts = λ l.
-            let g = group-read m v s inner at _ (here since _ at _ l (a .first)) in
+            let g = group-read big m v s inner at _ (here since _ at _ l (a .first)) in
             is ∙ sym (g .itself) ∙ ap Group (g .is .entries);
       }
 
 -- Group k of the block at a, whose groups were read.
 module _ (p : List ℕ) (depth a : ℕ) (stands : BlockAt p depth a) (m : List ℕ) (v at k : ℕ) (less : k < manyGroups p a)
     (read : Done (rowAt p depth (manyGroups p a) (groupsFrom p a) m v at)) where
-  abbrev from : RowFrom m v k (innerAt p depth a) 0 at (read .value)
-  from = row-from m v k (innerAt p depth a) 0 at (read .value) (read .is)
+  abbrev from : RowFrom (isBig p) m v k (innerAt p depth a) 0 at (read .value)
+  from = row-from (isBig p) m v k (innerAt p depth a) 0 at (read .value) (read .is)
 
   pub groups-before : Done (rowAt p depth k (groupsFrom p a) m v at)
   groups-before =
@@ -125,7 +126,7 @@ module _ (p : List ℕ) (depth a : ℕ) (stands : BlockAt p depth a) (m : List �
 
   pub group-here : (x j : ℕ)
       → Walked.the-variants.To x j ≡ walked (valuesEnd 0) (rowAt p depth k (groupsFrom p a) m v at)
-      → GroupHere m v (word p (rowAfter p k (groupsFrom p a) + 1)) x
+      → GroupHere (isBig p) m v (word p (rowAfter p k (groupsFrom p a) + 1)) x
       (groupRead k (rowAt p depth (manyGroups p a) (groupsFrom p a) m v at))
   unfolding groupRead
   group-here x j e =
@@ -133,7 +134,7 @@ module _ (p : List ℕ) (depth a : ℕ) (stands : BlockAt p depth a) (m : List �
       let to = inv-to (valuesEnd 0) _ x j e in
       let end : from .first .1 ≡ x = ap (λ (r : Values × ℕ). r .1) (done-inj (sym before ∙ to .is)) ∙ to .next in
       rw (read .is, from .group, ← end)
-      (first-group m v _ _ _ _ _ 0 _ _ (rw (group-is p depth a k stands less) at (from .reads)))
+      (first-group (isBig p) m v _ _ _ _ _ 0 _ _ (rw (group-is p depth a k stands less) at (from .reads)))
 
 -- ---- data
 
@@ -144,20 +145,21 @@ pub more-data : (f : Result (Answer × ℕ)) (d : Answer × ℕ) → f ≡ done 
 unfolding _>>=_
 more-data f d e k r h whole w = rw (e, h, w) refl
 
-module _ (m : List ℕ) (v : ℕ) (p : List ℕ) where
+module _ (big : Bool) (m : List ℕ) (v : ℕ) (p : List ℕ) where
   -- Data k of the data at place a that were read.
   record DataFrom (k a at : ℕ) (r : List Answer × ℕ) : Type 0 where
     pub first : List Answer × ℕ
     pub one : Answer × ℕ
-    pub passed : readDatas m v (parseDatas p k a) 0 at ≡ done first
-    pub reads : (if leb (word p (a + 2 * k + 1)) v then readData m (first .1) else done (Absent, first .1)) ≡ done one
+    pub passed : readDatas big m v (parseDatas p k a) 0 at ≡ done first
+    pub reads : (if leb (word p (a + 2 * k + 1)) v then readData big m (first .1) else done (Absent, first .1))
+        ≡ done one
     pub is : getD (r .0) k Absent ≡ one .0
 
-  none-data : (a at : ℕ) → readDatas m v (parseDatas p 0 a) 0 at ≡ done ([], at)
+  none-data : (a at : ℕ) → readDatas big m v (parseDatas p 0 a) 0 at ≡ done ([], at)
   unfolding readDatas parseDatas skipDatas _>>=_
   none-data a at = refl
 
-  data-from : (n k a at : ℕ) (r : List Answer × ℕ) → k < n → readDatas m v (parseDatas p n a) 0 at ≡ done r
+  data-from : (n k a at : ℕ) (r : List Answer × ℕ) → k < n → readDatas big m v (parseDatas p n a) 0 at ≡ done r
       → DataFrom k a at r
   unfolding readDatas parseDatas getD
   data-from zero k a at r less h = absurd (omega arith)
@@ -187,9 +189,9 @@ module _ (m : List ℕ) (v : ℕ) (p : List ℕ) where
   pub record DataHere (since at : ℕ) (is : Answer) : Type 0 where
     pub absent : v < since → is ≡ Absent
     pub fits : since ≤ v → at + 2 ≤ length m
-    pub octets : since ≤ v → is ≡ Octets (at + 2) (number16 m at)
+    pub octets : since ≤ v → is ≡ Octets (at + 2) (number16 big m at)
 
-  one-data : (since at : ℕ) (d : Answer × ℕ) → (if leb since v then readData m at else done (Absent, at)) ≡ done d
+  one-data : (since at : ℕ) (d : Answer × ℕ) → (if leb since v then readData big m at else done (Absent, at)) ≡ done d
       → DataHere since at (d .0)
   unfolding if_then_else_ readData
   one-data since at d h =
@@ -202,15 +204,16 @@ module _ (m : List ℕ) (v : ℕ) (p : List ℕ) where
             sym (ap (λ (e : Answer × ℕ). e .0) (done-inj (inv-bind _ _ _ (inv-bind _ _ _ (t .next) .next) .next)));
       }
 
-  module _ (n k a at : ℕ) (less : k < n) (read : Done (readDatas m v (parseDatas p n a) 0 at)) where
+  module _ (n k a at : ℕ) (less : k < n) (read : Done (readDatas big m v (parseDatas p n a) 0 at)) where
     abbrev data-is : DataFrom k a at (read .value)
     data-is = data-from n k a at (read .value) less (read .is)
 
-    pub datas-before : Done (readDatas m v (parseDatas p k a) 0 at)
+    pub datas-before : Done (readDatas big m v (parseDatas p k a) 0 at)
     datas-before = record { value = data-is .first; is = data-is .passed }
 
-    pub data-here : (x j : ℕ) → Walked.the-variants.To x j ≡ walked (datasEnd 0) (readDatas m v (parseDatas p k a) 0 at)
-        → DataHere (word p (a + 2 * k + 1)) x (dataRead k (readDatas m v (parseDatas p n a) 0 at))
+    pub data-here : (x j : ℕ)
+        → Walked.the-variants.To x j ≡ walked (datasEnd 0) (readDatas big m v (parseDatas p k a) 0 at)
+        → DataHere (word p (a + 2 * k + 1)) x (dataRead k (readDatas big m v (parseDatas p n a) 0 at))
     unfolding dataRead
     data-here x j e =
         let to = inv-to (datasEnd 0) _ x j e in
@@ -221,20 +224,20 @@ module _ (m : List ℕ) (v : ℕ) (p : List ℕ) where
 -- The data come after the surplus groups.
 module _ (p : List ℕ) (depth a : ℕ) (m : List ℕ) (v n at : ℕ) where
   abbrev datasOf : ℕ → Result (List Answer × ℕ)
-  datasOf x = readDatas m v (shapeAt p a .datas) 0 x
+  datasOf x = readDatas (isBig p) m v (shapeAt p a .datas) 0 x
 
   pub record DatasAfter : Type 0 where
     pub row : Done (rowAt p depth (manyGroups p a) (groupsFrom p a) m v at)
-    pub rest : Done (skipGroups m n (row .value .1))
+    pub rest : Done (skipGroups (isBig p) m n (row .value .1))
     pub datas : Done (datasOf (rest .value))
     pub same : datasRead p depth a m v n at ≡ datasOf (rest .value)
 
   pub datas-after : Done (datasRead p depth a m v n at) → DatasAfter
   datas-after d =
-      let g = inv-bind (readGroups m v (innerAt p depth a) n at) _ (d .value) (d .is) in
+      let g = inv-bind (readGroups (isBig p) m v (innerAt p depth a) n at) _ (d .value) (d .is) in
       let r =
-      inv-bind (readGroups m v (innerAt p depth a) 0 at) _ _
-      (sym (surplus-after m n v (innerAt p depth a) at) ∙ g .first) in
+      inv-bind (readGroups (isBig p) m v (innerAt p depth a) 0 at) _ _
+      (sym (surplus-after (isBig p) m n v (innerAt p depth a) at) ∙ g .first) in
       let x = inv-bind _ _ _ (r .next) in
       let end : g .value .1 ≡ x .value = sym (ap (λ (d : Values × ℕ). d .1) (done-inj (x .next))) in
       record {
@@ -252,7 +255,7 @@ module _ (p : List ℕ) (depth a : ℕ) (m : List ℕ) (v n at : ℕ) where
       sym (to .next) ∙ ap (λ (r : Values × ℕ). r .1) (done-inj (sym (to .is) ∙ d .row .is))
 
   pub rest-to : (d : DatasAfter) (x k : ℕ)
-      → Walked.the-variants.To x k ≡ walked skipEnd (skipGroups m n (d .row .value .1))
+      → Walked.the-variants.To x k ≡ walked skipEnd (skipGroups (isBig p) m n (d .row .value .1))
       → x ≡ d .rest .value
   rest-to d x k e =
       let to = inv-to skipEnd _ x k e in
@@ -261,31 +264,32 @@ module _ (p : List ℕ) (depth a : ℕ) (m : List ℕ) (v n at : ℕ) where
 -- ---- the elements of an entry that was accepted
 
 module _ {p : List ℕ} {depth a : ℕ} {m : List ℕ} {v n l at : ℕ} (ok : Accepted p depth a m v n l at) where
-  abbrev parts : BlockRead m v (shapeAt p a) (readGroups m v (innerAt p depth a) n) 0 l at (ok .reads .value)
-  parts = block-read m v _ _ _ _ _ _ (ok .reads .is)
+  abbrev parts : BlockRead (isBig p) m v (shapeAt p a) (readGroups (isBig p) m v (innerAt p depth a) n) 0 l at
+      (ok .reads .value)
+  parts = block-read (isBig p) m v _ _ _ _ _ _ (ok .reads .is)
 
   pub entry-fits : at + l ≤ length m
   entry-fits = parts .fits
 
   pub element-field : (k : ℕ) → k < manyFields p a
       → elementRead (Element.Field k) (entryRead p depth a m v n l at)
-      ≡ readField m v at (fieldAt p (fieldsFrom p a + 7 * k))
+      ≡ readField (isBig p) m v at (fieldAt p (fieldsFrom p a + 7 * k))
   unfolding elementRead elementOf
   element-field k less =
-      rw (ok .reads .is, ← (parts .fields)) (field-in m v at p (manyFields p a) k (fieldsFrom p a) less)
+      rw (ok .reads .is, ← (parts .fields)) (field-in (isBig p) m v at p (manyFields p a) k (fieldsFrom p a) less)
 
   pub entry-row : Done (rowAt p depth (manyGroups p a) (groupsFrom p a) m v (at + l))
   entry-row =
-      let r = inv-bind (readGroups m v (innerAt p depth a) 0 (at + l)) _ _
-      (sym (surplus-after m n v (innerAt p depth a) (at + l)) ∙ parts .groups) in
+      let r = inv-bind (readGroups (isBig p) m v (innerAt p depth a) 0 (at + l)) _ _
+      (sym (surplus-after (isBig p) m n v (innerAt p depth a) (at + l)) ∙ parts .groups) in
       record { value = r .value; is = r .first }
 
   pub element-group : (k : ℕ) → elementRead (Element.Group k) (entryRead p depth a m v n l at)
       ≡ groupRead k (rowAt p depth (manyGroups p a) (groupsFrom p a) m v (at + l))
   unfolding elementRead elementOf groupRead
   element-group k =
-      let r = inv-bind (readGroups m v (innerAt p depth a) 0 (at + l)) _ _
-      (sym (surplus-after m n v (innerAt p depth a) (at + l)) ∙ parts .groups) in
+      let r = inv-bind (readGroups (isBig p) m v (innerAt p depth a) 0 (at + l)) _ _
+      (sym (surplus-after (isBig p) m n v (innerAt p depth a) (at + l)) ∙ parts .groups) in
       let x = inv-bind _ _ _ (r .next) in
       let same : r .value .0 ≡ parts .row .0 = ap (λ (d : Values × ℕ). d .0) (done-inj (x .next)) in
       rw (ok .reads .is, r .first) (ap (groupOf k) (sym (parts .same) ∙ sym same))

@@ -1,5 +1,6 @@
 -- The law of spots: at the spot of steps stands the entry that answers for them.
 use mathlib.Core.Path.{_∙_, _≡_, ap, refl, sym}
+use mathlib.Core.Bool.{Bool}
 use mathlib.Core.List.{List, [], _∷_, map}
 use Prim.Native.Nat.{ℕ, zero, suc, _+_, _-_, _≤_, _<_}
 use native.Mathlib.Omega.{arith}
@@ -25,20 +26,20 @@ use Rattle.places.proofs.Rows.{entries-few, row-from, spots-past, spots
 
 -- ---- what was read ends where it starts, or later
 
-module _ (m : List ℕ) (v : ℕ) where
-  data-on : (at : ℕ) (r : Answer × ℕ) → readData m at ≡ done r → at ≤ r .1
+module _ (big : Bool) (m : List ℕ) (v : ℕ) where
+  data-on : (at : ℕ) (r : Answer × ℕ) → readData big m at ≡ done r → at ≤ r .1
   unfolding readData
   data-on at r h =
       let e = done-inj (inv-bind _ _ _ (inv-bind _ _ _ (inv-bind _ _ _ h .next) .next) .next) in
-      let x : at + 2 + number16 m at ≡ r .1 = ap (λ (d : Answer × ℕ). d .1) e in
+      let x : at + 2 + number16 big m at ≡ r .1 = ap (λ (d : Answer × ℕ). d .1) e in
       omega (arith, x)
 
-  here-on : (since at : ℕ) (r : Answer × ℕ) → (if leb since v then readData m at else done (Absent, at)) ≡ done r
+  here-on : (since at : ℕ) (r : Answer × ℕ) → (if leb since v then readData big m at else done (Absent, at)) ≡ done r
       → at ≤ r .1
   here-on since at r h =
       inv-if (leb since v) h (λ t e. data-on at r e) (λ t e. omega (arith, ap (λ (d : Answer × ℕ). d .1) (done-inj e)))
 
-  datas-on : (ds : List Data) (at : ℕ) (r : List Answer × ℕ) → readDatas m v ds 0 at ≡ done r → at ≤ r .1
+  datas-on : (ds : List Data) (at : ℕ) (r : List Answer × ℕ) → readDatas big m v ds 0 at ≡ done r → at ≤ r .1
   unfolding readDatas skipDatas
   datas-on [] at r h =
       let q = inv-bind _ _ _ h in
@@ -55,12 +56,12 @@ module _ (m : List ℕ) (v : ℕ) where
     pub fits : at + l ≤ length m
     pub row : Values × ℕ
     pub groups : f (at + l) ≡ done row
-    pub datas : readDatas m v (s .datas) n (row .1) ≡ done (e .2, e .3)
-    pub fields : map (readField m v at) (s .fields) ≡ e .0
+    pub datas : readDatas big m v (s .datas) n (row .1) ≡ done (e .2, e .3)
+    pub fields : map (readField big m v at) (s .fields) ≡ e .0
     pub same : row .0 ≡ e .1
 
   pub block-read : (s : Shape) (f : ℕ → Result (Values × ℕ)) (n l at : ℕ) (e : Entry)
-      → readBlock m v s f n l at ≡ done e → BlockRead s f n l at e
+      → readBlock big m v s f n l at ≡ done e → BlockRead s f n l at e
   unfolding readBlock
   block-read s f n l at e h =
       let t = inv-bind _ _ _ h in
@@ -75,7 +76,7 @@ module _ (m : List ℕ) (v : ℕ) where
       }
 
   block-on : (s : Shape) (f : ℕ → Result (Values × ℕ)) → ((x : ℕ) (r : Values × ℕ) → f x ≡ done r → x ≤ r .1)
-      → (l at : ℕ) (e : Entry) → readBlock m v s f 0 l at ≡ done e → at ≤ e .3
+      → (l at : ℕ) (e : Entry) → readBlock big m v s f 0 l at ≡ done e → at ≤ e .3
   block-on s f on l at e h =
       let b = block-read s f 0 l at e h in
       omega (arith, on _ _ (b .groups), datas-on _ _ _ (b .datas))
@@ -93,13 +94,13 @@ module _ (m : List ℕ) (v : ℕ) where
   pub record GroupRead (s : Shape) (inner : Groups) (at : ℕ) (a : Answer × Values × ℕ) : Type 0 where
     pub length : ℕ
     pub count : ℕ
-    pub entries : readEntries count (readBlock m v s (readGroups m v inner 0) 0 length) (at + dimensionSize)
+    pub entries : readEntries count (readBlock big m v s (readGroups big m v inner 0) 0 length) (at + dimensionSize)
         ≡ done (a .1, a .2)
     pub itself : Group count ≡ a .0
-    pub is : Good m (need v s) at length count
+    pub is : Good big m (need v s) at length count
 
   pub group-read : (s : Shape) (inner : Groups) (at : ℕ) (a : Answer × Values × ℕ)
-      → readGroup m v s (readGroups m v inner 0) at ≡ done a → GroupRead s inner at a
+      → readGroup big m v s (readGroups big m v inner 0) at ≡ done a → GroupRead s inner at a
   unfolding readGroup dimensioned
   group-read s inner at a h =
       let d = inv-both _ _ _ _ h in
@@ -108,10 +109,10 @@ module _ (m : List ℕ) (v : ℕ) where
         count = d .value .1;
         entries = d .second ∙ ap (λ (e : Answer × Values × ℕ). done (e .1, e .2)) (d .is);
         itself = ap (λ (e : Answer × Values × ℕ). e .0) (d .is);
-        is = good m (need v s) at (d .value .0) (d .value .1) (sym (ap dimensioned (d .first)));
+        is = good big m (need v s) at (d .value .0) (d .value .1) (sym (ap dimensioned (d .first)));
       }
 
-  groups-on : (gs : Groups) (at : ℕ) (r : Values × ℕ) → readGroups m v gs 0 at ≡ done r → at ≤ r .1
+  groups-on : (gs : Groups) (at : ℕ) (r : Values × ℕ) → readGroups big m v gs 0 at ≡ done r → at ≤ r .1
   unfolding readGroups skipGroups
   groups-on none at r h =
       let q = inv-bind _ _ _ h in
@@ -144,29 +145,30 @@ nothing (s ∷ p) x = rw (no-entries (s .entry)) (nothing p x)
 
 -- What `ask` says of each element: that there is no such entry, at no spot; or what stands in the entry at the spot,
 -- which is read by the block b.
-pub data Leads (m : List ℕ) (v : ℕ) (b : Block) (spot : Spot) (ask : Element → Result Answer) : Type 0 where
-  missing : spot ≡ nowhere → ((x : Element) → ask x ≡ refused 31 0) → Leads m v b spot ask
+pub data Leads (big : Bool) (m : List ℕ) (v : ℕ) (b : Block) (spot : Spot) (ask : Element → Result Answer)
+    : Type 0 where
+  missing : spot ≡ nowhere → ((x : Element) → ask x ≡ refused 31 0) → Leads big m v b spot ask
   there : (e : Entry) → 0 < spot .0 → need v (b .0) ≤ spot .1
-      → readBlock m v (b .0) (readGroups m v (b .1) 0) 0 (spot .1) (spot .0) ≡ done e
-      → ((x : Element) → ask x ≡ done (elementOf x (e .0) (e .1) (e .2))) → Leads m v b spot ask
+      → readBlock big m v (b .0) (readGroups big m v (b .1) 0) 0 (spot .1) (spot .0) ≡ done e
+      → ((x : Element) → ask x ≡ done (elementOf x (e .0) (e .1) (e .2))) → Leads big m v b spot ask
 
-module _ (m : List ℕ) (v : ℕ) where
+module _ (big : Bool) (m : List ℕ) (v : ℕ) where
   retold : {b c : Block} {s t : Spot} {f g : Element → Result Answer} → b ≡ c → s ≡ t
-      → ((x : Element) → f x ≡ g x) → Leads m v c t g → Leads m v b s f
+      → ((x : Element) → f x ≡ g x) → Leads big m v c t g → Leads big m v b s f
   retold p q h (missing z a) = missing (q ∙ z) (λ x. h x ∙ a x)
   retold p q h (there e some enough reads a) = rw (p, q) (there e some enough reads (λ x. h x ∙ a x))
 
   -- What the steps after the first lead to, from an entry that was read.
   abbrev Inside : List Step → Type 0
   Inside p = (b : Block) (l at : ℕ) (e : Entry) (rest : Values) → 0 < at → need v (b .0) ≤ l
-      → readBlock m v (b .0) (readGroups m v (b .1) 0) 0 l at ≡ done e
-      → Leads m v (blockIn p b) (spotIn m v p (b .1) l at) (λ x. answerAt p x (entry (e .0) (e .1) (e .2) rest))
+      → readBlock big m v (b .0) (readGroups big m v (b .1) 0) 0 l at ≡ done e
+      → Leads big m v (blockIn p b) (spotIn big m v p (b .1) l at) (λ x. answerAt p x (entry (e .0) (e .1) (e .2) rest))
 
   module _ (p : List Step) (inside : Inside p) where
     -- Entry e of a group that was read.
-    group-leads : (s : Shape) (inner : Groups) (at e : ℕ) (a : Answer × Values × ℕ) → GroupRead m v s inner at a
-        → Leads m v (blockIn p (s, inner))
-        (openedSpot m v e (spotIn m v p inner) s inner at (readDimension m (need v s) at))
+    group-leads : (s : Shape) (inner : Groups) (at e : ℕ) (a : Answer × Values × ℕ) → GroupRead big m v s inner at a
+        → Leads big m v (blockIn p (s, inner))
+        (openedSpot big m v e (spotIn big m v p inner) s inner at (readDimension big m (need v s) at))
         (λ x. answerAt p x (entriesFrom e (a .1)))
     unfolding openedSpot
     group-leads s inner at e a g =
@@ -175,8 +177,8 @@ module _ (m : List ℕ) (v : ℕ) where
         missing (spots-past _ _ _ _ _ _ λ i l k. omega (arith, few, k))
         (λ x. ap (answerAt p x) (entries-few _ _ _ _ _ (g .entries) few) ∙ nothing p x))
         (λ t. let less = leb-false (g .count) e t in
-        let turn = spots-turn _ (spotIn m v p inner (g .length)) (g .count - e)
-        (block-on m v s _ (groups-on m v inner) (g .length)) nowhere _ _ _ (g .entries) (omega (arith, less))
+        let turn = spots-turn _ (spotIn big m v p inner (g .length)) (g .count - e)
+        (block-on big m v s _ (groups-on big m v inner) (g .length)) nowhere _ _ _ (g .entries) (omega (arith, less))
         (omega arith) in
         let k : g .count - (g .count - e) ≡ e = omega (arith, less) in
         retold refl (turn .spot) (λ x. ap (answerAt p x) (rw k at (turn .from)))
@@ -184,8 +186,8 @@ module _ (m : List ℕ) (v : ℕ) where
         (g .is .enough) (turn .reads))))
 
     -- Entry e of the first group of a row that was read.
-    first-leads : (b : Block) (e : ℕ) (gs : Groups) (n at : ℕ) (r : Values × ℕ) → readGroups m v gs n at ≡ done r
-        → Leads m v (blockIn p (firstBlock b gs)) (firstSpot m v e (spotIn m v p) gs at)
+    first-leads : (b : Block) (e : ℕ) (gs : Groups) (n at : ℕ) (r : Values × ℕ) → readGroups big m v gs n at ≡ done r
+        → Leads big m v (blockIn p (firstBlock b gs)) (firstSpot big m v e (spotIn big m v p) gs at)
         (λ x. answerAt p x (entriesFrom e (entriesOf 0 (r .0))))
     unfolding readGroups firstBlock firstSpot entriesOf
     first-leads b e none n at r h =
@@ -194,22 +196,22 @@ module _ (m : List ℕ) (v : ℕ) where
     first-leads b e (more i since s inner rest) n at r h =
         let a = inv-both _ _ _ _ h in
         let is = ap (λ (d : Values × ℕ). entriesFrom e (entriesOf 0 (d .0))) (a .is) in
-        let spot = openedSpot m v e (spotIn m v p inner) s inner at (readDimension m (need v s) at) in
+        let spot = openedSpot big m v e (spotIn big m v p inner) s inner at (readDimension big m (need v s) at) in
         inv-if (leb since v) (a .first)
         (λ t h. let same : (if leb since v then spot else nowhere) ≡ spot = unfold if_then_else_ in rw t refl in
         retold refl same (λ x. ap (answerAt p x) (sym is))
-        (group-leads s inner at e _ (group-read m v s inner at _ h)))
+        (group-leads s inner at e _ (group-read big m v s inner at _ h)))
         (λ t h. let none-here = ap (λ (d : Answer × Values × ℕ). entriesFrom e (d .1)) (done-inj h) in
         missing (unfold if_then_else_ in rw t refl)
         (λ x. ap (answerAt p x) (sym is ∙ sym none-here ∙ no-entries e) ∙ nothing p x))
 
     -- A step from a row that was read, with n surplus groups.
-    step-leads : (b : Block) (s : Step) (n at : ℕ) (r : Values × ℕ) → readGroups m v (b .1) n at ≡ done r
-        → Leads m v (blockIn (s ∷ p) b) (stepSpot m v s (spotIn m v p) (b .1) at)
+    step-leads : (b : Block) (s : Step) (n at : ℕ) (r : Values × ℕ) → readGroups big m v (b .1) n at ≡ done r
+        → Leads big m v (blockIn (s ∷ p) b) (stepSpot big m v s (spotIn big m v p) (b .1) at)
         (λ x. answerAt p x (entriesFrom (s .entry) (entriesOf (s .group) (r .0))))
     unfolding blockIn endOfRow
     step-leads b s n at r h =
-        let f = row-from m v (s .group) (b .1) n at r h in
+        let f = row-from big m v (s .group) (b .1) n at r h in
         rw (f .passed)
         (retold refl refl (λ x. ap (λ (z : Values). answerAt p x (entriesFrom (s .entry) z)) (f .entries))
         (first-leads b (s .entry) (dropGroups (s .group) (b .1)) n (f .first .1) (f .value, r .1) (f .reads)))
@@ -218,15 +220,15 @@ module _ (m : List ℕ) (v : ℕ) where
   unfolding blockIn spotIn answerAt elementIn groupsIn
   entry-leads [] b l at e rest some enough h = there e some enough h (λ x. refl)
   entry-leads (s ∷ p) b l at e rest some enough h =
-      let k = block-read m v _ _ _ _ _ _ h in
+      let k = block-read big m v _ _ _ _ _ _ h in
       retold refl refl
       (λ x. ap (λ (z : Values). answerAt p x (entriesFrom (s .entry) (entriesOf (s .group) z))) (sym (k .same)))
       (step-leads p (entry-leads p) b s 0 (at + l) (k .row) (k .groups))
 
   -- Steps from a block whose groups were read, with n surplus ones.
   pub row-leads : (b : Block) (s : Step) (p : List Step) (n at : ℕ) (r : Values × ℕ)
-      → readGroups m v (b .1) n at ≡ done r → (fs ds : List Answer) (rest : Values)
-      → Leads m v (blockIn (s ∷ p) b) (stepSpot m v s (spotIn m v p) (b .1) at)
+      → readGroups big m v (b .1) n at ≡ done r → (fs ds : List Answer) (rest : Values)
+      → Leads big m v (blockIn (s ∷ p) b) (stepSpot big m v s (spotIn big m v p) (b .1) at)
       (λ x. answerAt (s ∷ p) x (entry fs (r .0) ds rest))
   unfolding answerAt groupsIn
   row-leads b s p n at r h fs ds rest = step-leads p (entry-leads p) b s n at r h

@@ -1,5 +1,6 @@
 -- A row of groups is its first g groups and the others; the entry of a group whose turn comes.
 use mathlib.Core.Path.{_∙_, _≡_, ap, refl, sym}
+use mathlib.Core.Bool.{Bool}
 use mathlib.Core.List.{List}
 use Prim.Native.Nat.{ℕ, zero, suc, _-_, _≤_, _<_}
 use native.Mathlib.Omega.{arith}
@@ -36,8 +37,8 @@ more-reads : (f : Result (Answer × Values × ℕ)) (a : Answer × Values × ℕ
 unfolding _>>=_
 more-reads f a e k r h = rw (e, h) refl
 
-module _ (m : List ℕ) (v : ℕ) where
-  none-reads : (at : ℕ) → readGroups m v none 0 at ≡ done (nil, at)
+module _ (big : Bool) (m : List ℕ) (v : ℕ) where
+  none-reads : (at : ℕ) → readGroups big m v none 0 at ≡ done (nil, at)
   unfolding readGroups skipGroups _>>=_
   none-reads at = refl
 
@@ -45,12 +46,12 @@ module _ (m : List ℕ) (v : ℕ) where
   pub record RowFrom (g : ℕ) (gs : Groups) (n at : ℕ) (r : Values × ℕ) : Type 0 where
     pub first : Values × ℕ
     pub value : Values
-    pub passed : readGroups m v (takeGroups g gs) 0 at ≡ done first
-    pub reads : readGroups m v (dropGroups g gs) n (first .1) ≡ done (value, r .1)
+    pub passed : readGroups big m v (takeGroups g gs) 0 at ≡ done first
+    pub reads : readGroups big m v (dropGroups g gs) n (first .1) ≡ done (value, r .1)
     pub entries : entriesOf g (r .0) ≡ entriesOf 0 value
     pub group : groupOf g (r .0) ≡ groupOf 0 value
 
-  pub row-from : (g : ℕ) (gs : Groups) (n at : ℕ) (r : Values × ℕ) → readGroups m v gs n at ≡ done r
+  pub row-from : (g : ℕ) (gs : Groups) (n at : ℕ) (r : Values × ℕ) → readGroups big m v gs n at ≡ done r
       → RowFrom g gs n at r
   unfolding readGroups takeGroups dropGroups entriesOf groupOf
   row-from zero gs n at r h =
@@ -80,25 +81,25 @@ module _ (m : List ℕ) (v : ℕ) where
       }
 
   -- The others start where the first g end.
-  pub row-cut : (g : ℕ) (gs : Groups) (n at : ℕ) → ended (readGroups m v gs n at)
-      ≡ (ended (readGroups m v (takeGroups g gs) 0 at) >>= λ x. ended (readGroups m v (dropGroups g gs) n x))
+  pub row-cut : (g : ℕ) (gs : Groups) (n at : ℕ) → ended (readGroups big m v gs n at)
+      ≡ (ended (readGroups big m v (takeGroups g gs) 0 at) >>= λ x. ended (readGroups big m v (dropGroups g gs) n x))
   unfolding readGroups skipGroups takeGroups dropGroups ended _>>=_
   row-cut zero gs n at = refl
   row-cut (suc g) none n at = refl
   row-cut (suc g) (more i since s inner rest) n at =
-      go (if leb since v then readGroup m v s (readGroups m v inner 0) at else done (Absent, nil, at))
+      go (if leb since v then readGroup big m v s (readGroups big m v inner 0) at else done (Absent, nil, at))
       (λ x. row-cut g rest n x)
     where
       go : (f : Result (Answer × Values × ℕ))
-          → ((x : ℕ) → ended (readGroups m v rest n x) ≡ (ended (readGroups m v (takeGroups g rest) 0 x)
-          >>= λ x. ended (readGroups m v (dropGroups g rest) n x)))
-          → ended (f >>= λ a. readGroups m v rest n (a .2) >>= λ q. done (grouped a q))
-          ≡ (ended (f >>= λ a. readGroups m v (takeGroups g rest) 0 (a .2) >>= λ q. done (grouped a q))
-          >>= λ x. ended (readGroups m v (dropGroups g rest) n x))
+          → ((x : ℕ) → ended (readGroups big m v rest n x) ≡ (ended (readGroups big m v (takeGroups g rest) 0 x)
+          >>= λ x. ended (readGroups big m v (dropGroups g rest) n x)))
+          → ended (f >>= λ a. readGroups big m v rest n (a .2) >>= λ q. done (grouped a q))
+          ≡ (ended (f >>= λ a. readGroups big m v (takeGroups g rest) 0 (a .2) >>= λ q. done (grouped a q))
+          >>= λ x. ended (readGroups big m v (dropGroups g rest) n x))
       go (done a) on =
           rw (
-            ended-told (readGroups m v rest n (a .2)) (group (a .0) (a .1)),
-            ended-told (readGroups m v (takeGroups g rest) 0 (a .2)) (group (a .0) (a .1)),
+            ended-told (readGroups big m v rest n (a .2)) (group (a .0) (a .1)),
+            ended-told (readGroups big m v (takeGroups g rest) 0 (a .2)) (group (a .0) (a .1)),
           )
           (on (a .2))
       go (refused k p) on = refl

@@ -16,7 +16,7 @@ use Rattle.layout.specs.Message.{skipGroups}
 use Rattle.layout.specs.Values.{Values, measure}
 use Rattle.layout.specs.declared.Refusal.{Refusal}
 use Rattle.prepared.specs.Positions.{BlockAt, IsBlock, manyDatas, datasFrom, manyFields, manyGroups, groupsFrom}
-use Rattle.prepared.specs.Positions.{innerAt, shapeAt}
+use Rattle.prepared.specs.Positions.{innerAt, isBig, shapeAt}
 use Rattle.prepared.proofs.Open.{no-datas-at, no-groups-at}
 use Rattle.wire.specs.Dimensions.{dimensioned}
 use Rattle.wire.specs.Walks.{walked}
@@ -111,9 +111,9 @@ ends-walked {w = w} m at own q s e b h =
 
 -- ---- a row, after its first g groups
 
-module _ (m : List ℕ) (v g : ℕ) (gs : Groups) (at : ℕ) where
+module _ (big : Bool) (m : List ℕ) (v g : ℕ) (gs : Groups) (at : ℕ) where
   abbrev before : Walked
-  before = walked (valuesEnd 0) (readGroups m v (takeGroups g gs) 0 at)
+  before = walked (valuesEnd 0) (readGroups big m v (takeGroups g gs) 0 at)
 
   unfoldable ended-row : Result ℕ → Spot → Row
   ended-row (done x) s = To x (s .0) (s .1)
@@ -125,66 +125,68 @@ module _ (m : List ℕ) (v g : ℕ) (gs : Groups) (at : ℕ) where
   by-end (refused n p) s = refl
 
   pub before-refused : (s : Spot) (z : Refusal) → Walked.the-variants.Refused z ≡ before
-      → rowed (readGroups m v gs 0 at) s ≡ Refused z
+      → rowed (readGroups big m v gs 0 at) s ≡ Refused z
   unfolding _>>=_ ended ended-row
   before-refused s z e =
-      by-end _ s ∙ rw (row-cut m v g gs 0 at, inv-refused (valuesEnd 0) (readGroups m v (takeGroups g gs) 0 at) z e)
-      refl
+      by-end _ s
+      ∙ rw (row-cut big m v g gs 0 at, inv-refused (valuesEnd 0) (readGroups big m v (takeGroups g gs) 0 at) z e) refl
 
   pub before-passed : (e : ℕ) (inside : Groups → ℕ → ℕ → Spot) (x k : ℕ) → Walked.the-variants.To x k ≡ before
-      → rowed (readGroups m v gs 0 at) (firstSpot m v e inside (dropGroups g gs)
-      (endOfRow (readGroups m v (takeGroups g gs) 0 at)))
-      ≡ rowed (readGroups m v (dropGroups g gs) 0 x) (firstSpot m v e inside (dropGroups g gs) x)
+      → rowed (readGroups big m v gs 0 at) (firstSpot big m v e inside (dropGroups g gs)
+      (endOfRow (readGroups big m v (takeGroups g gs) 0 at)))
+      ≡ rowed (readGroups big m v (dropGroups g gs) 0 x) (firstSpot big m v e inside (dropGroups g gs) x)
   unfolding _>>=_ ended endOfRow
   before-passed e inside x k h =
       let p = inv-to (valuesEnd 0) _ x k h in
-      by-end _ _ ∙ rw (row-cut m v g gs 0 at, p .is, p .next) (sym (by-end _ _))
+      by-end _ _ ∙ rw (row-cut big m v g gs 0 at, p .is, p .next) (sym (by-end _ _))
 
 -- ---- a group of the row, by the step to its entry e
 
-module _ (m : List ℕ) (v : ℕ) (gs : Groups) (id since : ℕ) (s : Shape) (inner rest : Groups)
+module _ (big : Bool) (m : List ℕ) (v : ℕ) (gs : Groups) (id since : ℕ) (s : Shape) (inner rest : Groups)
     (is : gs ≡ more id since s inner rest) (at e : ℕ) (inside : Groups → ℕ → ℕ → Spot) where
   abbrev sought : Row
-  sought = rowed (readGroups m v gs 0 at) (firstSpot m v e inside gs at)
+  sought = rowed (readGroups big m v gs 0 at) (firstSpot big m v e inside gs at)
 
-  pub group-absent : v < since → sought ≡ rowed (readGroups m v rest 0 at) nowhere
+  pub group-absent : v < since → sought ≡ rowed (readGroups big m v rest 0 at) nowhere
   unfolding firstSpot if_then_else_
   group-absent h =
-      let spot : firstSpot m v e inside gs at ≡ nowhere = rw (is, lt-leb since v h) refl in
-      rw spot (passes 0 _ _ _ nowhere (row-absent m v 0 gs id since s inner rest is at h))
+      let spot : firstSpot big m v e inside gs at ≡ nowhere = rw (is, lt-leb since v h) refl in
+      rw spot (passes 0 _ _ _ nowhere (row-absent big m v 0 gs id since s inner rest is at h))
 
   module _ (h : since ≤ v) (least : ℕ) (needs : least ≡ need v s) where
-    pub group-refused : (z : Refusal) → Dimension.the-variants.Refused z ≡ dimensioned (readDimension m least at)
+    pub group-refused : (z : Refusal) → Dimension.the-variants.Refused z ≡ dimensioned (readDimension big m least at)
         → sought ≡ Refused z
-    group-refused z d = denies 0 _ _ z (row-dimension m v 0 gs id since s inner rest is at h least needs z d)
+    group-refused z d = denies 0 _ _ z (row-dimension big m v 0 gs id since s inner rest is at h least needs z d)
 
-    module _ (l k : ℕ) (d : Dimension.the-variants.Of l k ≡ dimensioned (readDimension m least at)) where
+    module _ (l k : ℕ) (d : Dimension.the-variants.Of l k ≡ dimensioned (readDimension big m least at)) where
       abbrev block : ℕ → Result Entry
-      block = readBlock m v s (readGroups m v inner 0) 0 l
+      block = readBlock big m v s (readGroups big m v inner 0) 0 l
 
       abbrev spot : Spot
       spot = entriesSpot block (inside inner l) (k - e) nowhere k (at + 4)
 
       pub entries-refused : (z : Refusal) → Refused z ≡ rowed (readEntries k block (at + 4)) spot → sought ≡ Refused z
       entries-refused z r =
-          denies 0 _ _ z (row-entries m v 0 gs id since s inner rest is at h least needs l k d z (inv-denied _ _ z r))
+          denies 0 _ _ z
+          (row-entries big m v 0 gs id since s inner rest is at h least needs l k d z (inv-denied _ _ z r))
 
       pub entries-passed : (y f n : ℕ) → To y f n ≡ rowed (readEntries k block (at + 4)) spot
-          → sought ≡ rowed (readGroups m v rest 0 y) (f, n)
+          → sought ≡ rowed (readGroups big m v rest 0 y) (f, n)
       unfolding firstSpot openedSpot if_then_else_
       entries-passed y f n r =
           let p = inv-sought _ _ y f n r in
-          let read = good m (need v s) at l k (rw needs at d) .is in
-          let same : firstSpot m v e inside gs at ≡ (f, n) = rw (is, le-leb since v h, read) (p .spot) in
+          let read = good big m (need v s) at l k (rw needs at d) .is in
+          let same : firstSpot big m v e inside gs at ≡ (f, n) = rw (is, le-leb since v h, read) (p .spot) in
           rw same (passes 0 _ _ _ (f, n)
-          (row-next m v 0 gs id since s inner rest is at h least needs l k d y _ (p .walks)))
+          (row-next big m v 0 gs id since s inner rest is at h least needs l k d y _ (p .walks)))
 
 -- ---- an entry: n entries are left, of which the one with `turn` left is looked for, and the spot is z so far
 
-module _ (m : List ℕ) (v : ℕ) (s : Shape) (gs : Groups) (l : ℕ) (inside : ℕ → Spot) (turn : ℕ) (z : Spot) (n at : ℕ)
+module _ (big : Bool) (m : List ℕ) (v : ℕ) (s : Shape) (gs : Groups) (l : ℕ) (inside : ℕ → Spot) (turn : ℕ) (z : Spot)
+    (n at : ℕ)
   where
     abbrev entryIs : ℕ → Result Entry
-    entryIs = readBlock m v s (readGroups m v gs 0) 0 l
+    entryIs = readBlock big m v s (readGroups big m v gs 0) 0 l
 
     abbrev left : Row
     left = rowed (readEntries n entryIs at) (entriesSpot entryIs inside turn z n at)
@@ -195,22 +197,22 @@ module _ (m : List ℕ) (v : ℕ) (s : Shape) (gs : Groups) (l : ℕ) (inside : 
 
     module _ (h : 0 < n) where
       pub entry-short-on : length m < at + l → left ≡ Refused (refusal 16 at)
-      entry-short-on f = denies 0 _ _ _ (entry-short m v s gs l 0 n at h f)
+      entry-short-on f = denies 0 _ _ _ (entry-short big m v s gs l 0 n at h f)
 
       module _ (fit : at + l ≤ length m) (y : Spot) where
         abbrev row : Row
-        row = rowed (readGroups m v gs 0 (at + l)) y
+        row = rowed (readGroups big m v gs 0 (at + l)) y
 
         pub entry-row-on : (q : Refusal) → Refused q ≡ row → left ≡ Refused q
-        entry-row-on q e = denies 0 _ _ q (entry-row m v s gs l 0 n at h fit q (inv-denied _ _ q e))
+        entry-row-on q e = denies 0 _ _ q (entry-row big m v s gs l 0 n at h fit q (inv-denied _ _ q e))
 
         module _ (x f k : ℕ) (e : To x f k ≡ row) where
           pub entry-datas-on : (q : Refusal)
-              → Walked.the-variants.Refused q ≡ walked (datasEnd 0) (readDatas m v (s .datas) 0 x)
+              → Walked.the-variants.Refused q ≡ walked (datasEnd 0) (readDatas big m v (s .datas) 0 x)
               → left ≡ Refused q
           entry-datas-on q d =
               let p = inv-sought _ _ x f k e in
-              denies 0 _ _ q (entry-datas m v s gs l 0 n at h fit x _ (p .walks) q d)
+              denies 0 _ _ q (entry-datas big m v s gs l 0 n at h fit x _ (p .walks) q d)
 
           spots-step : (n : ℕ) → 0 < n → entriesSpot entryIs inside turn z n at
               ≡ entriesSpot entryIs inside turn (if eqb n turn then inside at else z) (n - 1) (endOfEntry (entryIs at))
@@ -218,22 +220,23 @@ module _ (m : List ℕ) (v : ℕ) (s : Shape) (gs : Groups) (l : ℕ) (inside : 
           spots-step n h = rw (some-left h, one-less) refl
 
           pub entry-next-on : y ≡ (if eqb n turn then inside at else z) → (w j : ℕ)
-              → Walked.the-variants.To w j ≡ walked (datasEnd 0) (readDatas m v (s .datas) 0 x)
+              → Walked.the-variants.To w j ≡ walked (datasEnd 0) (readDatas big m v (s .datas) 0 x)
               → left ≡ rowed (readEntries (n - 1) entryIs w) (entriesSpot entryIs inside turn (f, k) (n - 1) w)
           unfolding endOfEntry
           entry-next-on c w j d =
               let p = inv-sought _ _ x f k e in
               let whole = inv-to entryEnd (entryIs at) w _
-              (sym (block-whole m v s _ 0 l at fit x _ (p .walks) w j _ d refl)) in
+              (sym (block-whole big m v s _ 0 l at fit x _ (p .walks) w j _ d refl)) in
               let spot : entriesSpot entryIs inside turn z n at ≡ entriesSpot entryIs inside turn (f, k) (n - 1) w =
               spots-step n h ∙ rw (sym c, p .spot, whole .is, whole .next) refl in
-              rw spot (passes 0 _ _ _ _ (entry-next m v s gs l 0 n at h fit x _ (p .walks) w j _ d refl))
+              rw spot (passes 0 _ _ _ _ (entry-next big m v s gs l 0 n at h fit x _ (p .walks) w j _ d refl))
 
 -- ---- plain entries: nothing follows a block
 
-module _ (m : List ℕ) (v : ℕ) (s : Shape) (gs : Groups) (l : ℕ) (no-groups : gs ≡ none) (no-datas : s .datas ≡ []) where
+module _ (big : Bool) (m : List ℕ) (v : ℕ) (s : Shape) (gs : Groups) (l : ℕ) (no-groups : gs ≡ none)
+    (no-datas : s .datas ≡ []) where
   abbrev plainIs : ℕ → Result Entry
-  plainIs = readBlock m v s (readGroups m v gs 0) 0 l
+  plainIs = readBlock big m v s (readGroups big m v gs 0) 0 l
 
   plain-end : (at : ℕ) → at + l ≤ length m → endOfEntry (plainIs at) ≡ at + l
   unfolding readBlock readGroups readDatas skipGroups skipDatas must _>>=_ endOfEntry
@@ -263,7 +266,7 @@ module _ (m : List ℕ) (v : ℕ) (s : Shape) (gs : Groups) (l : ℕ) (no-groups
 
   -- No step leads on in an entry without groups.
   plain-inside : (path : List ℕ) (i : ℕ) → Path path i → (x : ℕ)
-      → spotIn m v (stepsFrom path i) gs l x ≡ (if eqb (length path) i then (x, l) else nowhere)
+      → spotIn big m v (stepsFrom path i) gs l x ≡ (if eqb (length path) i then (x, l) else nowhere)
   unfolding spotIn firstSpot if_then_else_
   plain-inside path i q x =
       each-way (eqb (length path) i)
@@ -272,11 +275,11 @@ module _ (m : List ℕ) (v : ℕ) (s : Shape) (gs : Groups) (l : ℕ) (no-groups
       rw (e, steps-next path i some, no-groups, drops-none (word path i)) refl)
 
   pub plain-spot : (path : List ℕ) (i : ℕ) → Path path i → (k e at : ℕ) → at + l * k ≤ length m
-      → entriesSpot plainIs (spotIn m v (stepsFrom path i) gs l) (k - e) nowhere k at
+      → entriesSpot plainIs (spotIn big m v (stepsFrom path i) gs l) (k - e) nowhere k at
       ≡ plainSpot l k at e (eqb (length path) i)
   unfolding if_then_else_
   plain-spot path i q k e at fit =
-      let inside = spotIn m v (stepsFrom path i) gs l in
+      let inside = spotIn big m v (stepsFrom path i) gs l in
       each-way (ltb e k)
       (λ t. let less = ltb-true e k t in
       let back : k - (k - e) ≡ e = omega (arith, less) in
@@ -320,15 +323,15 @@ module _ (p : List ℕ) (depth a : ℕ) (stands : BlockAt p depth a) (m : List �
 
     pub row-refused : (z : Refusal) → Walked.the-variants.Refused z
         ≡ walked (valuesEnd 0) (rowAt p depth (word path i) (groupsFrom p a) m v at) → rowIs ≡ Refused z
-    row-refused z e = before-refused m v (word path i) _ at _ z (rw (← (halves .takes)) at e)
+    row-refused z e = before-refused (isBig p) m v (word path i) _ at _ z (rw (← (halves .takes)) at e)
 
     pub row-onward : (x k : ℕ) → Walked.the-variants.To x k
         ≡ walked (valuesEnd 0) (rowAt p depth (word path i) (groupsFrom p a) m v at)
         → rowIs ≡ groupSought p depth (rowAfter p (word path i) (groupsFrom p a)) m v path i
         (manyGroups p a - word path i) x
     row-onward x k e =
-        before-passed m v (word path i) (innerAt p depth a) at (word path (i + 1)) (spotIn m v (stepsFrom path (i + 2)))
-        x k
+        before-passed (isBig p) m v (word path i) (innerAt p depth a) at (word path (i + 1))
+        (spotIn (isBig p) m v (stepsFrom path (i + 2))) x k
         (rw (← (halves .takes)) at e)
         ∙ rw (halves .drops) refl
 
@@ -342,7 +345,7 @@ pub plain-sought : (p : List ℕ) (depth a : ℕ) (m : List ℕ) (v : ℕ) (path
 unfolding foundAt
 plain-sought p depth a m v path i l k start e follow b w z fit q =
     let walks = plain-walked p depth a m v l k start (manyFields p a) follow b refl w z fit .0 in
-    let spot = plain-spot m v (shapeAt p a) (innerAt p depth a) l
+    let spot = plain-spot (isBig p) m v (shapeAt p a) (innerAt p depth a) l
     (no-groups-at p depth (manyGroups p a) (groupsFrom p a) (omega (arith, b .follow, w, z)))
     (no-datas-at p (manyDatas p a) (datasFrom p a) (omega (arith, b .follow, w, z))) path (i + 2) q k e start fit in
     rw spot (sym (told-found 0 _ _) ∙ ap (λ x. foundAt x (plainSpot l k start e (eqb (length path) (i + 2))))

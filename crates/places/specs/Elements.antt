@@ -12,7 +12,7 @@ use Rattle.layout.specs.declared.Answer.{Answer}
 use Rattle.layout.specs.declared.Answer.the-variants.{Absent}
 use Rattle.layout.specs.declared.Element as Element
 use Rattle.layout.specs.declared.Element.{Element}
-use Rattle.prepared.specs.Positions.{BlockAt, manyDatas, manyFields, manyGroups, groupsFrom, innerAt, shapeAt}
+use Rattle.prepared.specs.Positions.{BlockAt, manyDatas, manyFields, manyGroups, groupsFrom, innerAt, isBig, shapeAt}
 use Rattle.prepared.specs.declared.Located.{Located}
 use Rattle.prepared.specs.declared.Located.the-variants.{At, Unknown}
 use Rattle.places.specs.Seeks.{rowAfter}
@@ -50,11 +50,12 @@ pub record Done {A : Type 0} (r : Result A) : Type 0 where
 -- The groups of the block at a, which start at `at`, with n surplus ones; and then its data.
 module _ (p : List ℕ) (depth a : ℕ) (m : List ℕ) (v : ℕ) where
   abbrev pub datasRead : ℕ → ℕ → Result (List Answer × ℕ)
-  datasRead n at = readGroups m v (innerAt p depth a) n at >>= λ g. readDatas m v (shapeAt p a .datas) 0 (g .1)
+  datasRead n at =
+      readGroups (isBig p) m v (innerAt p depth a) n at >>= λ g. readDatas (isBig p) m v (shapeAt p a .datas) 0 (g .1)
 
   -- An entry of the block at a, with l octets from `at` on.
   abbrev pub entryRead : ℕ → ℕ → ℕ → Result Entry
-  entryRead n l at = readBlock m v (shapeAt p a) (readGroups m v (innerAt p depth a) n) 0 l at
+  entryRead n l at = readBlock (isBig p) m v (shapeAt p a) (readGroups (isBig p) m v (innerAt p depth a) n) 0 l at
 
   -- It was accepted.
   pub record Accepted (n l at : ℕ) : Type 0 where

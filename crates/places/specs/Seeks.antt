@@ -10,7 +10,7 @@ use Rattle.layout.specs.Reading.{stepsOf}
 use Rattle.layout.specs.BookRules.{word}
 use Rattle.layout.specs.Contracts.{refusal}
 use Rattle.layout.specs.Values.{Step, Values}
-use Rattle.prepared.specs.Positions.{manyGroups, groupsAt, groupsFrom, innerAt, nextFrom}
+use Rattle.prepared.specs.Positions.{manyGroups, groupsAt, groupsFrom, innerAt, isBig, nextFrom}
 use Rattle.wire.specs.declared.Walked as Walked
 use Rattle.wire.specs.declared.Walked.{Walked}
 use Rattle.walk.specs.Walks.{entriesAt, entryAt, rowAt}
@@ -62,25 +62,27 @@ module _ (p : List ℕ) (depth a : ℕ) (m : List ℕ) (v : ℕ) (path : List �
   abbrev pub rowSought : ℕ → Row
   rowSought at =
       rowed (rowAt p depth (manyGroups p a) (groupsFrom p a) m v at)
-      (stepSpot m v (stepAt path i) (spotIn m v (stepsFrom path (i + 2))) (innerAt p depth a) at)
+      (stepSpot (isBig p) m v (stepAt path i) (spotIn (isBig p) m v (stepsFrom path (i + 2))) (innerAt p depth a) at)
 
   -- n groups in a row at a, of which the step at i leads to the first.
   abbrev pub groupSought : ℕ → ℕ → Row
   groupSought n at =
       rowed (rowAt p depth n a m v at)
-      (firstSpot m v (word path (i + 1)) (spotIn m v (stepsFrom path (i + 2))) (groupsAt p depth n a) at)
+      (firstSpot (isBig p) m v (word path (i + 1)) (spotIn (isBig p) m v (stepsFrom path (i + 2)))
+      (groupsAt p depth n a) at)
 
   -- k entries of l octets of the block at a, after which `due` of them are left at `at`, the spot being z so far.
   abbrev pub entriesSought : ℕ → ℕ → Spot → ℕ → ℕ → Row
   entriesSought l turn z due at =
       rowed (entriesAt p depth a m v l due at)
-      (entriesSpot (entryAt p depth a m v l) (spotIn m v (stepsFrom path (i + 2)) (innerAt p depth a) l) turn z due at)
+      (entriesSpot (entryAt p depth a m v l)
+      (spotIn (isBig p) m v (stepsFrom path (i + 2)) (innerAt p depth a) l) turn z due at)
 
   -- The row of an entry of l octets at `at` of the block at a: if it is on the path, by the steps from i on.
   abbrev pub innerSought : ℕ → Bool → Spot → ℕ → Row
   innerSought l on z at =
       rowed (rowAt p depth (manyGroups p a) (groupsFrom p a) m v (at + l))
-      (if on then spotIn m v (stepsFrom path i) (innerAt p depth a) l at else z)
+      (if on then spotIn (isBig p) m v (stepsFrom path i) (innerAt p depth a) l at else z)
 
 -- k entries of l octets that nothing follows, from `start` on: entry e, if it is the last step that leads to it.
 abbrev pub plainSpot : ℕ → ℕ → ℕ → ℕ → Bool → Spot

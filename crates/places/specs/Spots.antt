@@ -1,5 +1,6 @@
 -- Where the entry stands that steps lead to: a spot is where it starts and how many octets its block has on the wire,
 -- or (0, 0) where there is no such entry.
+use mathlib.Core.Bool.{Bool}
 use mathlib.Core.List.{List, [], _∷_}
 use Prim.Native.Nat.{ℕ, zero, suc, _+_, _-_}
 use lib.Dec.{eqb, leb}
@@ -59,25 +60,26 @@ entriesSpot f inside turn z zero at = z
 entriesSpot f inside turn z (suc n) at =
     entriesSpot f inside turn (if eqb (suc n) turn then inside at else z) n (endOfEntry (f at))
 
-module _ (m : List ℕ) (v : ℕ) where
+module _ (big : Bool) (m : List ℕ) (v : ℕ) where
   -- Entry e of a group with this block and this dimension at `at`; `inside` gives a spot in an entry by its block
   -- length and its start.
   unfoldable pub openedSpot : ℕ → (ℕ → ℕ → Spot) → Shape → Groups → ℕ → Result (ℕ × ℕ) → Spot
   openedSpot e inside s inner at (done (l, k)) =
-      entriesSpot (readBlock m v s (readGroups m v inner 0) 0 l) (inside l) (k - e) nowhere k (at + dimensionSize)
+      entriesSpot (readBlock big m v s (readGroups big m v inner 0) 0 l) (inside l) (k - e) nowhere k
+      (at + dimensionSize)
   openedSpot e inside s inner at (refused n p) = nowhere
 
   -- Entry e of the first group of a row.
   unfoldable pub firstSpot : ℕ → (Groups → ℕ → ℕ → Spot) → Groups → ℕ → Spot
   firstSpot e inside none at = nowhere
   firstSpot e inside (more i since s inner rest) at =
-      if leb since v then openedSpot e (inside inner) s inner at (readDimension m (need v s) at) else nowhere
+      if leb since v then openedSpot e (inside inner) s inner at (readDimension big m (need v s) at) else nowhere
 
   -- The entry that a step leads to in a row at `at`, and what is inside of it.
   abbrev pub stepSpot : Step → (Groups → ℕ → ℕ → Spot) → Groups → ℕ → Spot
   stepSpot s inside gs at =
       firstSpot (s .entry) inside (dropGroups (s .group) gs)
-      (endOfRow (readGroups m v (takeGroups (s .group) gs) 0 at))
+      (endOfRow (readGroups big m v (takeGroups (s .group) gs) 0 at))
 
   -- From an entry with these groups and l octets at `at`.
   unfoldable pub spotIn : List Step → Groups → ℕ → ℕ → Spot

@@ -165,6 +165,7 @@ fn seek_entries(
             return plain_row(l, k, start, e, steps.len() == i + 2);
         }
     }
+    let big = prepared::is_big(s);
     let turn = turn_of(k, e);
     let mut due = k;
     let mut at = start;
@@ -184,7 +185,7 @@ fn seek_entries(
         else {
             return inside;
         };
-        let datas = walk_datas(s, number(s, a + 10), number(s, a + 5), t, v, next);
+        let datas = walk_datas(s, number(s, a + 10), number(s, a + 5), big, t, v, next);
         let Walked::To { next: end, .. } = datas else {
             return found_at(datas, 0, 0);
         };
@@ -221,7 +222,7 @@ fn seek_group(
     if v < number(s, a + 1) {
         return found_at(pass_row(p, after, n - 1, depth, m, v, at), 0, 0);
     }
-    match wire::open_group(t, prepared::need(s, a, v), at) {
+    match wire::open_group(prepared::is_big(s), t, prepared::need(s, a, v), at) {
         Dimension::Refused(refusal) => Row::Refused(refusal),
         Dimension::Of { length, entries } => {
             let inside = seek_entries(p, a, depth - 1, m, v, length, entries, at + 4, path, i);
@@ -346,17 +347,26 @@ fn group_at(
     if v < number(s, group + 1) {
         return Answer::Absent;
     }
-    let sizes = wire::sizes_at(*m, next);
+    let sizes = wire::sizes_at(prepared::is_big(s), *m, next);
     Answer::Group(sizes.entries as u64)
 }
 
 // Data k of the n data at place `from`, which start at `start`.
-fn data_at(p: &[u64], from: usize, n: usize, m: &[u8], v: usize, start: usize, k: usize) -> Answer
+fn data_at(
+    p: &[u64],
+    from: usize,
+    n: usize,
+    big: bool,
+    m: &[u8],
+    v: usize,
+    start: usize,
+    k: usize,
+) -> Answer
     requires { ⌜ (from + 2 * n ≤ length (now p)) × (n ≤ 16) × (k < n) × Lent (now m) start
-        × Done (readDatas (now m) v (parseDatas (now p) n from) 0 start) ⌝ }
-    ensures { λ r. ⌜ r ≡ dataRead k (readDatas (now (m .entry)) v (parseDatas (now (p .entry)) n from) 0 start) ⌝ }
+        × Done (readDatas big (now m) v (parseDatas (now p) n from) 0 start) ⌝ }
+    ensures { λ r. ⌜ r ≡ dataRead k (readDatas big (now (m .entry)) v (parseDatas (now (p .entry)) n from) 0 start) ⌝ }
 {
-    let passed = walk_datas(p, from, k, m, v, start);
+    let passed = walk_datas(p, from, k, big, m, v, start);
     let Walked::To { next, .. } = passed else {
         return Answer::Absent;
     };
@@ -365,7 +375,7 @@ fn data_at(p: &[u64], from: usize, n: usize, m: &[u8], v: usize, start: usize, k
     }
     Answer::Octets {
         start: next + 2,
-        len: wire::data_length(m, next),
+        len: wire::data_length(big, m, next),
     }
 }
 
@@ -387,15 +397,16 @@ fn data_after(
 {
     let s = *p;
     let t = *m;
+    let big = prepared::is_big(s);
     let row = pass_row(p, number(s, a + 9), number(s, a + 4), depth, m, v, start);
     let Walked::To { next, .. } = row else {
         return Answer::Absent;
     };
-    let rest = wire::skip_groups(t, surplus, next);
+    let rest = wire::skip_groups(big, t, surplus, next);
     let Walked::To { next: datas, .. } = rest else {
         return Answer::Absent;
     };
-    data_at(s, number(s, a + 10), number(s, a + 5), t, v, datas, k)
+    data_at(s, number(s, a + 10), number(s, a + 5), big, t, v, datas, k)
 }
 
 // The element x of an entry of the block at a that was accepted, with `length` octets from `at` on, the groups of the

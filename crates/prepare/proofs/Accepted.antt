@@ -1,7 +1,7 @@
 -- What an accepted book is good for: its templates are read by position, and its prepared numbers are few.
 use mathlib.Core.Path.{_≡_, ap, refl, subst, sym, _∙_}
 use mathlib.Core.List.{List}
-use Prim.Native.Nat.{ℕ, zero, suc, _+_, _-_, _*_, _/_, _<_, _≤_}
+use Prim.Native.Nat.{ℕ, zero, suc, _+_, _*_, _/_, _<_, _≤_}
 use native.Mathlib.Nat.{zero-add}
 use native.Mathlib.Omega.{arith}
 use lib.Dec.{leb}
@@ -22,7 +22,7 @@ use Rattle.layout.proofs.Results.{bind-done, done-inj, inv-bind, inv-must, inv-
 use Rattle.book.specs.Rows.{HasLists}
 use Rattle.book.proofs.Rows.{body-lies, head-says}
 use Rattle.book.proofs.Words.{length-words, words-between}
-use Rattle.prepared.specs.Numbers.{listsSize, preparedOf, sizesOf}
+use Rattle.prepared.specs.Numbers.{listsFrom, listsSize, preparedOf, sizesOf}
 use Rattle.prepared.proofs.Books.{length-prepared}
 use Rattle.prepared.proofs.Prepared.{length-numbers}
 use Rattle.prepare.specs.Names.{listsIn}
@@ -162,7 +162,7 @@ preparable s k =
         lists = record { has = has; good = each-good _ 4 _ (listsIn s) (p₅ .value) (p₅ .first) };
         count = refl;
         templates = r .0;
-        few = omega (arith, rw (tree, length-numbers (bookAt s), length-templates s n 5) at short);
+        few = omega (arith, rw (tree, length-numbers (bookAt s), length-templates s n headSize) at short);
       },
       tree,
     )
@@ -174,15 +174,16 @@ module _ (s : List ℕ) (k : IsBook s) (n : ℕ) (count-is : n ≡ word (wordsOf
   ready = subst (λ (x : ℕ). IsPreparable s x) (sym count-is) (preparable s k .0)
 
   module _ (before : List ℕ) (size : ℕ)
-      (is : size ≡ 68 + 2 * n + listsSize (listsIn s) + sizesOf (templatesAt s n 5)) where
+      (is : size ≡ listsFrom n + listsSize (listsIn s) + sizesOf (templatesAt s n headSize)) where
     abbrev made : List ℕ
     made = preparedOf (bookAt s)
 
     long : length made ≡ size
     long =
-        length-numbers (bookAt s) ∙ ap (λ (x : ℕ). 68 + 2 * x + listsSize (listsIn s) + sizesOf (bookAt s .templates))
-        (length-templates s (word (wordsOf s) 2) 5)
-        ∙ ap (λ (x : ℕ). 68 + 2 * x + listsSize (listsIn s) + sizesOf (templatesAt s x 5)) (sym count-is) ∙ sym is
+        length-numbers (bookAt s) ∙ ap (λ (x : ℕ). listsFrom x + listsSize (listsIn s) + sizesOf (bookAt s .templates))
+        (length-templates s (word (wordsOf s) 2) headSize)
+        ∙ ap (λ (x : ℕ). listsFrom x + listsSize (listsIn s) + sizesOf (templatesAt s x headSize)) (sym count-is)
+        ∙ sym is
 
     says : preparing s (length before) ≡ (must (leb size (length before)) 40 size >>= λ _. done made)
     unfolding preparing

@@ -1,5 +1,6 @@
 -- A block's numbers, as they are stored.
 use mathlib.Core.Path.{_≡_, refl, sym, _∙_, ap}
+use mathlib.Core.Bool.{Bool}
 use mathlib.Core.List.{List, [], _∷_, _++_, append-assoc}
 use Prim.Native.Nat.{ℕ, zero, suc, _+_, _-_, _*_, _%_, _^_, _≤_, _<_}
 use native.Mathlib.Nat.{add-suc, add-zero, suc-add, zero-add}
@@ -15,7 +16,9 @@ use Rattle.layout.specs.Types.{typeAt}
 use Rattle.layout.specs.Lists.{NameList}
 use Rattle.layout.specs.Book.{need as needOf, needAfter}
 use Rattle.layout.specs.BookRules.{fieldAt, parseDatas, parseFields, word}
+use Rattle.layout.proofs.Results.{either}
 use Rattle.layout.proofs.TypeLaws.{each-type}
+use Rattle.number_types.specs.Value.{orderOf}
 use Rattle.prepared.specs.Numbers.{blockOf, blockSize, datasOf, fieldsOf, placeOf, spread, tableOf}
 use Rattle.prepared.proofs.Accepted.{datas-length, fields-length}
 use Rattle.prepared.proofs.Prepared.{length-table}
@@ -79,24 +82,29 @@ unfolding parseFields
 fields-step ls b zero f h = absurd (omega arith)
 fields-step ls b (suc left) f h = let j : suc left - 1 ≡ left = omega arith in rw j refl
 
--- The table and the need of the fields that are left: a field more, with the end e, of type t, length n and offset o,
--- whose list is at `place`.
-module _ (ls : List NameList) (from : ℕ) (b : List ℕ) (f left e t n o : ℕ) (some-left : 0 < left)
-    (is : e ≡ o + typeAt t .width * n) (is-t : t ≡ word b (f + 1)) (is-n : n ≡ word b (f + 2))
-    (is-o : o ≡ word b (f + 3)) where
-  pub table-filled : {d₀ : List ℕ} {n₀ : ℕ} {all d : List ℕ} {at : ℕ} (d′ : List ℕ) (place : ℕ)
-      → place ≡ placeOf (word b (f + 6)) ls from → Filling d₀ n₀ all d at (tableOf ls from (parseFields ls b left f))
-      → d′ ≡ sets d at (worked e (typeAt t) place)
-      → Filling d₀ n₀ all d′ (at + 6) (tableOf ls from (parseFields ls b (left - 1) (f + 7)))
-  unfolding tableOf
-  table-filled d′ place is-p g q =
-      filling-on g (worked e (typeAt t) place) _ d′ _
-      (rw (fields-step ls b left f some-left, is, is-t, is-n, is-o, is-p) refl) q refl
+pub order-few : (big : Bool) → orderOf big ≤ 1
+order-few big = either (λ x. x ≤ 1) big 1 0 (omega arith) (omega arith)
 
-  pub need-step : (version need v : ℕ) → v ≡ word b (f + 5) → needAfter version need (parseFields ls b left f)
+-- The table and the need of the fields that are left: a field more, of type t.
+module _ (ls : List NameList) (b : List ℕ) (f left t : ℕ) (some-left : 0 < left) (is-t : t ≡ word b (f + 1)) where
+  -- With this order, and its list at `place`.
+  pub table-filled : (from : ℕ) (big : Bool) {d₀ : List ℕ} {n₀ : ℕ} {all d : List ℕ} {at : ℕ} (d′ : List ℕ)
+      (order place : ℕ) → order ≡ orderOf big → place ≡ placeOf (word b (f + 6)) ls from
+      → Filling d₀ n₀ all d at (tableOf ls from big (parseFields ls b left f))
+      → d′ ≡ sets d at (worked t order place)
+      → Filling d₀ n₀ all d′ (at + 6) (tableOf ls from big (parseFields ls b (left - 1) (f + 7)))
+  unfolding tableOf
+  table-filled from big d′ order place is-order is-p g q =
+      filling-on g (worked t order place) _ d′ _
+      (rw (fields-step ls b left f some-left, is-t, is-order, is-p) refl) q refl
+
+  -- With the end e, of length n and offset o, since v.
+  pub need-step : (e n o version need v : ℕ) → e ≡ o + typeAt t .width * n → n ≡ word b (f + 2) → o ≡ word b (f + 3)
+      → v ≡ word b (f + 5) → needAfter version need (parseFields ls b left f)
       ≡ needAfter version (if leb v version then e else need) (parseFields ls b (left - 1) (f + 7))
   unfolding needAfter
-  need-step version need v is-v = rw (fields-step ls b left f some-left, is, is-t, is-n, is-o, is-v) refl
+  need-step e n o version need v is is-n is-o is-v =
+      rw (fields-step ls b left f some-left, is, is-t, is-n, is-o, is-v) refl
 
 pub no-fields : (ls : List NameList) (b : List ℕ) (f left : ℕ) → left ≤ 0 → parseFields ls b left f ≡ []
 unfolding parseFields
@@ -126,23 +134,23 @@ module _ (ls : List NameList) (s : List ℕ) (w : ℕ) where
   pub block-size : blockSize (shapeAt ls s w) ≡ sizeAt s w
   block-size = omega (arith, fields-are, datas-are)
 
-  module _ (from : ℕ) where
-    pub elements-long : length (elementsAt ls s w from) + 12 ≡ sizeAt s w
+  module _ (from : ℕ) (big : Bool) where
+    pub elements-long : length (elementsAt ls s w from big) + 12 ≡ sizeAt s w
     elements-long = simp (length-append, length-words, length-table, fields-are) (omega arith)
 
     -- n words are stored, and then the table of f fields.
     pub elements-stored : (f n start : ℕ) (d d₁ d₂ : List ℕ) → f ≡ manyFields s w → n ≡ 7 * f + 2 * manyDatas s w
         → d₁ ≡ sets d start (wordsFrom s n (w + 4))
-        → d₂ ≡ sets d₁ (start + n) (tableOf ls from (parseFields ls (wordsOf s) f (w + 4)))
-        → d₂ ≡ sets d start (elementsAt ls s w from)
+        → d₂ ≡ sets d₁ (start + n) (tableOf ls from big (parseFields ls (wordsOf s) f (w + 4)))
+        → d₂ ≡ sets d start (elementsAt ls s w from big)
     elements-stored f n start d d₁ d₂ ef en p q =
         let k = 7 * manyFields s w + 2 * manyDatas s w in
-        q ∙ rw (p, en, ef) (sym (sets-append d start (wordsFrom s k (w + 4)) (tableOf ls from (shapeAt ls s w .fields))
-        ∙ rw length-words refl))
+        let table = tableOf ls from big (shapeAt ls s w .fields) in
+        q ∙ rw (p, en, ef) (sym (sets-append d start (wordsFrom s k (w + 4)) table ∙ rw length-words refl))
 
     pub block-is : (version id since need next at : ℕ) → need ≡ needOf version (shapeAt ls s w)
-        → blockOf ls from version id since (shapeAt ls s w) (manyGroups s w) next at
-        ≡ headAt s w id since need next at ++ elementsAt ls s w from
+        → blockOf ls from big version id since (shapeAt ls s w) (manyGroups s w) next at
+        ≡ headAt s w id since need next at ++ elementsAt ls s w from big
     block-is version id since need next at en =
         let f = manyFields s w in
         let d = manyDatas s w in

@@ -1,5 +1,6 @@
 -- The groups of a body in a row, one at a time: read, and stored.
 use mathlib.Core.Path.{_≡_, refl, sym, ap, _∙_}
+use mathlib.Core.Bool.{Bool}
 use mathlib.Core.List.{List, [], _++_, append-assoc, append-nil}
 use Prim.Native.Nat.{ℕ, zero, suc, _+_, _-_, _≤_, _<_}
 use native.Mathlib.Omega.{arith}
@@ -78,19 +79,19 @@ unfolding groupsSize
 group-size ls s depth w id since =
     omega (arith, block-size ls s w, size-any ls s depth (manyGroups s w) (groupsFrom s w))
 
--- By the book's lists, of which the first stands at `from`, and its version.
-module _ (ls : List NameList) (from version : ℕ) where
+-- By the book's lists, of which the first stands at `from`, its order and its version.
+module _ (ls : List NameList) (from : ℕ) (big : Bool) (version : ℕ) where
   -- A row is its first group, alone, and the groups after it.
   row-split : (i since : ℕ) (s : Shape) (inner rest : Groups) (at : ℕ)
-      → groupsOf ls from version (more i since s inner rest) at
-      ≡ groupsOf ls from version (more i since s inner none) at
-      ++ groupsOf ls from version rest (at + groupsSize (more i since s inner none))
+      → groupsOf ls from big version (more i since s inner rest) at
+      ≡ groupsOf ls from big version (more i since s inner none) at
+      ++ groupsOf ls from big version rest (at + groupsSize (more i since s inner none))
   unfolding groupsOf groupsSize
   row-split i since s inner rest at =
       let q : at + (blockSize s + groupsSize inner + 0) ≡ at + blockSize s + groupsSize inner = omega arith in
-      let b = blockOf ls from version i since s (count inner) (at + blockSize s + groupsSize inner) at in
-      let x = groupsOf ls from version inner (at + blockSize s) in
-      let y = groupsOf ls from version rest (at + blockSize s + groupsSize inner) in
+      let b = blockOf ls from big version i since s (count inner) (at + blockSize s + groupsSize inner) at in
+      let x = groupsOf ls from big version inner (at + blockSize s) in
+      let y = groupsOf ls from big version rest (at + blockSize s + groupsSize inner) in
       rw q (sym (append-assoc b (x ++ []) y ∙ ap (λ (l : List ℕ). b ++ l) (append-assoc x [] y)))
 
   -- Of the groups of the block at word w, which is stored from `at` on, the n at word x are left, to be stored from
@@ -100,8 +101,8 @@ module _ (ls : List NameList) (from version : ℕ) where
     pub end : innerEnd s depth w ≡ groupsEnd s depth n x
     pub size : at + groupSize s depth w ≡ to + groupsSize (groupsAt ls s depth n x)
     pub fits : at + groupSize s depth w ≤ length d₀
-    pub filling : Filling d₀ (at + sizeAt s w) (groupsOf ls from version (innerAt ls s depth w) (at + sizeAt s w)) d to
-        (groupsOf ls from version (groupsAt ls s depth n x) to)
+    pub filling : Filling d₀ (at + sizeAt s w) (groupsOf ls from big version (innerAt ls s depth w) (at + sizeAt s w)) d
+        to (groupsOf ls from big version (groupsAt ls s depth n x) to)
 
   pub storing-starts : (s : List ℕ) (depth w at : ℕ) (d : List ℕ) (n x to : ℕ) → BlockAt s depth w
       → at + groupSize s depth w ≤ length d → n ≡ manyGroups s w → x ≡ groupsFrom s w
@@ -135,19 +136,24 @@ module _ (ls : List NameList) (from version : ℕ) where
 
       pub storing-on : id ≡ word (wordsOf s) x → since ≡ word (wordsOf s) (x + 1) → (r : Ends) (d′ : List ℕ)
           → r .word ≡ innerEnd s (depth - 1) (x + 2) → r .at ≡ to + groupSize s (depth - 1) (x + 2)
-          → d′ ≡ sets d to (groupsOf ls from version first to) → Storing s depth w at d₀ d′ (n - 1) (r .word) (r .at)
+          → d′ ≡ sets d to (groupsOf ls from big version first to)
+          → Storing s depth w at d₀ d′ (n - 1) (r .word) (r .at)
       storing-on ei es r d′ ew ea stored =
-          let whole : groupsOf ls from version (groupsAt ls s depth n x) to
-          ≡ groupsOf ls from version first to
-          ++ groupsOf ls from version (groupsAt ls s depth (n - 1) (r .word)) (r .at) =
+          let whole : groupsOf ls from big version (groupsAt ls s depth n x) to
+          ≡ groupsOf ls from big version first to
+          ++ groupsOf ls from big version (groupsAt ls s depth (n - 1) (r .word)) (r .at) =
           rw (ew, ea, ← group-size ls s (depth - 1) (x + 2) id since, ei, es, o .tree ls) (row-split _ _ _ _ _ to) in
           record {
             row = rw ew (o .rest);
             end = f .end ∙ rw ew (o .end);
             size = f .size ∙ rw ew (omega (arith, rest-size));
             fits = f .fits;
-            filling = filling-on (f .filling) (groupsOf ls from version first to) _ d′ (r .at) whole stored
-                (omega (arith, length-groups ls from version first to, group-size ls s (depth - 1) (x + 2) id since));
+            filling = filling-on (f .filling) (groupsOf ls from big version first to) _ d′ (r .at) whole stored
+                (omega (
+                  arith,
+                  length-groups ls from big version first to,
+                  group-size ls s (depth - 1) (x + 2) id since,
+                ));
           }
 
     pub end-is : n ≤ 0 → x ≡ innerEnd s depth w
@@ -158,32 +164,32 @@ module _ (ls : List NameList) (from version : ℕ) where
     next-is h = omega (arith, f .size, ap groupsSize (no-groups ls s depth n x h))
 
     pub groups-stored : n ≤ 0
-        → d ≡ sets d₀ (at + sizeAt s w) (groupsOf ls from version (innerAt ls s depth w) (at + sizeAt s w))
+        → d ≡ sets d₀ (at + sizeAt s w) (groupsOf ls from big version (innerAt ls s depth w) (at + sizeAt s w))
     unfolding groupsOf
     groups-stored h = filling-ends (f .filling) (rw (no-groups ls s depth n x h) refl)
 
   -- The block at word w, its elements stored first, then its groups, its head at last.
   module _ (s : List ℕ) (depth w : ℕ) (block : BlockAt s depth w) where
     pub group-stored : (id since need next at : ℕ) (d d₁ d₂ d₃ : List ℕ) → need ≡ needOf version (shapeAt ls s w)
-        → next ≡ at + groupSize s depth w → d₁ ≡ sets d (at + 12) (elementsAt ls s w from)
-        → d₂ ≡ sets d₁ (at + sizeAt s w) (groupsOf ls from version (innerAt ls s depth w) (at + sizeAt s w))
+        → next ≡ at + groupSize s depth w → d₁ ≡ sets d (at + 12) (elementsAt ls s w from big)
+        → d₂ ≡ sets d₁ (at + sizeAt s w) (groupsOf ls from big version (innerAt ls s depth w) (at + sizeAt s w))
         → d₃ ≡ sets d₂ at (headAt s w id since need next at)
-        → d₃ ≡ sets d at (groupsOf ls from version (groupAt ls s depth w id since) at)
+        → d₃ ≡ sets d at (groupsOf ls from big version (groupAt ls s depth w id since) at)
     unfolding groupsOf
     group-stored id since need next at d d₁ d₂ d₃ en ex p q r =
         let x = at + sizeAt s w in
         let head = headAt s w id since need next at in
-        let elements = elementsAt ls s w from in
-        let inner = groupsOf ls from version (innerAt ls s depth w) x in
-        let long : at + 12 + length elements ≡ x = omega (arith, elements-long ls s w from) in
+        let elements = elementsAt ls s w from big in
+        let inner = groupsOf ls from big version (innerAt ls s depth w) x in
+        let long : at + 12 + length elements ≡ x = omega (arith, elements-long ls s w from big) in
         let own : at + blockSize (shapeAt ls s w) ≡ x = omega (arith, block-size ls s w) in
         let to : next ≡ at + blockSize (shapeAt ls s w) + groupsSize (innerAt ls s depth w) =
         omega (arith, block-size ls s w, size-any ls s depth (manyGroups s w) (groupsFrom s w)) in
         let counted = count-row ls s depth _ _ (block .row) in
-        let block-of = blockOf ls from version id since (shapeAt ls s w) (manyGroups s w) next at in
-        let moved : groupsOf ls from version (groupAt ls s depth w id since) at ≡ block-of ++ inner =
+        let block-of = blockOf ls from big version id since (shapeAt ls s w) (manyGroups s w) next at in
+        let moved : groupsOf ls from big version (groupAt ls s depth w id since) at ≡ block-of ++ inner =
         rw (counted, append-nil, to, ← own) refl in
-        let whole = moved ∙ ap (λ (l : List ℕ). l ++ inner) (block-is ls s w from version id since need next at en)
+        let whole = moved ∙ ap (λ (l : List ℕ). l ++ inner) (block-is ls s w from big version id since need next at en)
         ∙ append-assoc head elements inner in
         let rest = elements ++ inner in
         rw (whole, sets-append d at head rest, ← sets-past d at head (at + 12) rest (omega arith))

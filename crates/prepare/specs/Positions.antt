@@ -1,19 +1,22 @@
 -- Where the parts of a block stand among the words of a body with the octets s, the trees that they are by the book's
 -- lists ls, and what is made of them in the code's steps.
 use mathlib.Core.Path.{_≡_}
+use mathlib.Core.Bool.{Bool}
 use mathlib.Core.List.{List, [], _∷_, _++_}
 use Prim.Native.Nat.{ℕ, zero, suc, _+_, _-_, _*_, _/_, _≤_, _<_}
 use lib.ListN.{length}
 use Rattle.layout.specs.Octets.{wordsOf}
-use Rattle.layout.specs.Types.{TypeRow}
+use Rattle.layout.specs.Types.{typeAt}
 use Rattle.layout.specs.Book.{Groups, Shape, more, none}
 use Rattle.layout.specs.BookRules.{word, parseDatas, parseFields}
 use Rattle.layout.specs.Lists.{NameList}
 use Rattle.prepared.specs.Numbers.{groupsSize, spread, tableOf}
 
--- What is worked out of a field with this end, of the type k, whose list is at `place`.
-abbrev pub worked : ℕ → TypeRow → ℕ → List ℕ
-worked end k place = end ∷ k .least ∷ spread k ∷ k .null ∷ k .width ∷ place ∷ []
+-- What is worked out of a field of the type t with this order, whose list is at `place`.
+abbrev pub worked : ℕ → ℕ → ℕ → List ℕ
+worked t order place =
+    let k = typeAt t in
+    (2 * t + order) ∷ k .least ∷ spread k ∷ k .null ∷ k .width ∷ place ∷ []
 
 -- n words from word w on.
 unfoldable pub wordsFrom : List ℕ → ℕ → ℕ → List ℕ
@@ -43,7 +46,8 @@ module _ (s : List ℕ) (w : ℕ) where
       id ∷ since ∷ word (wordsOf s) w ∷ manyFields ∷ manyGroups ∷ manyDatas ∷ need ∷ (manyGroups + manyDatas) ∷ next
       ∷ (at + sizeAt) ∷ (at + 12 + 7 * manyFields) ∷ (at + 12 + 7 * manyFields + 2 * manyDatas) ∷ []
 
--- The shape of the block at word w, and its elements' numbers, the first list standing at `from`.
+-- The shape of the block at word w, and its elements' numbers, the first list standing at `from` and `big` being the
+-- order of the book's messages.
 module _ (ls : List NameList) (s : List ℕ) (w : ℕ) where
   abbrev pub shapeAt : Shape
   shapeAt =
@@ -53,9 +57,9 @@ module _ (ls : List NameList) (s : List ℕ) (w : ℕ) where
         datas = parseDatas (wordsOf s) (manyDatas s w) (w + 4 + 7 * manyFields s w);
       }
 
-  abbrev pub elementsAt : ℕ → List ℕ
-  elementsAt from =
-      wordsFrom s (7 * manyFields s w + 2 * manyDatas s w) (w + 4) ++ tableOf ls from (shapeAt .fields)
+  abbrev pub elementsAt : ℕ → Bool → List ℕ
+  elementsAt from big =
+      wordsFrom s (7 * manyFields s w + 2 * manyDatas s w) (w + 4) ++ tableOf ls from big (shapeAt .fields)
 
 -- The word after the n groups in a row at word w, `depth` more levels being left, and the groups.
 unfoldable pub groupsEnd : List ℕ → ℕ → ℕ → ℕ → ℕ

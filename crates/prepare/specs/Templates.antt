@@ -6,7 +6,7 @@ use lib.ListN.{drop, length, set, take}
 use lib.Seq.{sets}
 use Rattle.layout.specs.Octets.{wordsOf}
 use Rattle.layout.specs.Book.{Book, Template}
-use Rattle.layout.specs.BookRules.{word}
+use Rattle.layout.specs.BookRules.{formatOf, headSize, word}
 use Rattle.prepared.specs.Numbers.{listsFrom, listsSize, rowOf, sizesOf, slots, slotsFrom}
 use Rattle.prepare.specs.Names.{GoodLists, groupsIn, listsIn}
 use Rattle.prepare.specs.Positions.{BlockAt, groupSize, innerAt, innerEnd, shapeAt}
@@ -50,14 +50,20 @@ AreTemplates s (suc n) w = IsTemplate s w × AreTemplates s n (w + 3)
 abbrev pub bookAt : List ℕ → Book
 bookAt s =
     let b = wordsOf s in
-    record { schema = word b 0; version = word b 1; lists = listsIn s; templates = templatesAt s (word b 2) 5 }
+    record {
+      schema = word b 0;
+      version = word b 1;
+      format = formatOf b;
+      lists = listsIn s;
+      templates = templatesAt s (word b 2) headSize;
+    }
 
 -- A book of n templates, with its head: few enough numbers for every sum of the code.
 pub record IsPreparable (s : List ℕ) (n : ℕ) : Type 0 where
   pub lists : GoodLists s
   pub count : n ≡ word (wordsOf s) 2
-  pub templates : AreTemplates s n 5
-  pub few : listsFrom n + listsSize (listsIn s) + sizesOf (templatesAt s n 5) ≤ 65535
+  pub templates : AreTemplates s n headSize
+  pub few : listsFrom n + listsSize (listsIn s) + sizesOf (templatesAt s n headSize) ≤ 65535
 
 -- The room d once a template is stored: its slot, its row of the contents at c, and its block from `at` on.
 abbrev pub laid : List ℕ → Template → ℕ → ℕ → List ℕ → List ℕ

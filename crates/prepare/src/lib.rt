@@ -13,19 +13,26 @@ ghost use lib.ListN.{drop, length, replicate, take};
 ghost use lib.Seq.{sets};
 ghost use Rattle.layout.specs.Result.{if_then_else_};
 ghost use Rattle.layout.specs.Octets.{wordsOf};
-ghost use Rattle.layout.specs.Types.{typeAt};
 ghost use Rattle.layout.specs.Book.{need as needOf, needAfter};
-ghost use Rattle.layout.specs.BookRules.{climbing, word};
+ghost use Rattle.layout.specs.BookRules.{climbing, headSize, word};
+ghost use Rattle.number_types.specs.Value.{orderOf};
 ghost use Rattle.book.specs.Rows.{listAt};
-ghost use Rattle.prepared.specs.Numbers.{bitOf, listNumbers, listSize, listsNumbers, listsSize, maskOf, preparedOf};
-ghost use Rattle.prepared.specs.Numbers.{sizesOf};
+ghost use Rattle.prepared.specs.Numbers.{bitOf, contentsFrom, listNumbers, listSize, listsFrom, listsNumbers};
+ghost use Rattle.prepared.specs.Numbers.{listsSize, maskOf, preparedOf, sizesOf};
 ghost use Rattle.prepare.specs.Prepares.{IsBook, Prepares};
-ghost use Rattle.prepare.specs.Names.{GoodLists, IsGoodList, fieldsIn, fromIn, groupsIn, listsIn, placeIn};
+ghost use Rattle.prepare.specs.Names.{GoodLists, IsGoodList, bigIn, fieldsIn, fromIn, groupsIn, listsIn, placeIn};
 ghost use Rattle.prepare.specs.Names.{tableIn, versionOf};
 ghost use Rattle.prepare.specs.Positions.{BlockAt, IsRow, Opened, elementsAt, groupAt, groupSize, groupsFrom};
 ghost use Rattle.prepare.specs.Positions.{headAt, innerEnd, shapeAt, sizeAt, wordsFrom, worked};
 ghost use Rattle.prepare.specs.Templates.{AreTemplates, IsBody, IsPreparable, IsTemplate, bookAt};
 ghost use Rattle.prepare.specs.Templates.{laid, templateAt, templateSize, templatesAt};
+
+// How many words are a book's head; where the slots start among the prepared numbers, and the contents.
+const HEAD: usize = 6;
+
+const SLOTS: usize = 5;
+
+const CONTENTS: usize = 69;
 
 // Where a block with its groups ends: the word after them, and the place after their numbers.
 pub struct Ends {
@@ -67,18 +74,29 @@ fn copy_words(body: &[u8], from: usize, n: usize, room: &mut [u64], start: usize
     }
 }
 
-// What is worked out of a field with this end, of type t, whose list is at `place`.
-fn put_worked(room: &mut [u64], at: usize, end: usize, t: usize, place: usize)
-    requires { ⌜ at + 6 ≤ length (now room) ⌝ }
-    ensures { λ _. ⌜ now (room .exit) ≡ sets (now (room .entry)) at (worked end (typeAt t) place) ⌝ }
+// What is worked out of a field of type t with this order, whose list is at `place`.
+fn put_worked(room: &mut [u64], at: usize, t: usize, order: usize, place: usize)
+    requires { ⌜ (at + 6 ≤ length (now room)) × (t < 65536) × (order ≤ 1) ⌝ }
+    ensures { λ _. ⌜ now (room .exit) ≡ sets (now (room .entry)) at (worked t order place) ⌝ }
 {
     let k = number_types::number_type(t);
-    room[at] = end as u64;
+    room[at] = (2 * t + order) as u64;
     room[at + 1] = k.least;
     room[at + 2] = wrapping_sub_u64(k.greatest, k.least);
     room[at + 3] = k.null;
     room[at + 4] = k.width as u64;
     room[at + 5] = place as u64;
+}
+
+// The order of the book's messages: 1 is big.
+fn order_of(book: &[u8]) -> usize
+    requires { ⌜ GoodLists (now book) ⌝ }
+    ensures { λ r. ⌜ r ≡ orderOf (bigIn (now (book .entry))) ⌝ }
+{
+    if book::word(book, 5) == 1 {
+        return 1;
+    }
+    0
 }
 
 // The place of the list that a field's seventh word leads to, 0 if it leads to none: a list has three numbers more than
@@ -94,9 +112,9 @@ fn place_of(book: &[u8], list: usize) -> usize
         return 0;
     };
     let n = book::word(book, 2);
-    let rows = 5 + 3 * n;
+    let rows = HEAD + 3 * n;
     let first = book::word(book, rows + 1);
-    68 + 2 * n + 3 * i + (book::word(book, rows + 3 * i + 1) - first)
+    CONTENTS + 2 * n + 3 * i + (book::word(book, rows + 3 * i + 1) - first)
 }
 
 // The need after a field with this end: its own, if it is present.
@@ -122,6 +140,7 @@ fn put_table(
         (book .entry)) (now (body .entry)) n from)) ⌝ }
 {
     let version = book::word(book, 1);
+    let order = order_of(book);
     let mut left = n;
     let mut f = from;
     let mut at = start;
@@ -130,7 +149,8 @@ fn put_table(
         let t = book::word(body, f + 1);
         let k = book::word(body, f + 2);
         let end = book::field_end(t, k, book::word(body, f + 3));
-        put_worked(room, at, end, t, place_of(book, book::word(body, f + 6)));
+        let place = place_of(book, book::word(body, f + 6));
+        put_worked(room, at, t, order, place);
         need = need_after(book::word(body, f + 5), version, end, need);
         f = f + 7;
         at = at + 6;
@@ -146,7 +166,7 @@ fn put_elements(book: &[u8], body: &[u8], w: usize, room: &mut [u64], start: usi
     ensures { λ r. ⌜ r ≡ needOf (versionOf (now (book .entry))) (shapeAt (listsIn (now (book .entry))) (now
         (body .entry)) w) ⌝ }
     ensures { λ _. ⌜ now (room .exit) ≡ sets (now (room .entry)) start (elementsAt (listsIn (now
-        (book .entry))) (now (body .entry)) w (fromIn (now (book .entry)))) ⌝ }
+        (book .entry))) (now (body .entry)) w (fromIn (now (book .entry))) (bigIn (now (book .entry)))) ⌝ }
 {
     let f = book::word(body, w + 1);
     let n = 7 * f + 2 * book::word(body, w + 3);
@@ -284,7 +304,7 @@ fn put_lists(book: &[u8], room: &mut [u64], start: usize) -> usize
     ensures { λ _. ⌜ now (room .exit) ≡ sets (now (room .entry)) start (listsNumbers (listsIn (now (book .entry)))) ⌝ }
 {
     let mut left = book::word(book, 4);
-    let mut w = 5 + 3 * book::word(book, 2);
+    let mut w = HEAD + 3 * book::word(book, 2);
     let mut at = start;
     while 0 < left {
         at = put_list(book, w, room, at);
@@ -303,7 +323,7 @@ fn size_lists(book: &[u8]) -> usize
     if k == 0 {
         return 0;
     }
-    3 * k + (book.len() / 2 - book::word(book, 6 + 3 * book::word(book, 2)))
+    3 * k + (book.len() / 2 - book::word(book, HEAD + 3 * book::word(book, 2) + 1))
 }
 
 // ---- templates
@@ -325,11 +345,11 @@ fn size_body(body: &[u8]) -> usize
 
 // How many numbers all n templates are.
 fn size_templates(book: &[u8], n: usize) -> usize
-    requires { ⌜ AreTemplates (now book) n 5 × (sizesOf (templatesAt (now book) n 5) ≤ 65535) ⌝ }
-    ensures { λ r. ⌜ r ≡ sizesOf (templatesAt (now (book .entry)) n 5) ⌝ }
+    requires { ⌜ AreTemplates (now book) n headSize × (sizesOf (templatesAt (now book) n headSize) ≤ 65535) ⌝ }
+    ensures { λ r. ⌜ r ≡ sizesOf (templatesAt (now (book .entry)) n headSize) ⌝ }
 {
     let mut left = n;
-    let mut w = 5;
+    let mut w = HEAD;
     let mut seen = 0;
     while 0 < left {
         let start = 2 * book::word(book, w + 1);
@@ -343,7 +363,7 @@ fn size_templates(book: &[u8], n: usize) -> usize
 
 // The template whose row of the contents is at word w: its row stored at c, its slot, and its block from `at` on.
 fn put_template(book: &[u8], w: usize, room: &mut [u64], c: usize, at: usize) -> usize
-    requires { ⌜ GoodLists (now book) × IsTemplate (now book) w × (68 ≤ c) × (c + 2 ≤ at)
+    requires { ⌜ GoodLists (now book) × IsTemplate (now book) w × (contentsFrom ≤ c) × (c + 2 ≤ at)
         × (at + templateSize (now book) w ≤ length (now room)) ⌝ }
     ensures { λ r. ⌜ r ≡ at + templateSize (now (book .entry)) w ⌝ }
     ensures { λ _. ⌜ now (room .exit) ≡ laid (now (book .entry)) (templateAt (now (book .entry)) w) c at (now
@@ -352,7 +372,7 @@ fn put_template(book: &[u8], w: usize, room: &mut [u64], c: usize, at: usize) ->
     let id = book::word(book, w);
     let start = 2 * book::word(book, w + 1);
     let end = start + 2 * book::word(book, w + 2);
-    room[4 + id % 64] = at as u64;
+    room[SLOTS + id % 64] = at as u64;
     room[c] = id as u64;
     room[c + 1] = at as u64;
     let r = put_group(book, &book[start..end], 0, id, 0, 4, room, at);
@@ -374,19 +394,20 @@ fn put_zeros(room: &mut [u64], start: usize, n: usize)
 
 // All numbers of a book with n templates.
 fn put_book(book: &[u8], n: usize, room: &mut [u64])
-    requires { ⌜ IsPreparable (now book) n × (68 + 2 * n + listsSize (listsIn (now book))
-        + sizesOf (templatesAt (now book) n 5) ≤ length (now room)) ⌝ }
+    requires { ⌜ IsPreparable (now book) n × (listsFrom n + listsSize (listsIn (now book))
+        + sizesOf (templatesAt (now book) n headSize) ≤ length (now room)) ⌝ }
     ensures { λ _. ⌜ now (room .exit) ≡ sets (now (room .entry)) 0 (preparedOf (bookAt (now (book .entry)))) ⌝ }
 {
     room[0] = book::word(book, 0) as u64;
     room[1] = book::word(book, 1) as u64;
     room[2] = n as u64;
     room[3] = book::word(book, 4) as u64;
-    put_zeros(room, 4, 64);
-    let mut at = put_lists(book, room, 68 + 2 * n);
+    room[4] = order_of(book) as u64;
+    put_zeros(room, SLOTS, 64);
+    let mut at = put_lists(book, room, CONTENTS + 2 * n);
     let mut left = n;
-    let mut w = 5;
-    let mut c = 68;
+    let mut w = HEAD;
+    let mut c = CONTENTS;
     while 0 < left {
         at = put_template(book, w, room, c, at);
         c = c + 2;
@@ -402,7 +423,7 @@ pub fn prepare(book: &[u8], room: &mut [u64]) -> Counted
     ensures { λ r. ⌜ Prepares (now (book .entry)) (now (room .entry)) r (now (room .exit)) ⌝ }
 {
     let n = book::word(book, 2);
-    let size = 68 + 2 * n + size_lists(book) + size_templates(book, n);
+    let size = CONTENTS + 2 * n + size_lists(book) + size_templates(book, n);
     if room.len() < size {
         return Counted::Refused(Refusal {
             number: 40,

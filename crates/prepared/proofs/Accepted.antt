@@ -12,7 +12,7 @@ use Rattle.layout.specs.Result.{Each, _and_, done}
 use Rattle.layout.specs.Octets.{wordsOf}
 use Rattle.layout.specs.Lists.{NameList}
 use Rattle.layout.specs.Book.{Book, Groups, Shape, Template, groupSinces, more, none}
-use Rattle.layout.specs.BookRules.{ContentsRow, bookOf, checkContents, contentsEnd, contentsSize, fieldsSince}
+use Rattle.layout.specs.BookRules.{ContentsRow, bookOf, checkContents, contentsEnd, contentsSize, fieldsSince, formatOf}
 use Rattle.layout.specs.BookRules.{groupsGood, groupsSince, headSize, layoutGood, listsOf, nameListOf, parseBodies}
 use Rattle.layout.specs.BookRules.{parseBody, parseContents, parseDatas, parseFields, parseGroups, parseShape, rising}
 use Rattle.layout.specs.BookRules.{shapeGood, shapeSince, sinceGood, word}
@@ -277,7 +277,8 @@ accepted-fits octets b e =
       templates = fit .fits;
       short = omega (
         arith,
-        length-numbers (record { schema = word ws 0; version = version; lists = ls; templates = ts }),
+        length-numbers
+            (record { schema = word ws 0; version = version; format = formatOf ws; lists = ls; templates = ts }),
         fit .size,
         lists-fit ws (last .value) 0 (rows .value) _ (last .first),
         contents-length ws (word ws 4) (headSize + 3 * n),

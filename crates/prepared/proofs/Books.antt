@@ -1,18 +1,22 @@
 -- The prepared numbers of an accepted book hold it, and it is read back.
-use mathlib.Core.Path.{_≡_, refl, subst, sym, _∙_}
+use mathlib.Core.Path.{_≡_, ap, refl, subst, sym, _∙_}
+use mathlib.Core.Bool.{Bool, false, true}
 use mathlib.Core.List.{List, [], _∷_, _++_}
 use Prim.Native.Nat.{ℕ, zero, suc, _+_, _*_, _%_, _≤_, _<_}
 use native.Mathlib.Omega.{arith}
+use lib.Dec.{eqb}
 use lib.ListN.{getD, length, replicate, set}
+use Rattle.layout.specs.Result.{if_then_else_}
 use Rattle.layout.specs.Octets.{null16}
 use Rattle.layout.specs.Lists.{NameList}
 use Rattle.layout.specs.Book.{Book, Template, groupSinces}
 use Rattle.layout.specs.BookRules.{word}
 use Rattle.layout.proofs.Stands.{Stands, all-stands, split-to}
+use Rattle.number_types.specs.Value.{orderOf}
 use Rattle.prepared.specs.Numbers.{bodiesOf, contentsFrom, contentsOf, groupsOf, groupsSize, listsFrom}
 use Rattle.prepared.specs.Numbers.{listsNumbers, listsSize, preparedOf, rowOf, slots, slotsFrom, slotsOf}
 use Rattle.prepared.specs.Names.{listsAt}
-use Rattle.prepared.specs.Positions.{BlockAt, innerAt, shapeAt, versionAt}
+use Rattle.prepared.specs.Positions.{BlockAt, innerAt, isBig, shapeAt, versionAt}
 use Rattle.prepared.specs.Books.{HoldsBook, IsPrepared, IsSlot, bookAt, empty, idOf, leads, templateAt}
 use Rattle.prepared.specs.Books.{templatesAt}
 use Rattle.prepared.specs.Fits.{FitTemplates, Fits, FitsBook}
@@ -92,7 +96,7 @@ rows-on p n w first rest (suc i) h = subst (IsRow p) (sym (shifted w i)) (rest i
 
 module _ (p : List ℕ) (short : length p ≤ 65535) (from : ℕ) (leads : LeadsToNames p from) where
   template-stands : (at to : ℕ) (t : Template) → Fits (listsAt p) (versionAt p) 5 (rowOf t)
-      → Stands p at (groupsOf (listsAt p) from (versionAt p) (rowOf t) at) to → IsRead p at t
+      → Stands p at (groupsOf (listsAt p) from (isBig p) (versionAt p) (rowOf t) at) to → IsRead p at t
   unfolding groupSinces
   template-stands at to t f s =
       let r = row-stands p short from leads 5 at to (rowOf t) f s in
@@ -104,7 +108,7 @@ module _ (p : List ℕ) (short : length p ≤ 65535) (from : ℕ) (leads : Leads
       record { block = o .first; named = id-is; is = rw (id-is, shape-is, groups-are) refl }
 
   templates-stand : (ts : List Template) (low w to at end : ℕ) → FitTemplates (listsAt p) (versionAt p) low ts
-      → Stands p w (contentsOf ts at) to → Stands p at (bodiesOf (listsAt p) from (versionAt p) ts at) end
+      → Stands p w (contentsOf ts at) to → Stands p at (bodiesOf (listsAt p) from (isBig p) (versionAt p) ts at) end
       → ((i : ℕ) → i < length ts → IsRow p (w + 2 * i)) × (templatesAt p (length ts) w ≡ ts)
   unfolding FitTemplates templatesAt contentsOf bodiesOf
   templates-stand [] low w to at end f c b = (λ i h. absurd (omega arith), refl)
@@ -112,9 +116,9 @@ module _ (p : List ℕ) (short : length p ≤ 65535) (from : ℕ) (leads : Leads
       let next = at + groupsSize (rowOf t) in
       let id-is = first-at c in
       let place-is = number-at c 1 (omega arith) in
-      let o = split-to (groupsOf (listsAt p) from (versionAt p) (rowOf t) at)
-      (bodiesOf (listsAt p) from (versionAt p) ts next) next
-      (omega (arith, length-groups (listsAt p) from (versionAt p) (rowOf t) at)) b in
+      let o = split-to (groupsOf (listsAt p) from (isBig p) (versionAt p) (rowOf t) at)
+      (bodiesOf (listsAt p) from (isBig p) (versionAt p) ts next) next
+      (omega (arith, length-groups (listsAt p) from (isBig p) (versionAt p) (rowOf t) at)) b in
       let first = template-stands at next t (f .2) (o .0) in
       let rest = templates-stand ts (suc (t .id)) (w + 2) to next end (f .3)
       (contents-on t ts at c) (o .1) in (
@@ -133,6 +137,11 @@ pub record Held (p : List ℕ) (b : Book) : Type 0 where
   pub holds : HoldsBook p
   pub back : bookAt p ≡ b
 
+order-back : (big : Bool) → eqb (orderOf big) 1 ≡ big
+unfolding if_then_else_
+order-back false = refl
+order-back true = refl
+
 -- p is the numbers of the book b.
 pub book-stands : (p : List ℕ) (b : Book) → p ≡ preparedOf b → FitsBook b → Held p b
 unfolding preparedOf
@@ -142,10 +151,10 @@ book-stands p b e f =
     let from = listsFrom (length ts) in
     let at = from + listsSize ls in
     let ss = slotsOf ts at (replicate slots 0) in
-    let bodies = bodiesOf ls from (b .version) ts at in
+    let bodies = bodiesOf ls from (b .format .big) (b .version) ts at in
     let short : length p ≤ 65535 = rw e (omega (arith, f .short)) in
     let all = subst (λ (xs : List ℕ). Stands p 0 xs (length p)) e (all-stands p) in
-    let h = split-to (b .schema ∷ b .version ∷ length ts ∷ length ls ∷ [])
+    let h = split-to (b .schema ∷ b .version ∷ length ts ∷ length ls ∷ orderOf (b .format .big) ∷ [])
     (ss ++ (contentsOf ts at ++ (listsNumbers ls ++ bodies))) slotsFrom refl all in
     let s = split-to ss (contentsOf ts at ++ (listsNumbers ls ++ bodies)) contentsFrom
     (omega (arith, length-slots ts at (replicate slots 0))) (h .1) in
@@ -155,10 +164,11 @@ book-stands p b e f =
     let schema : word p 0 ≡ b .schema = number-at (h .0) 0 (omega arith) in
     let version : word p 1 ≡ b .version = number-at (h .0) 1 (omega arith) in
     let n : word p 2 ≡ length ts = number-at (h .0) 2 (omega arith) in
+    let order : isBig p ≡ b .format .big = ap (λ x. eqb x 1) (number-at (h .0) 4 (omega arith)) ∙ order-back _ in
     let lists : listsAt p ≡ ls = lists-back p _ ls at n (number-at (h .0) 3 (omega arith)) (l .0) in
     let names = leads-to-names p from at (omega arith) (rw lists (f .lists)) (rw lists (l .0)) in
     let t = templates-stand p short from names ts 0 contentsFrom from at (length p)
-    (rw (version, lists) (f .templates)) (c .0) (rw (version, lists) (l .1)) in
+    (rw (version, lists) (f .templates)) (c .0) (rw (order, version, lists) (l .1)) in
     record {
       holds = record {
         short = short;
@@ -181,7 +191,7 @@ book-stands p b e f =
             (slots-hold (IsSlot p) p ts contentsFrom from at (replicate slots 0) (c .0)
             (λ i k. leads i (rw n k) refl) (λ j. empty (zeros slots j)) j);
       };
-      back = rw (schema, version, n, lists, t .1) refl;
+      back = rw (schema, version, order, n, lists, t .1) refl;
     }
 
 module _ {p : List ℕ} (h : IsPrepared p) where

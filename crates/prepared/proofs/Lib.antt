@@ -5,5 +5,6 @@ pub mod Lists
 pub mod Needs
 pub mod Open
 pub mod Prepared
+pub mod Ranges
 pub mod Rows
 pub mod Names

@@ -12,6 +12,10 @@ use Rattle.prepared.specs.Positions.{IsBlock, IsField, IsRow, Opened, fi
 use Rattle.prepared.specs.Positions.{nextFrom, tableFrom, versionAt}
 use Rattle.layout.proofs.Results.{none-left}
 
+-- Where a block stands, the numbers before the slots do.
+pub head-there : {p : List ℕ} {a : ℕ} → IsBlock p a → 4 < length p
+head-there b = omega (arith, b .fieldsFit)
+
 -- No groups are no tree.
 pub no-groups-at : (p : List ℕ) (depth n a : ℕ) → n ≤ 0 → groupsAt p depth n a ≡ none
 unfolding groupsAt

@@ -1,6 +1,6 @@
 -- Where the numbers of a tree stand, the tree is read back, and everything that was worked out of it is right.
 use mathlib.Core.Path.{_≡_, refl, subst, sym, ap, _∙_}
-use mathlib.Core.Bool.{true}
+use mathlib.Core.Bool.{Bool, true}
 use mathlib.Core.List.{List, [], _∷_, _++_}
 use Prim.Native.Nat.{ℕ, zero, suc, _+_, _-_, _*_, _≤_, _<_}
 use native.Mathlib.Nat.{add-suc, add-zero, le-refl}
@@ -18,10 +18,10 @@ use Rattle.layout.proofs.Present.{present-up}
 use Rattle.layout.proofs.Results.{and-left, and-right}
 use Rattle.layout.proofs.Stands.{Stands, split-to}
 use Rattle.prepared.specs.Numbers.{blockOf, blockSize, contentsOf, count, datasOf, fieldsOf, groupsOf, groupsSize}
-use Rattle.prepared.specs.Numbers.{bodiesOf, listsNumbers, listsSize, placeOf, preparedOf, rowOf, sizesOf}
-use Rattle.prepared.specs.Numbers.{slotsOf, tableOf}
+use Rattle.prepared.specs.Numbers.{bodiesOf, listsFrom, listsNumbers, listsSize, placeOf, preparedOf, rowOf}
+use Rattle.prepared.specs.Numbers.{sizesOf, slotsOf, tableOf}
 use Rattle.prepared.specs.Names.{HasNames, listsAt}
-use Rattle.prepared.specs.Positions.{Derived, IsBlock, IsRow, fieldAt, groupsAt, shapeAt, versionAt}
+use Rattle.prepared.specs.Positions.{Derived, IsBlock, IsRow, fieldAt, groupsAt, isBig, shapeAt, versionAt}
 use Rattle.prepared.specs.Fits.{Fits, FitsShape, IsNamed}
 
 -- ---- numbers that stand
@@ -61,29 +61,29 @@ unfolding datasOf
 length-datas [] = refl
 length-datas (d ∷ ds) = omega (arith, length-datas ds)
 
-module _ (ls : List NameList) (from : ℕ) where
-  pub length-table : (fs : List Field) → length (tableOf ls from fs) ≡ 6 * length fs
+module _ (ls : List NameList) (from : ℕ) (big : Bool) where
+  pub length-table : (fs : List Field) → length (tableOf ls from big fs) ≡ 6 * length fs
   unfolding tableOf
   length-table [] = refl
   length-table (f ∷ fs) = omega (arith, length-table fs)
 
   module _ (version : ℕ) where
     length-block : (i since : ℕ) (s : Shape) (g next at : ℕ)
-        → length (blockOf ls from version i since s g next at) ≡ blockSize s
+        → length (blockOf ls from big version i since s g next at) ≡ blockSize s
     length-block i since s g next at =
         simp (length-append, length-fields, length-datas, length-table) (omega arith)
 
-    pub length-groups : (gs : Groups) (at : ℕ) → length (groupsOf ls from version gs at) ≡ groupsSize gs
+    pub length-groups : (gs : Groups) (at : ℕ) → length (groupsOf ls from big version gs at) ≡ groupsSize gs
     unfolding groupsOf groupsSize
     length-groups none at = refl
     length-groups (more i since s inner rest) at =
         let x = at + blockSize s in
         let y = x + groupsSize inner in
-        let b = blockOf ls from version i since s (count inner) y at in
-        rw (length-append b, length-append (groupsOf ls from version inner x))
+        let b = blockOf ls from big version i since s (count inner) y at in
+        rw (length-append b, length-append (groupsOf ls from big version inner x))
         (omega (arith, length-block i since s (count inner) y at, length-groups inner x, length-groups rest y))
 
-    length-bodies : (ts : List Template) (at : ℕ) → length (bodiesOf ls from version ts at) ≡ sizesOf ts
+    length-bodies : (ts : List Template) (at : ℕ) → length (bodiesOf ls from big version ts at) ≡ sizesOf ts
     unfolding bodiesOf sizesOf
     length-bodies [] at = refl
     length-bodies (t ∷ ts) at = simp (length-append, length-groups (rowOf t) at, length-bodies ts)
@@ -104,7 +104,7 @@ length-contents [] at = refl
 length-contents (t ∷ ts) at = omega (arith, length-contents ts (at + groupsSize (rowOf t)))
 
 pub length-numbers : (b : Book)
-    → length (preparedOf b) ≡ 68 + 2 * length (b .templates) + listsSize (b .lists) + sizesOf (b .templates)
+    → length (preparedOf b) ≡ listsFrom (length (b .templates)) + listsSize (b .lists) + sizesOf (b .templates)
 unfolding preparedOf
 length-numbers b = simp (length-append, length-slots, length-contents, length-lists, length-bodies) (omega arith)
 
@@ -158,7 +158,7 @@ module _ (p : List ℕ) where
   -- The table stands beside the fields.
   module _ (from : ℕ) (leads : LeadsToNames p from) where
     abbrev table : List Field → List ℕ
-    table fs = tableOf (listsAt p) from fs
+    table fs = tableOf (listsAt p) from (isBig p) fs
 
     first-derived : (f : Field) (at x y : ℕ) (xs : List ℕ) → IsNamed (listsAt p) f → namesGood f ≡ true
         → fieldAt p at ≡ f → Stands p x (table (f ∷ []) ++ xs) y → Derived p (x + 6 * 0) (fieldAt p (at + 7 * 0))
@@ -169,7 +169,7 @@ module _ (p : List ℕ) where
         subst (λ (z : ℕ). Derived p z (fieldAt p (at + 7 * 0))) q (subst (λ (z : ℕ). Derived p x (fieldAt p z)) r
         (subst (λ (g : Field). Derived p x g) (sym is)
         (record {
-          end = first-at s;
+          code = first-at s;
           least = number-at s 1 (omega arith);
           spread = number-at s 2 (omega arith);
           null = number-at s 3 (omega arith);
@@ -237,7 +237,8 @@ pub record Read (p : List ℕ) (depth at : ℕ) (gs : Groups) : Type 0 where
 module _ (p : List ℕ) (short : length p ≤ 65535) (from : ℕ) (leads : LeadsToNames p from) where
   module _ (i since : ℕ) (s : Shape) (inner : Groups) (next at : ℕ) (old : since ≤ versionAt p)
       (fits : FitsShape (listsAt p) (versionAt p) s inner)
-      (stands : Stands p at (blockOf (listsAt p) from (versionAt p) i since s (count inner) next at) (at + blockSize s))
+      (stands : Stands p at (blockOf (listsAt p) from (isBig p) (versionAt p) i since s (count inner) next at)
+      (at + blockSize s))
     where
       abbrev fields : ℕ
       fields = length (s .fields)
@@ -251,7 +252,7 @@ module _ (p : List ℕ) (short : length p ≤ 65535) (from : ℕ) (leads : Leads
           ∷ (at + blockSize s) ∷ (at + 12 + 7 * fields) ∷ (at + 12 + 7 * fields + 2 * datas) ∷ []
 
       abbrev tables : List ℕ
-      tables = datasOf (s .datas) ++ tableOf (listsAt p) from (s .fields)
+      tables = datasOf (s .datas) ++ table p from leads (s .fields)
 
       parts : Stands p at head (at + 12) × Stands p (at + 12) (fieldsOf (s .fields) ++ tables) (at + blockSize s)
       parts = split-to head (fieldsOf (s .fields) ++ tables) (at + 12) refl stands
@@ -267,9 +268,9 @@ module _ (p : List ℕ) (short : length p ≤ 65535) (from : ℕ) (leads : Leads
           (parts .1)
 
       datas-are : Stands p (at + 12 + 7 * fields) (datasOf (s .datas)) (at + 12 + 7 * fields + 2 * datas)
-          × Stands p (at + 12 + 7 * fields + 2 * datas) (tableOf (listsAt p) from (s .fields)) (at + blockSize s)
+          × Stands p (at + 12 + 7 * fields + 2 * datas) (table p from leads (s .fields)) (at + blockSize s)
       datas-are =
-          split-to (datasOf (s .datas)) (tableOf (listsAt p) from (s .fields)) (at + 12 + 7 * fields + 2 * datas)
+          split-to (datasOf (s .datas)) (table p from leads (s .fields)) (at + 12 + 7 * fields + 2 * datas)
           (omega (arith, length-datas (s .datas))) (fields-are .1)
 
       shape-is : shapeAt p at ≡ s
@@ -311,19 +312,19 @@ module _ (p : List ℕ) (short : length p ≤ 65535) (from : ℕ) (leads : Leads
           }
 
   pub row-stands : (depth at to : ℕ) (gs : Groups) → Fits (listsAt p) (versionAt p) depth gs
-      → Stands p at (groupsOf (listsAt p) from (versionAt p) gs at) to → Read p depth at gs
+      → Stands p at (groupsOf (listsAt p) from (isBig p) (versionAt p) gs at) to → Read p depth at gs
   unfolding IsRow groupsAt groupsOf groupsSize groupSinces Fits
   row-stands zero at to none f s = record { row = tt; tree = refl }
   row-stands (suc depth) at to none f s = record { row = tt; tree = refl }
   row-stands zero at to (more i since sh inner rest) f s = absurd f
   row-stands (suc depth) at to (more i since sh inner rest) f s =
-      let numbers = groupsOf (listsAt p) from (versionAt p) in
-      let length-of = length-groups (listsAt p) from (versionAt p) in
+      let numbers = groupsOf (listsAt p) from (isBig p) (versionAt p) in
+      let length-of = length-groups (listsAt p) from (isBig p) (versionAt p) in
       let x = at + blockSize sh in
       let y = x + groupsSize inner in
-      let b = blockOf (listsAt p) from (versionAt p) i since sh (count inner) y at in
+      let b = blockOf (listsAt p) from (isBig p) (versionAt p) i since sh (count inner) y at in
       let o = split-to b (numbers inner x ++ numbers rest y) x
-      (omega (arith, length-block (listsAt p) from (versionAt p) i since sh (count inner) y at)) s in
+      (omega (arith, length-block (listsAt p) from (isBig p) (versionAt p) i since sh (count inner) y at)) s in
       let q = split-to (numbers inner x) (numbers rest y) y (omega (arith, length-of inner x)) (o .1) in
       let l = row-stands depth x y inner (f .2) (q .0) in
       let r = row-stands (suc depth) y to rest (f .3) (q .1) in

@@ -1,5 +1,6 @@
--- A worked case: a template with a field, which has a set, and a group of one field.
+-- A worked case, of big-endian messages: a template with a field, which has a set, and a group of one field.
 use mathlib.Core.Path.{_≡_, refl}
+use mathlib.Core.Bool.{true}
 use mathlib.Core.List.{[], _++_, _∷_}
 use Prim.Native.Nat.{ℕ, _+_, _-_, _^_}
 use lib.ListN.{replicate}
@@ -35,6 +36,7 @@ small =
     record {
       schema = 7;
       version = 1;
+      format = record { big = true };
       lists = flags ∷ [];
       templates =
           record {
@@ -45,14 +47,14 @@ small =
           ∷ [];
     }
 
--- Slot 5 leads to template 69. The list stands at 70, the template's block at 76, and the group's at 101.
+-- Slot 5 leads to template 69. The list stands at 71, the template's block at 77, and the group's at 102.
 pub small-prepared : preparedOf small
-    ≡ (7 ∷ 1 ∷ 1 ∷ 1 ∷ []) ++ (replicate 5 0 ++ 76 ∷ replicate 58 0) ++ (69 ∷ 76 ∷ [])
+    ≡ (7 ∷ 1 ∷ 1 ∷ 1 ∷ 1 ∷ []) ++ (replicate 5 0 ++ 77 ∷ replicate 58 0) ++ (69 ∷ 77 ∷ [])
     ++ (3 ∷ 1 ∷ 17 ∷ 2 ∷ 0 ∷ 4 ∷ [])
-    ++ (69 ∷ 0 ∷ 8 ∷ 1 ∷ 1 ∷ 0 ∷ 2 ∷ 1 ∷ 126 ∷ 101 ∷ 95 ∷ 95 ∷ [])
-    ++ (1 ∷ 4 ∷ 1 ∷ 0 ∷ 0 ∷ 0 ∷ 4 ∷ []) ++ (2 ∷ 0 ∷ 65534 ∷ 65535 ∷ 2 ∷ 70 ∷ [])
-    ++ (9 ∷ 1 ∷ 4 ∷ 1 ∷ 0 ∷ 0 ∷ 4 ∷ 0 ∷ 126 ∷ 126 ∷ 120 ∷ 120 ∷ [])
-    ++ (2 ∷ 5 ∷ 1 ∷ 0 ∷ 0 ∷ 1 ∷ 0 ∷ []) ++ (4 ∷ (2 ^ 64 - 2 ^ 31 + 1) ∷ (2 ^ 32 - 2) ∷ (2 ^ 64 - 2 ^ 31) ∷ 4 ∷ 0 ∷ [])
+    ++ (69 ∷ 0 ∷ 8 ∷ 1 ∷ 1 ∷ 0 ∷ 2 ∷ 1 ∷ 127 ∷ 102 ∷ 96 ∷ 96 ∷ [])
+    ++ (1 ∷ 4 ∷ 1 ∷ 0 ∷ 0 ∷ 0 ∷ 4 ∷ []) ++ (9 ∷ 0 ∷ 65534 ∷ 65535 ∷ 2 ∷ 71 ∷ [])
+    ++ (9 ∷ 1 ∷ 4 ∷ 1 ∷ 0 ∷ 0 ∷ 4 ∷ 0 ∷ 127 ∷ 127 ∷ 121 ∷ 121 ∷ [])
+    ++ (2 ∷ 5 ∷ 1 ∷ 0 ∷ 0 ∷ 1 ∷ 0 ∷ []) ++ (11 ∷ (2 ^ 64 - 2 ^ 31 + 1) ∷ (2 ^ 32 - 2) ∷ (2 ^ 64 - 2 ^ 31) ∷ 4 ∷ 0 ∷ [])
 unfolding preparedOf slotsOf contentsOf bodiesOf listsNumbers listsSize maskOf placeOf groupsOf groupsSize fieldsOf
     datasOf tableOf groupSinces needAfter if_then_else_ typeAt _and_
 small-prepared = refl

@@ -1,6 +1,7 @@
 -- The prepared book: the numbers that are made once of an accepted book's tree. Fields and data are seven and two
 -- numbers as in the book; what is worked out of them stands in a block's head, and of each field in a table behind
 -- them.
+use mathlib.Core.Bool.{Bool}
 use mathlib.Core.List.{List, [], _∷_, _++_}
 use Prim.Native.Nat.{ℕ, zero, suc, _+_, _-_, _*_, _%_, _^_}
 use lib.Dec.{eqb, ltb}
@@ -9,6 +10,7 @@ use Rattle.layout.specs.Result.{if_then_else_}
 use Rattle.layout.specs.Types.{TypeRow, typeAt}
 use Rattle.layout.specs.Lists.{NameList}
 use Rattle.layout.specs.Book.{Field, Data, Shape, Groups, none, more, Template, Book, end, groupSinces, need}
+use Rattle.number_types.specs.Value.{coded, orderOf}
 
 unfoldable pub fieldsOf : List Field → List ℕ
 fieldsOf [] = []
@@ -54,15 +56,15 @@ placeOf zero ls at = 0
 placeOf (suc id) [] at = 0
 placeOf (suc id) (l ∷ ls) at = if eqb (l .id) id then at else placeOf (suc id) ls (at + listSize l)
 
--- ---- blocks: ls are the book's lists, of which the first stands at `from`
+-- ---- blocks: ls are the book's lists, of which the first stands at `from`, and `big` is the order of its messages
 
--- What is worked out of a field: its end; of its type the least number, the spread, the null and the width; the place
--- of its list.
-unfoldable pub tableOf : List NameList → ℕ → List Field → List ℕ
-tableOf ls from [] = []
-tableOf ls from (f ∷ fs) =
+-- What is worked out of a field: the code of its type with the order; of its type the least number, the spread, the
+-- null and the width; the place of its list.
+unfoldable pub tableOf : List NameList → ℕ → Bool → List Field → List ℕ
+tableOf ls from big [] = []
+tableOf ls from big (f ∷ fs) =
     let k = typeAt (f .type) in
-    end f ∷ k .least ∷ spread k ∷ k .null ∷ k .width ∷ placeOf (f .list) ls from ∷ tableOf ls from fs
+    coded big (f .type) ∷ k .least ∷ spread k ∷ k .null ∷ k .width ∷ placeOf (f .list) ls from ∷ tableOf ls from big fs
 
 abbrev pub count : Groups → ℕ
 count gs = length (groupSinces gs)
@@ -74,26 +76,26 @@ blockSize s = 12 + 7 * length (s .fields) + 2 * length (s .datas) + 6 * length (
 -- A block at `at` with g groups: id, since, declared length; counts of fields, groups and data; the need at the book's
 -- version; how many groups and data follow its octets; the places after it and its groups, of its groups, of its data
 -- and of its fields' table. Then its fields, its data, and the table.
-abbrev pub blockOf : List NameList → ℕ → ℕ → ℕ → ℕ → Shape → ℕ → ℕ → ℕ → List ℕ
-blockOf ls from version id since s g next at =
+abbrev pub blockOf : List NameList → ℕ → Bool → ℕ → ℕ → ℕ → Shape → ℕ → ℕ → ℕ → List ℕ
+blockOf ls from big version id since s g next at =
     let f = length (s .fields) in
     let d = length (s .datas) in
     (id ∷ since ∷ s .length ∷ f ∷ g ∷ d ∷ need version s ∷ (g + d) ∷ next ∷ (at + blockSize s) ∷ (at + 12 + 7 * f)
     ∷ (at + 12 + 7 * f + 2 * d) ∷ [])
-    ++ (fieldsOf (s .fields) ++ (datasOf (s .datas) ++ tableOf ls from (s .fields)))
+    ++ (fieldsOf (s .fields) ++ (datasOf (s .datas) ++ tableOf ls from big (s .fields)))
 
 unfoldable pub groupsSize : Groups → ℕ
 groupsSize none = 0
 groupsSize (more i since s inner rest) = blockSize s + groupsSize inner + groupsSize rest
 
 -- The groups of a row, the first standing at `at`.
-unfoldable pub groupsOf : List NameList → ℕ → ℕ → Groups → ℕ → List ℕ
-groupsOf ls from version none at = []
-groupsOf ls from version (more i since s inner rest) at =
+unfoldable pub groupsOf : List NameList → ℕ → Bool → ℕ → Groups → ℕ → List ℕ
+groupsOf ls from big version none at = []
+groupsOf ls from big version (more i since s inner rest) at =
     let x = at + blockSize s in
     let y = x + groupsSize inner in
-    blockOf ls from version i since s (count inner) y at
-    ++ (groupsOf ls from version inner x ++ groupsOf ls from version rest y)
+    blockOf ls from big version i since s (count inner) y at
+    ++ (groupsOf ls from big version inner x ++ groupsOf ls from big version rest y)
 
 -- A template is a row of one group, whose since is 0.
 abbrev pub rowOf : Template → Groups
@@ -104,10 +106,10 @@ unfoldable pub contentsOf : List Template → ℕ → List ℕ
 contentsOf [] at = []
 contentsOf (t ∷ ts) at = t .id ∷ at ∷ contentsOf ts (at + groupsSize (rowOf t))
 
-unfoldable pub bodiesOf : List NameList → ℕ → ℕ → List Template → ℕ → List ℕ
-bodiesOf ls from version [] at = []
-bodiesOf ls from version (t ∷ ts) at =
-    groupsOf ls from version (rowOf t) at ++ bodiesOf ls from version ts (at + groupsSize (rowOf t))
+unfoldable pub bodiesOf : List NameList → ℕ → Bool → ℕ → List Template → ℕ → List ℕ
+bodiesOf ls from big version [] at = []
+bodiesOf ls from big version (t ∷ ts) at =
+    groupsOf ls from big version (rowOf t) at ++ bodiesOf ls from big version ts (at + groupsSize (rowOf t))
 
 -- How many numbers the blocks are.
 unfoldable pub sizesOf : List Template → ℕ
@@ -125,21 +127,21 @@ slotsOf (t ∷ ts) at ss = slotsOf ts (at + groupsSize (rowOf t)) (set ss (t .id
 
 -- Where the slots and the contents start, and the lists of a book of n templates.
 abbrev pub slotsFrom : ℕ
-slotsFrom = 4
+slotsFrom = 5
 
 abbrev pub contentsFrom : ℕ
-contentsFrom = 68
+contentsFrom = 69
 
 abbrev pub listsFrom : ℕ → ℕ
 listsFrom n = contentsFrom + 2 * n
 
--- Schema, version, numbers of templates and of lists; the slots; the contents; the lists; the blocks.
+-- Schema, version, numbers of templates and of lists, order; the slots; the contents; the lists; the blocks.
 unfoldable pub preparedOf : Book → List ℕ
 preparedOf b =
     let n = length (b .templates) in
     let from = listsFrom n in
     let at = from + listsSize (b .lists) in
-    (b .schema ∷ b .version ∷ n ∷ length (b .lists) ∷ [])
+    (b .schema ∷ b .version ∷ n ∷ length (b .lists) ∷ orderOf (b .format .big) ∷ [])
     ++ (slotsOf (b .templates) at (replicate slots 0)
     ++ (contentsOf (b .templates) at
-    ++ (listsNumbers (b .lists) ++ bodiesOf (b .lists) from (b .version) (b .templates) at)))
+    ++ (listsNumbers (b .lists) ++ bodiesOf (b .lists) from (b .format .big) (b .version) (b .templates) at)))

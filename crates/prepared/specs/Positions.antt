@@ -1,13 +1,15 @@
 -- Where the parts of a block stand among prepared numbers p, and the trees that they are: read back by position, so
 -- that a contract can name the tree without holding it.
 use mathlib.Core.Path.{_≡_}
-use mathlib.Core.Bool.{true}
+use mathlib.Core.Bool.{Bool, true}
 use mathlib.Core.List.{List}
 use Prim.Native.Nat.{ℕ, zero, suc, _+_, _-_, _*_, _≤_, _<_}
+use lib.Dec.{eqb}
 use lib.ListN.{length}
 use Rattle.layout.specs.Types.{typeAt}
 use Rattle.layout.specs.Book.{Field, Shape, Groups, none, more, dataSinces, end as endOf, need, present}
 use Rattle.layout.specs.BookRules.{word, fieldAt as fieldBy, parseFields, parseDatas, shapeGood}
+use Rattle.number_types.specs.Value.{coded}
 use Rattle.prepared.specs.Names.{HasNames, listsAt}
 use Rattle.prepared.specs.Numbers.{spread as spreadOf}
 
@@ -15,13 +17,17 @@ use Rattle.prepared.specs.Numbers.{spread as spreadOf}
 abbrev pub versionAt : List ℕ → ℕ
 versionAt p = word p 1
 
+-- Whether its messages are big-endian.
+abbrev pub isBig : List ℕ → Bool
+isBig p = eqb (word p 4) 1
+
 -- The field at x, with the names that its list has here.
 abbrev pub fieldAt : List ℕ → ℕ → Field
 fieldAt p x = fieldBy (listsAt p) p x
 
 -- What is worked out of the field f stands at x.
 pub record Derived (p : List ℕ) (x : ℕ) (f : Field) : Type 0 where
-  pub end : word p x ≡ endOf f
+  pub code : word p x ≡ coded (isBig p) (f .type)
   pub least : word p (x + 1) ≡ typeAt (f .type) .least
   pub spread : word p (x + 2) ≡ spreadOf (typeAt (f .type))
   pub null : word p (x + 3) ≡ typeAt (f .type) .null

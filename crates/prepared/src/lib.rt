@@ -1,18 +1,18 @@
 // The prepared book: numbers that are made once of an accepted book, and what they say of a block.
 ghost use mathlib.Core.Path.{_≡_};
-ghost use Prim.Native.Nat.{_+_, _<_};
+ghost use Prim.Native.Nat.{_+_, _<_, _≤_};
 ghost use lib.ListN.{length};
-ghost use Rattle.layout.specs.Book.{need as needOf};
+ghost use Rattle.layout.specs.Book.{end, need as needOf};
 ghost use Rattle.layout.specs.BookRules.{word};
 ghost use Rattle.prepared.specs.Names.{hasLists};
-ghost use Rattle.prepared.specs.Positions.{IsBlock, IsRow, Opened, shapeAt};
+ghost use Rattle.prepared.specs.Positions.{IsBlock, IsField, IsRow, Opened, fieldAt, isBig, shapeAt};
 ghost use Rattle.prepared.specs.Needs.{FieldsUpTo};
 ghost use Rattle.prepared.specs.Books.{HoldsBook, locationOf};
 
 // Where the slots start, and the contents; how many numbers are a block's head.
-const SLOTS: usize = 4;
+const SLOTS: usize = 5;
 
-const CONTENTS: usize = 68;
+const CONTENTS: usize = 69;
 
 const HEAD: usize = 12;
 
@@ -46,6 +46,14 @@ pub fn has_lists(p: &[u64]) -> bool
     0 < number(p, 3)
 }
 
+// Whether the book's messages are big-endian.
+pub fn is_big(p: &[u64]) -> bool
+    requires { ⌜ 4 < length (now p) ⌝ }
+    ensures { λ r. ⌜ r ≡ isBig (now (p .entry)) ⌝ }
+{
+    number(p, 4) == 1
+}
+
 // Does nothing. Its contract is a law: what the first of the n groups at a is good for.
 pub fn open_row(p: &[u64], a: usize, n: usize, depth: usize)
     requires { ⌜ IsRow (now p) depth n a × (0 < n) ⌝ }
@@ -71,6 +79,14 @@ fn older_fields(p: &[u64], a: usize, v: usize) -> usize
     low
 }
 
+// The end of the field at f, whose table is at t.
+fn end_of(p: &[u64], f: usize, t: usize) -> usize
+    requires { ⌜ IsField (now p) f t × (end (fieldAt (now p) f) ≤ 65535) ⌝ }
+    ensures { λ r. ⌜ r ≡ end (fieldAt (now (p .entry)) f) ⌝ }
+{
+    number(p, f + 3) + number(p, t + 4) * number(p, f + 2)
+}
+
 // The need of the block at a, at a version before the book's: the end of its last field that is present.
 fn older_need(p: &[u64], a: usize, v: usize) -> usize
     requires { ⌜ IsBlock (now p) a ⌝ }
@@ -80,7 +96,8 @@ fn older_need(p: &[u64], a: usize, v: usize) -> usize
     if n == 0 {
         return 0;
     }
-    number(p, number(p, a + 11) + 6 * (n - 1))
+    let last = n - 1;
+    end_of(p, a + HEAD + 7 * last, number(p, a + 11) + 6 * last)
 }
 
 // The need of the block at a, at version v.

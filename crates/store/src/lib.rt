@@ -11,7 +11,7 @@ ghost use Rattle.layout.specs.Book.{need};
 ghost use Rattle.layout.specs.Values.{recordOf};
 ghost use Rattle.layout.specs.Message.{readField};
 ghost use Rattle.prepared.specs.Names.{hasLists};
-ghost use Rattle.prepared.specs.Positions.{BlockAt, IsBlock, fieldAt, innerAt, shapeAt};
+ghost use Rattle.prepared.specs.Positions.{BlockAt, IsBlock, fieldAt, innerAt, isBig, shapeAt};
 ghost use Rattle.fields.specs.Readable.{Fits, Readable};
 ghost use Rattle.walk.specs.Walks.{Lent};
 ghost use Rattle.prints.specs.Prints.{Accepted, Printed, Room, Stored, endOf};
@@ -47,11 +47,11 @@ fn store_field(
     n: usize,
 ) -> usize
     requires { ⌜ Readable (now p) f t (now m) v at × (listed ≡ hasLists (now p)) × (n + 3 ≤ length (now room)) ⌝ }
-    ensures { λ r. ⌜ Stored (Printed.got at (recordOf (readField (now (m .entry)) v at (fieldAt (now (p .entry)) f)))) n
-        (now (room .entry)) at r (now (room .exit)) ⌝ }
+    ensures { λ r. ⌜ Stored (Printed.got at (recordOf (readField (isBig (now (p .entry))) (now (m .entry)) v at (fieldAt
+        (now (p .entry)) f)))) n (now (room .entry)) at r (now (room .exit)) ⌝ }
 {
     let next = n + 3;
-    records::put(room, n, fields::read_plain(p, f, m, v, at));
+    records::put(room, n, fields::read_plain(p, f, t, m, v, at));
     if !listed {
         return next;
     }
@@ -82,9 +82,10 @@ fn store_fields(
 ) -> Cursor
     requires { ⌜ IsBlock (now p) a × Each (Fits (now m) v (c .at)) (shapeAt (now p) a .fields) ⌝ }
     requires { ⌜ (length (now m) ≤ 65535) × (c .at + l ≤ length (now m)) ⌝ }
-    requires { ⌜ Room (fieldsPrint (now m) v (shapeAt (now p) a .fields) l (c .at)) (c .n) (length (now room)) ⌝ }
-    ensures { λ r. ⌜ Stored (fieldsPrint (now (m .entry)) v (shapeAt (now (p .entry)) a .fields) l (c .at)) (c .n) (now
-        (room .entry)) (r .at) (r .n) (now (room .exit)) ⌝ }
+    requires { ⌜ Room (fieldsPrint (isBig (now p)) (now m) v (shapeAt (now p) a .fields) l (c .at)) (c .n) (length
+        (now room)) ⌝ }
+    ensures { λ r. ⌜ Stored (fieldsPrint (isBig (now (p .entry))) (now (m .entry)) v (shapeAt (now (p .entry)) a
+        .fields) l (c .at)) (c .n) (now (room .entry)) (r .at) (r .n) (now (room .exit)) ⌝ }
     ensures { λ r. ⌜ r .at ≤ length (now (m .entry)) ⌝ }
 {
     let at = c.at;
@@ -103,11 +104,11 @@ fn store_fields(
 }
 
 // The octet after n surplus groups.
-fn pass_surplus(m: &[u8], n: usize, at: usize) -> usize
-    requires { ⌜ Accepted (surplusPrint (now m) n at) × (at ≤ length (now m)) ⌝ }
-    ensures { λ r. ⌜ (r ≡ endOf (surplusPrint (now (m .entry)) n at)) × (r ≤ length (now (m .entry))) ⌝ }
+fn pass_surplus(big: bool, m: &[u8], n: usize, at: usize) -> usize
+    requires { ⌜ Accepted (surplusPrint big (now m) n at) × (at ≤ length (now m)) ⌝ }
+    ensures { λ r. ⌜ (r ≡ endOf (surplusPrint big (now (m .entry)) n at)) × (r ≤ length (now (m .entry))) ⌝ }
 {
-    let surplus = wire::skip_groups(m, n, at);
+    let surplus = wire::skip_groups(big, m, n, at);
     let Walked::To { next, .. } = surplus else {
         return at;
     };
@@ -117,11 +118,13 @@ fn pass_surplus(m: &[u8], n: usize, at: usize) -> usize
 // The data of the block at a.
 fn store_datas(p: &[u64], a: usize, m: &[u8], v: usize, room: &mut [u64], c: Cursor) -> Cursor
     requires { ⌜ IsBlock (now p) a × Lent (now m) (c .at) ⌝ }
-    requires { ⌜ Room (datasPrint (now m) v (shapeAt (now p) a .datas) (c .at)) (c .n) (length (now room)) ⌝ }
-    ensures { λ r. ⌜ Stored (datasPrint (now (m .entry)) v (shapeAt (now (p .entry)) a .datas) (c .at)) (c .n) (now
-        (room .entry)) (r .at) (r .n) (now (room .exit)) ⌝ }
+    requires { ⌜ Room (datasPrint (isBig (now p)) (now m) v (shapeAt (now p) a .datas) (c .at)) (c .n) (length
+        (now room)) ⌝ }
+    ensures { λ r. ⌜ Stored (datasPrint (isBig (now (p .entry))) (now (m .entry)) v (shapeAt (now (p .entry)) a
+        .datas) (c .at)) (c .n) (now (room .entry)) (r .at) (r .n) (now (room .exit)) ⌝ }
     ensures { λ r. ⌜ r .at ≤ length (now (m .entry)) ⌝ }
 {
+    let big = prepared::is_big(p);
     let mut left = number(p, a + 5);
     let mut d = number(p, a + 10);
     let mut here = c;
@@ -134,7 +137,7 @@ fn store_datas(p: &[u64], a: usize, m: &[u8], v: usize, room: &mut [u64], c: Cur
             continue;
         }
         let start = here.at + 2;
-        let len = wire::data_length(m, here.at);
+        let len = wire::data_length(big, m, here.at);
         here = store_answer(Answer::Octets { start, len }, start + len, room, here.n);
     }
     here
@@ -155,11 +158,12 @@ pub fn store_entries(
     c: Cursor,
 ) -> Cursor
     requires { ⌜ BlockAt (now (now p)) depth a × (need v (shapeAt (now (now p)) a) ≤ l) × (surplus ≤ 65535) ⌝ }
-    requires { ⌜ Room (entriesPrint (now (now m)) v (shapeAt (now (now p)) a) (innerAt (now (now p)) depth a) surplus l
-        k (c .at)) (c .n) (length (now room)) ⌝ }
+    requires { ⌜ Room (entriesPrint (isBig (now (now p))) (now (now m)) v (shapeAt (now (now p)) a) (innerAt (now
+        (now p)) depth a) surplus l k (c .at)) (c .n) (length (now room)) ⌝ }
     requires { ⌜ Lent (now (now m)) (c .at) ⌝ }
-    ensures { λ r. ⌜ Stored (entriesPrint (now (now (m .entry))) v (shapeAt (now (now (p .entry))) a) (innerAt (now
-        (now (p .entry))) depth a) surplus l k (c .at)) (c .n) (now (room .entry)) (r .at) (r .n) (now (room .exit)) ⌝ }
+    ensures { λ r. ⌜ Stored (entriesPrint (isBig (now (now (p .entry)))) (now (now (m .entry))) v (shapeAt (now (now
+        (p .entry))) a) (innerAt (now (now (p .entry))) depth a) surplus l k (c .at)) (c .n) (now (room .entry))
+        (r .at) (r .n) (now (room .exit)) ⌝ }
     ensures { λ r. ⌜ r .at ≤ length (now (now (m .entry))) ⌝ }
 {
     let s = *p;
@@ -191,14 +195,15 @@ fn store_row(
     c: Cursor,
 ) -> Cursor
     requires { ⌜ BlockAt (now (now p)) depth a × Lent (now (now m)) (c .at) ⌝ }
-    requires { ⌜ Room (groupsPrint (now (now m)) v (innerAt (now (now p)) depth a) surplus (c .at)) (c .n) (length
-        (now room)) ⌝ }
-    ensures { λ r. ⌜ Stored (groupsPrint (now (now (m .entry))) v (innerAt (now (now (p .entry))) depth a) surplus
-        (c .at)) (c .n) (now (room .entry)) (r .at) (r .n) (now (room .exit)) ⌝ }
+    requires { ⌜ Room (groupsPrint (isBig (now (now p))) (now (now m)) v (innerAt (now (now p)) depth a) surplus
+        (c .at)) (c .n) (length (now room)) ⌝ }
+    ensures { λ r. ⌜ Stored (groupsPrint (isBig (now (now (p .entry)))) (now (now (m .entry))) v (innerAt (now (now
+        (p .entry))) depth a) surplus (c .at)) (c .n) (now (room .entry)) (r .at) (r .n) (now (room .exit)) ⌝ }
     ensures { λ r. ⌜ r .at ≤ length (now (now (m .entry))) ⌝ }
 {
     let s = *p;
     let t = *m;
+    let big = prepared::is_big(s);
     let mut g = number(s, a + 9);
     let mut left = number(s, a + 4);
     let mut here = c;
@@ -211,7 +216,7 @@ fn store_row(
             here = store_answer(Answer::Absent, here.at, room, here.n);
             continue;
         }
-        let sizes = wire::sizes_at(t, here.at);
+        let sizes = wire::sizes_at(big, t, here.at);
         let count = Answer::Group(sizes.entries as u64);
         let inside = store_answer(count, here.at + 4, room, here.n);
         here = store_entries(
@@ -228,7 +233,7 @@ fn store_row(
         );
     }
     Cursor {
-        at: pass_surplus(t, surplus, here.at),
+        at: pass_surplus(big, t, surplus, here.at),
         n: here.n,
     }
 }

@@ -1,5 +1,6 @@
 -- What the walk over a whole message says of checking and listing it.
 use mathlib.Core.Path.{_≡_, _∙_, ap, refl, sym}
+use mathlib.Core.Bool.{Bool}
 use mathlib.Core.List.{List, [], _∷_}
 use Prim.Native.Nat.{ℕ, _+_, _*_, _/_, _<_, _≤_}
 use native.Mathlib.Nat.{zero-add}
@@ -20,7 +21,7 @@ use Rattle.layout.specs.declared.Refusal.{Refusal}
 use Rattle.layout.proofs.Records.{listing-three}
 use Rattle.layout.proofs.Results.{done-inj, inv-bind}
 use Rattle.prepared.specs.Names.{listsAt}
-use Rattle.prepared.specs.Positions.{manyDatas, datasFrom, manyFields, innerAt, shapeAt}
+use Rattle.prepared.specs.Positions.{manyDatas, datasFrom, manyFields, innerAt, isBig, shapeAt}
 use Rattle.prepared.specs.Books.{bookAt, templateAt}
 use Rattle.prepared.proofs.Accepted.{fields-length}
 use Rattle.messages.proofs.Counts.{length-datas}
@@ -37,14 +38,15 @@ pub no-steps : Path [] 0
 no-steps = record { few = omega arith; inside = omega arith; even = refl }
 
 -- As many data are read as the book has.
-datas-length : (m : List ℕ) (v n : ℕ) (ds : List Data) (at : ℕ) (r : List Answer × ℕ) → readDatas m v ds n at ≡ done r
+datas-length : (big : Bool) (m : List ℕ) (v n : ℕ) (ds : List Data) (at : ℕ) (r : List Answer × ℕ)
+    → readDatas big m v ds n at ≡ done r
     → length (r .0) ≡ length ds
 unfolding readDatas
-datas-length m v n [] at r e = ap (λ (x : List Answer × ℕ). length (x .0)) (sym (done-inj (inv-bind _ _ _ e .next)))
-datas-length m v n (d ∷ ds) at r e =
+datas-length big m v n [] at r e = ap (λ (x : List Answer × ℕ). length (x .0)) (sym (done-inj (inv-bind _ _ _ e .next)))
+datas-length big m v n (d ∷ ds) at r e =
     let rest = inv-bind _ _ _ (inv-bind _ _ _ e .next) in
     let all = ap (λ (x : List Answer × ℕ). length (x .0)) (done-inj (rest .next)) in
-    omega (arith, all, datas-length m v n ds _ (rest .value) (rest .first))
+    omega (arith, all, datas-length big m v n ds _ (rest .value) (rest .first))
 
 -- ---- the root block
 
@@ -59,15 +61,16 @@ module _ {p m path : List ℕ} {a v l g k f n : ℕ} (o : Enters p m path a v l 
       let same = ap (λ (x : List Answer × ℕ). length (x .0)) (done-inj (inv-bind _ _ _ (q .next) .next)) in
       let many = length-map (shapeAt p a .datas) (λ (d : Data). d .since) in
       let all = length-datas p (manyDatas p a) (datasFrom p a) in
-      omega (arith, same, datas-length m _ _ _ _ (q .value) (q .first), many, all)
+      omega (arith, same, datas-length (isBig p) m _ _ _ _ (q .value) (q .first), many, all)
 
   -- As it is read.
   pub record Block : Type 0 where
     pub block : Entry
-    pub is-block : readBlock m v (shapeAt p a) (readGroups m v (innerAt p 4 a) g) (o .over) l headerSize ≡ done block
+    pub is-block : readBlock (isBig p) m v (shapeAt p a) (readGroups (isBig p) m v (innerAt p 4 a) g) (o .over) l headerSize
+        ≡ done block
     pub tree-is : entry (block .0) (block .1) (block .2) nil ≡ treeOf
 
-  block-of : readWhole (templateAt p a) m (g, o .over) ≡ done treeOf → Block
+  block-of : readWhole (isBig p) (templateAt p a) m (g, o .over) ≡ done treeOf → Block
   unfolding readWhole
   block-of e =
       let r = inv-bind _ _ _ e in
@@ -101,7 +104,7 @@ module _ {p m : List ℕ} {a v l g k f n : ℕ} (o : Enters p m [] a v l g k f n
   measured =
       omega (
         arith,
-        length-map (shapeAt p a .fields) (readField m (versionOf m) headerSize),
+        length-map (shapeAt p a .fields) (readField (isBig p) m (versionOf (isBig p) m) headerSize),
         fields-length (listsAt p) p (manyFields p a) (a + 12),
         data-records o,
         o .records,
@@ -109,10 +112,10 @@ module _ {p m : List ℕ} {a v l g k f n : ℕ} (o : Enters p m [] a v l g k f n
 
   -- The root block, with its surplus data.
   block-prints : (end : ℕ)
-      × (entriesPrint m v (shapeAt p a) (innerAt p 4 a) g l 1 headerSize ≡ got end (listing (treeOf o)))
+      × (entriesPrint (isBig p) m v (shapeAt p a) (innerAt p 4 a) g l 1 headerSize ≡ got end (listing (treeOf o)))
   block-prints =
       let r = root-block o in
-      let q = root-prints m v (shapeAt p a) (innerAt p 4 a) g l headerSize (o .over) (r .block) (r .is-block) in
+      let q = root-prints (isBig p) m v (shapeAt p a) (innerAt p 4 a) g l headerSize (o .over) (r .block) (r .is-block) in
       (q .0, q .1 ∙ ap (λ (t : Values). got (q .0) (listing t)) (r .tree-is))
 
   module _ (room : List ℕ) (all : ℕ) (e : all ≡ manyFields p a + k + manyDatas p a) where
@@ -130,12 +133,12 @@ module _ {p m : List ℕ} {a v l g k f n : ℕ} (o : Enters p m [] a v l g k f n
       within : 0 + length (listing (treeOf o)) ≤ length room
       within = omega (arith, listing-three (treeOf o), fits)
 
-      pub list-room : Room (entriesPrint m v (shapeAt p a) (innerAt p 4 a) g l 1 headerSize) 0 (length room)
+      pub list-room : Room (entriesPrint (isBig p) m v (shapeAt p a) (innerAt p 4 a) g l 1 headerSize) 0 (length room)
       unfolding endOf numbersOf
       list-room = rw (block-prints .1) (record { whole = refl; fits = within })
 
       pub list-stored : (after : List ℕ)
-          → after ≡ sets room 0 (numbersOf (entriesPrint m v (shapeAt p a) (innerAt p 4 a) g l 1 headerSize))
+          → after ≡ sets room 0 (numbersOf (entriesPrint (isBig p) m v (shapeAt p a) (innerAt p 4 a) g l 1 headerSize))
           → ListsAs (listIn (bookAt p) m) room (Counted.Count all) after
       unfolding _>>=_ must counted roomAfter numbersOf
       list-stored after q =

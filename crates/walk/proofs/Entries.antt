@@ -1,5 +1,6 @@
 -- Entries in a row: one law for each way that reading them ends or goes on.
 use mathlib.Core.Path.{_≡_, refl, sym, ap, _∙_}
+use mathlib.Core.Bool.{Bool}
 use mathlib.Core.List.{List, []}
 use Prim.Native.Nat.{ℕ, zero, suc, _+_, _-_, _*_, _≤_, _<_}
 use native.Mathlib.Nat.{mul-le-mul-right}
@@ -17,7 +18,7 @@ use Rattle.layout.specs.declared.Refusal.{Refusal}
 use Rattle.layout.proofs.Results.{none-left, one-less, some-left}
 use Rattle.prepared.specs.Names.{listsAt}
 use Rattle.prepared.specs.Positions.{IsBlock, manyDatas, datasFrom, manyFields, fieldsFrom, manyGroups, groupsFrom}
-use Rattle.prepared.specs.Positions.{innerAt, shapeAt}
+use Rattle.prepared.specs.Positions.{innerAt, isBig, shapeAt}
 use Rattle.prepared.proofs.Accepted.{fields-length}
 use Rattle.prepared.proofs.Open.{no-datas-at, no-groups-at}
 use Rattle.wire.specs.Walks.{walked}
@@ -55,43 +56,45 @@ module _ (f : ℕ → Result Entry) (seen n at : ℕ) (h : 0 < n) where
 -- ---- entries of a block
 
 -- Of n entries of l octets, with the block s and the groups gs, the first is at `at`.
-module _ (m : List ℕ) (v : ℕ) (s : Shape) (gs : Groups) (l seen n at : ℕ) (h : 0 < n) where
+module _ (big : Bool) (m : List ℕ) (v : ℕ) (s : Shape) (gs : Groups) (l seen n at : ℕ) (h : 0 < n) where
   abbrev entriesOf : Result (Values × ℕ)
-  entriesOf = readEntries n (readBlock m v s (readGroups m v gs 0) 0 l) at
+  entriesOf = readEntries n (readBlock big m v s (readGroups big m v gs 0) 0 l) at
 
   pub entry-short : length m < at + l → walked (valuesEnd seen) entriesOf ≡ Refused (refusal 16 at)
-  entry-short e = entries-refused _ seen n at h _ (sym (block-short m v s _ 0 l at e))
+  entry-short e = entries-refused _ seen n at h _ (sym (block-short big m v s _ 0 l at e))
 
   module _ (fit : at + l ≤ length m) where
-    pub entry-row : (z : Refusal) → Refused z ≡ walked (valuesEnd 0) (readGroups m v gs 0 (at + l))
+    pub entry-row : (z : Refusal) → Refused z ≡ walked (valuesEnd 0) (readGroups big m v gs 0 (at + l))
         → walked (valuesEnd seen) entriesOf ≡ Refused z
-    entry-row z e = entries-refused _ seen n at h z (sym (block-groups m v s _ 0 l at fit z e))
+    entry-row z e = entries-refused _ seen n at h z (sym (block-groups big m v s _ 0 l at fit z e))
 
-    module _ (x k : ℕ) (g : To x k ≡ walked (valuesEnd 0) (readGroups m v gs 0 (at + l))) where
-      pub entry-datas : (z : Refusal) → Refused z ≡ walked (datasEnd 0) (readDatas m v (s .datas) 0 x)
+    module _ (x k : ℕ) (g : To x k ≡ walked (valuesEnd 0) (readGroups big m v gs 0 (at + l))) where
+      pub entry-datas : (z : Refusal) → Refused z ≡ walked (datasEnd 0) (readDatas big m v (s .datas) 0 x)
           → walked (valuesEnd seen) entriesOf ≡ Refused z
-      entry-datas z e = entries-refused _ seen n at h z (sym (block-datas m v s _ 0 l at fit x k g z e))
+      entry-datas z e = entries-refused _ seen n at h z (sym (block-datas big m v s _ 0 l at fit x k g z e))
 
-      pub entry-next : (y j i : ℕ) → To y j ≡ walked (datasEnd 0) (readDatas m v (s .datas) 0 x)
+      pub entry-next : (y j i : ℕ) → To y j ≡ walked (datasEnd 0) (readDatas big m v (s .datas) 0 x)
           → i ≡ length (s .fields) → walked (valuesEnd seen) entriesOf
-          ≡ walked (valuesEnd (seen + i + k + j)) (readEntries (n - 1) (readBlock m v s (readGroups m v gs 0) 0 l) y)
+          ≡ walked (valuesEnd (seen + i + k + j))
+          (readEntries (n - 1) (readBlock big m v s (readGroups big m v gs 0) 0 l) y)
       entry-next y j i e c =
           let r : seen + i + k + j ≡ seen + (i + k + j) = omega arith in
-          rw r (entries-next _ seen n at h y (i + k + j) (sym (block-whole m v s _ 0 l at fit x k g y j i e c)))
+          rw r (entries-next _ seen n at h y (i + k + j) (sym (block-whole big m v s _ 0 l at fit x k g y j i e c)))
 
 -- ---- plain entries
 
 -- Blocks of l octets with neither groups nor data.
-module _ (m : List ℕ) (v : ℕ) (s : Shape) (l : ℕ) (gs : Groups) (no-groups : gs ≡ none) (no-datas : s .datas ≡ []) where
+module _ (big : Bool) (m : List ℕ) (v : ℕ) (s : Shape) (l : ℕ) (gs : Groups) (no-groups : gs ≡ none)
+    (no-datas : s .datas ≡ []) where
   abbrev entryIs : ℕ → Result Entry
-  entryIs = readBlock m v s (readGroups m v gs 0) 0 l
+  entryIs = readBlock big m v s (readGroups big m v gs 0) 0 l
 
   -- A plain block is its octets, and a record for each field.
   plain-entry : (at : ℕ) → at + l ≤ length m → walked entryEnd (entryIs at) ≡ To (at + l) (length (s .fields))
   unfolding readBlock readGroups readDatas skipGroups skipDatas measure must _>>=_
   plain-entry at h =
       rw (le-leb (at + l) (length m) h, no-groups, no-datas)
-      (reached entryEnd _ refl (omega (arith, length-map (s .fields) (readField m v at))))
+      (reached entryEnd _ refl (omega (arith, length-map (s .fields) (readField big m v at))))
 
   -- Plain entries are their octets, where all of these are there.
   plain-entries : (k seen at : ℕ) → at + l * k ≤ length m
@@ -116,7 +119,7 @@ plain-walked p depth a m v l k start fields follow b f w z h =
     let s = shapeAt p a in
     let zero-plus : length (s .fields) * k ≡ 0 + length (s .fields) * k = omega arith in
     let q : fields ≡ length (s .fields) = f ∙ sym (fields-length (listsAt p) p (manyFields p a) (fieldsFrom p a)) in
-    let walk = plain-entries m v s l (innerAt p depth a)
+    let walk = plain-entries (isBig p) m v s l (innerAt p depth a)
     (no-groups-at p depth (manyGroups p a) (groupsFrom p a) (omega (arith, b .follow, w, z)))
     (no-datas-at p (manyDatas p a) (datasFrom p a) (omega (arith, b .follow, w, z))) k 0 start h in
     (rw (q, zero-plus) (sym walk), (omega arith, h, omega (arith, few)))

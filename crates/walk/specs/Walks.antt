@@ -1,5 +1,6 @@
 -- What walking a part of a message by a prepared book comes to: the definition's answer at places of the book, and how
 -- far and how many it can be.
+use mathlib.Core.Bool.{Bool}
 use mathlib.Core.List.{List}
 use Prim.Native.Nat.{ℕ, _+_, _*_, _≤_}
 use lib.Dec.{leb}
@@ -10,7 +11,7 @@ use Rattle.layout.specs.Values.{Values, measure}
 use Rattle.layout.specs.Message.{Entry, readBlock, readData, readEntries, readGroups}
 use Rattle.layout.specs.declared.Answer.{Answer}
 use Rattle.layout.specs.declared.Answer.the-variants.{Absent}
-use Rattle.prepared.specs.Positions.{innerAt, groupsAt, shapeAt}
+use Rattle.prepared.specs.Positions.{innerAt, isBig, groupsAt, shapeAt}
 use Rattle.wire.specs.declared.Walked.{Walked}
 use Rattle.wire.specs.declared.Walked.the-variants.{To, Refused}
 
@@ -19,18 +20,18 @@ use Rattle.wire.specs.declared.Walked.the-variants.{To, Refused}
 module _ (p : List ℕ) (depth a : ℕ) (m : List ℕ) (v l : ℕ) where
   -- An entry of l octets of the block at a.
   abbrev pub entryAt : ℕ → Result Entry
-  entryAt at = readBlock m v (shapeAt p a) (readGroups m v (innerAt p depth a) 0) 0 l at
+  entryAt at = readBlock (isBig p) m v (shapeAt p a) (readGroups (isBig p) m v (innerAt p depth a) 0) 0 l at
 
   abbrev pub entriesAt : ℕ → ℕ → Result (Values × ℕ)
   entriesAt n at = readEntries n entryAt at
 
 -- The data whose numbers stand at a.
-abbrev pub dataAt : List ℕ → ℕ → List ℕ → ℕ → ℕ → Result (Answer × ℕ)
-dataAt p a m v at = if leb (word p (a + 1)) v then readData m at else done (Absent, at)
+abbrev pub dataAt : List ℕ → ℕ → Bool → List ℕ → ℕ → ℕ → Result (Answer × ℕ)
+dataAt p a big m v at = if leb (word p (a + 1)) v then readData big m at else done (Absent, at)
 
 -- The n groups in a row at a.
 abbrev pub rowAt : List ℕ → ℕ → ℕ → ℕ → List ℕ → ℕ → ℕ → Result (Values × ℕ)
-rowAt p depth n a m v at = readGroups m v (groupsAt p depth n a) 0 at
+rowAt p depth n a m v at = readGroups (isBig p) m v (groupsAt p depth n a) 0 at
 
 -- ---- where each ends and how many records it has, `seen` having been counted before
 

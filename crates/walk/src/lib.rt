@@ -13,9 +13,9 @@ ghost use Rattle.wire.specs.Walks.{Inside, dataEnd, walked};
 ghost use Rattle.walk.specs.Walks.{Bounded, Lent, dataAt, datasEnd, valuesEnd, entriesAt, rowAt};
 
 // The data whose numbers stand at d. Where it is absent it has no octets.
-fn pass_data(p: &[u64], d: usize, m: &[u8], v: usize, at: usize) -> Walked
+fn pass_data(p: &[u64], d: usize, big: bool, m: &[u8], v: usize, at: usize) -> Walked
     requires { ⌜ (d + 2 ≤ length (now p)) × (at ≤ length (now m)) ⌝ }
-    ensures { λ r. ⌜ r ≡ walked dataEnd (dataAt (now (p .entry)) d (now (m .entry)) v at) ⌝ }
+    ensures { λ r. ⌜ r ≡ walked dataEnd (dataAt (now (p .entry)) d big (now (m .entry)) v at) ⌝ }
     ensures { λ r. ⌜ Inside (length (now (m .entry))) at r ⌝ }
 {
     if v < number(p, d + 1) {
@@ -24,13 +24,21 @@ fn pass_data(p: &[u64], d: usize, m: &[u8], v: usize, at: usize) -> Walked
             records: 1,
         };
     }
-    wire::read_data(m, at)
+    wire::read_data(big, m, at)
 }
 
 // The n data at place `from`.
-pub fn walk_datas(p: &[u64], from: usize, n: usize, m: &[u8], v: usize, start: usize) -> Walked
+pub fn walk_datas(
+    p: &[u64],
+    from: usize,
+    n: usize,
+    big: bool,
+    m: &[u8],
+    v: usize,
+    start: usize,
+) -> Walked
     requires { ⌜ (from + 2 * n ≤ length (now p)) × (n ≤ 16) × Lent (now m) start ⌝ }
-    ensures { λ r. ⌜ r ≡ walked (datasEnd 0) (readDatas (now (m .entry)) v (parseDatas (now (p .entry)) n from) 0
+    ensures { λ r. ⌜ r ≡ walked (datasEnd 0) (readDatas big (now (m .entry)) v (parseDatas (now (p .entry)) n from) 0
         start) ⌝ }
     ensures { λ r. ⌜ Bounded (now (m .entry)) start 16 r ⌝ }
 {
@@ -38,7 +46,7 @@ pub fn walk_datas(p: &[u64], from: usize, n: usize, m: &[u8], v: usize, start: u
     let mut d = from;
     let mut at = start;
     while 0 < left {
-        let data = pass_data(p, d, m, v, at);
+        let data = pass_data(p, d, big, m, v, at);
         let Walked::To { next, .. } = data else {
             return data;
         };
@@ -87,6 +95,7 @@ pub fn walk_entries(
             };
         }
     }
+    let big = prepared::is_big(s);
     let mut due = k;
     let mut at = start;
     let mut seen = 0;
@@ -98,7 +107,7 @@ pub fn walk_entries(
         let Walked::To { next, records } = row else {
             return row;
         };
-        let datas = walk_datas(s, number(s, a + 10), number(s, a + 5), t, v, next);
+        let datas = walk_datas(s, number(s, a + 10), number(s, a + 5), big, t, v, next);
         let Walked::To {
             next: end,
             records: more,
@@ -170,7 +179,7 @@ pub fn walk_row(
             a = number(s, a + 8);
             continue;
         }
-        match wire::open_group(t, prepared::need(s, a, v), at) {
+        match wire::open_group(prepared::is_big(s), t, prepared::need(s, a, v), at) {
             Dimension::Refused(refusal) => {
                 return Walked::Refused(refusal);
             }

@@ -1,5 +1,6 @@
 -- A message as it is entered: by the stages' answers, and what an answer says of it.
 use mathlib.Core.Path.{_≡_, _∙_, ap, refl, subst, sym}
+use mathlib.Core.Bool.{Bool}
 use mathlib.Core.List.{List}
 use Prim.Native.Nat.{ℕ, _-_, _≤_}
 use native.Mathlib.Omega.{arith}
@@ -12,7 +13,7 @@ use Rattle.layout.specs.Message.{templateOf, versionOf}
 use Rattle.layout.specs.Values.{Values}
 use Rattle.layout.specs.declared.Answer.{Answer}
 use Rattle.layout.proofs.Results.{and-left, and-right, done-inj, inv-bind, inv-both, inv-must}
-use Rattle.prepared.specs.Positions.{BlockAt, shapeAt}
+use Rattle.prepared.specs.Positions.{BlockAt, isBig, shapeAt}
 use Rattle.prepared.specs.Books.{HoldsBook, bookAt, templateAt}
 use Rattle.prepared.specs.declared.Located.{Located}
 use Rattle.prepared.specs.declared.Located.the-variants as Located
@@ -36,8 +37,8 @@ use Rattle.whole.proofs.Messages.{message-read}
 
 -- What it is good for: v is its version, and l the octets of its root block.
 pub record Lends (p m : List ℕ) (a v l g : ℕ) : Type 0 where
-  pub version : v ≡ versionOf m
-  pub long : l ≡ blockLength m
+  pub version : v ≡ versionOf (isBig p) m
+  pub long : l ≡ blockLength (isBig p) m
   pub block : BlockAt p 4 a
   pub template : templateOf (bookAt p) m ≡ done (templateAt p a)
   pub lent : Lent m headerSize
@@ -50,40 +51,41 @@ unfolding known
 inv-known (Located.At a) b e = cc
 inv-known Located.Unknown b e = absurd (let z : _≡_ {A = ℕ} 0 1 = cc in omega arith)
 
-surplus-enough : (version : ℕ) (t : Template) (m : List ℕ) (x : ℕ × ℕ) → surplusOf version t m ≡ done x
-    → (need (versionOf m) (t .shape) ≤ blockLength m) × (x .0 ≤ groupCount m)
+surplus-enough : (big : Bool) (version : ℕ) (t : Template) (m : List ℕ) (x : ℕ × ℕ) → surplusOf big version t m ≡ done x
+    → (need (versionOf big m) (t .shape) ≤ blockLength big m) × (x .0 ≤ groupCount big m)
 unfolding surplusOf
-surplus-enough version t m x e =
+surplus-enough big version t m x e =
     let first = inv-bind _ _ _ e in
     let last = done-inj (inv-bind _ _ _ (inv-bind _ _ _ (first .next) .next) .next) in
-    let is : groupCount m - present (versionOf m) (groupSinces (t .groups)) ≡ x .0 = ap (λ (y : ℕ × ℕ). y .0) last in
+    let here = present (versionOf big m) (groupSinces (t .groups)) in
+    let is : groupCount big m - here ≡ x .0 = ap (λ (y : ℕ × ℕ). y .0) last in
     (leb-true _ _ (inv-must _ _ _ _ (first .first)), omega (arith, is))
 
-header-lends : (schema : ℕ) (m : List ℕ) → checkHeader schema m ≡ done tt
-    → Lent m headerSize × (blockLength m ≤ 65535) × (groupCount m ≤ 65535)
+header-lends : (big : Bool) (schema : ℕ) (m : List ℕ) → checkHeader big schema m ≡ done tt
+    → Lent m headerSize × (blockLength big m ≤ 65535) × (groupCount big m ≤ 65535)
 unfolding checkHeader headerWhole
-header-lends schema m e =
+header-lends big schema m e =
     let first = inv-bind _ _ _ e in
     let t = inv-must _ _ _ _ (first .first) in
     let whole = inv-bind _ _ _ (inv-bind _ _ _ (first .next) .first) in
     let fifth = inv-bind _ _ _ (inv-bind _ _ _ (inv-bind _ _ _ (inv-bind _ _ _ (whole .next) .next) .next) .next) in
-    let less = ltb-true (blockLength m) null16 (inv-must _ _ _ _ (whole .first)) in
-    let few = ltb-true (groupCount m) null16 (inv-must _ _ _ _ (fifth .first)) in (
+    let less = ltb-true (blockLength big m) null16 (inv-must _ _ _ _ (whole .first)) in
+    let few = ltb-true (groupCount big m) null16 (inv-must _ _ _ _ (fifth .first)) in (
       record { short = leb-true _ _ (and-right _ _ t); inside = leb-true _ _ (and-left _ _ t) },
       omega (arith, less),
       omega (arith, few),
     )
 
 lends : (p m : List ℕ) → HoldsBook p → (o : ℕ × ℕ × ℕ) → openAt p m ≡ done o
-    → Lends p m (o .0) (versionOf m) (blockLength m) (o .1)
+    → Lends p m (o .0) (versionOf (isBig p) m) (blockLength (isBig p) m) (o .1)
 unfolding openAt knownAt orRefuse
 lends p m book o e =
     let header = inv-bind _ _ _ e in
     let place = inv-both _ _ _ _ (header .next) in
     let f = found p book _ _ (inv-known _ _ (place .first)) in
-    let h = header-lends _ m (header .first) in
-    let s = surplus-enough _ _ m _ (place .second) in
-    subst (λ (o : ℕ × ℕ × ℕ). Lends p m (o .0) (versionOf m) (blockLength m) (o .1)) (place .is)
+    let h = header-lends _ _ m (header .first) in
+    let s = surplus-enough _ _ _ m _ (place .second) in
+    subst (λ (o : ℕ × ℕ × ℕ). Lends p m (o .0) (versionOf (isBig p) m) (blockLength (isBig p) m) (o .1)) (place .is)
     (record {
       version = refl;
       long = refl;
@@ -99,10 +101,10 @@ unfoldable pub OpenedAs : List ℕ → List ℕ → Opened → Type 0
 OpenedAs p m (Opened.At a v l g d) = Lends p m a v l g
 OpenedAs p m (Opened.Refused z) = Unit {0}
 
-pub opened-as : (p m : List ℕ) → HoldsBook p → (r : Opened) → r ≡ opened m (openAt p m) → OpenedAs p m r
+pub opened-as : (p m : List ℕ) → HoldsBook p → (r : Opened) → r ≡ opened (isBig p) m (openAt p m) → OpenedAs p m r
 opened-as p m book r e = rw e (go (openAt p m) refl)
   where
-    go : (o : Result (ℕ × ℕ × ℕ)) → openAt p m ≡ o → OpenedAs p m (opened m o)
+    go : (o : Result (ℕ × ℕ × ℕ)) → openAt p m ≡ o → OpenedAs p m (opened (isBig p) m o)
     go (done o) is = unfold opened OpenedAs in lends p m book o is
     go (refused n q) is = unfold opened OpenedAs in tt
 
@@ -174,31 +176,37 @@ module _ (p m path : List ℕ) where
   afterOpened (Opened.At a v l g d) = afterRoot a v l g d (rooted path (spotAt p a m v l path) (rootAt p a m v l))
   afterOpened (Opened.Refused z) = Entered.Refused z
 
+  abbrev version : ℕ
+  version = versionOf (isBig p) m
+
+  abbrev long : ℕ
+  long = blockLength (isBig p) m
+
   abbrev spot : ℕ → Spot
-  spot a = spotAt p a m (versionOf m) (blockLength m) path
+  spot a = spotAt p a m version long path
 
   by-rest : (a g : ℕ) (gs : Values) (s : Result (List Answer × ℕ))
       → entered p m path (s >>= λ s. done (a, g, gs, s .0))
-      ≡ afterRest a (versionOf m) (blockLength m) g (recordsIn path gs) (spot a .0) (spot a .1) (walked restEnd s)
+      ≡ afterRest a version long g (recordsIn path gs) (spot a .0) (spot a .1) (walked restEnd s)
   unfolding entered afterRest walked _>>=_
   by-rest a g gs (done s) = refl
   by-rest a g gs (refused n q) = refl
 
   by-root : (a g d : ℕ) (r : Result (Values × ℕ))
-      → entered p m path (r >>= λ r. restAt p a m (versionOf m) g d (r .1) >>= λ s. done (a, g, r .0, s .0))
-      ≡ afterRoot a (versionOf m) (blockLength m) g d (rooted path (spot a) r)
+      → entered p m path (r >>= λ r. restAt p a m version g d (r .1) >>= λ s. done (a, g, r .0, s .0))
+      ≡ afterRoot a version long g d (rooted path (spot a) r)
   unfolding entered afterRoot rooted _>>=_
   by-root a g d (done r) = by-rest a g (r .0) _
   by-root a g d (refused n q) = refl
 
   by-opened : (o : Result (ℕ × ℕ × ℕ))
-      → entered p m path (o >>= λ o. rootAt p (o .0) m (versionOf m) (blockLength m)
-      >>= λ r. restAt p (o .0) m (versionOf m) (o .1) (o .2) (r .1) >>= λ s. done (o .0, o .1, r .0, s .0))
-      ≡ afterOpened (opened m o)
+      → entered p m path (o >>= λ o. rootAt p (o .0) m version long
+      >>= λ r. restAt p (o .0) m version (o .1) (o .2) (r .1) >>= λ s. done (o .0, o .1, r .0, s .0))
+      ≡ afterOpened (opened (isBig p) m o)
   unfolding entered afterOpened opened _>>=_
   by-opened (done o) = by-root (o .0) (o .1) (o .2) _
   by-opened (refused n q) = refl
 
-  pub entered-by : entered p m path (wholeAt p m) ≡ afterOpened (opened m (openAt p m))
+  pub entered-by : entered p m path (wholeAt p m) ≡ afterOpened (opened (isBig p) m (openAt p m))
   unfolding wholeAt
   entered-by = by-opened (openAt p m)

@@ -7,7 +7,7 @@ use Rattle.layout.specs.BookRules.{word}
 use Rattle.layout.specs.Message.{blockLength, readBlock}
 use Rattle.layout.specs.Message.{readMessage, readRoot, readWhole, surplusOf, templateId, versionOf}
 use Rattle.layout.proofs.Results.{bind-assoc, bind-done}
-use Rattle.prepared.specs.Positions.{innerAt}
+use Rattle.prepared.specs.Positions.{innerAt, isBig}
 use Rattle.prepared.specs.Books.{HoldsBook, bookAt, locationOf, templateAt}
 use Rattle.prepared.specs.declared.Located.{Located}
 use Rattle.prepared.specs.declared.Located.the-variants as Located
@@ -26,21 +26,24 @@ bind-same (done a) k h e = e a
 bind-same (refused n q) k h e = refl
 
 module _ (p m : List ℕ) where
-  pub root-read : (a : ℕ) (x : ℕ × ℕ) → readWhole (templateAt p a) m x
-      ≡ (rootAt p a m (versionOf m) (blockLength m) >>= λ r. restAt p a m (versionOf m) (x .0) (x .1) (r .1)
+  pub root-read : (a : ℕ) (x : ℕ × ℕ) → readWhole (isBig p) (templateAt p a) m x
+      ≡ (rootAt p a m (versionOf (isBig p) m) (blockLength (isBig p) m)
+      >>= λ r. restAt p a m (versionOf (isBig p) m) (x .0) (x .1) (r .1)
       >>= λ s. done (treeAt p m (a, x .0, r .0, s .0)))
   unfolding readWhole readBlock rootAt restAt
-  root-read a (g, d) = rw (surplus-after m g (versionOf m) (innerAt p 4 a) _) (simp (bind-assoc, bind-done) refl)
+  root-read a (g, d) =
+      rw (surplus-after (isBig p) m g (versionOf (isBig p) m) (innerAt p 4 a) _) (simp (bind-assoc, bind-done) refl)
 
   module _ (book : HoldsBook p) where
-    by-place : (r : Located) → locationOf p (templateId m) ≡ r
+    by-place : (r : Located) → locationOf p (templateId (isBig p) m) ≡ r
         → readMessage (bookAt p) m ≡ (wholeAt p m >>= λ w. done (treeAt p m w))
     unfolding readMessage readRoot openAt knownAt wholeAt known orRefuse
     by-place (Located.At a) e =
-        let whole = bind-same (surplusOf (word p 1) (templateAt p a) m) _ _ (root-read a) in
-        rw (found p book (templateId m) a e .template, e) (simp (bind-assoc, bind-done) (bind-same _ _ _ (λ _. whole)))
+        let whole = bind-same (surplusOf (isBig p) (word p 1) (templateAt p a) m) _ _ (root-read a) in
+        rw (found p book (templateId (isBig p) m) a e .template, e)
+        (simp (bind-assoc, bind-done) (bind-same _ _ _ (λ _. whole)))
     by-place Located.Unknown e =
-        rw (not-found p book (templateId m) e, e) (simp (bind-assoc, bind-done, bind-refused) refl)
+        rw (not-found p book (templateId (isBig p) m) e, e) (simp (bind-assoc, bind-done, bind-refused) refl)
 
     pub message-read : readMessage (bookAt p) m ≡ (wholeAt p m >>= λ w. done (treeAt p m w))
-    message-read = by-place (locationOf p (templateId m)) refl
+    message-read = by-place (locationOf p (templateId (isBig p) m)) refl

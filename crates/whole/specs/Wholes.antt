@@ -9,7 +9,7 @@ use Rattle.layout.specs.Message.{blockLength, headerSize, readDatas, readField,
 use Rattle.layout.specs.Reading.{stepsOf}
 use Rattle.layout.specs.Values.{Values, entry, measure, nil}
 use Rattle.layout.specs.declared.Answer.{Answer}
-use Rattle.prepared.specs.Positions.{manyGroups, groupsFrom, innerAt, shapeAt}
+use Rattle.prepared.specs.Positions.{manyGroups, groupsFrom, innerAt, isBig, shapeAt}
 use Rattle.walk.specs.Walks.{rate, rowAt}
 use Rattle.places.specs.Spots.{Spot, spotIn}
 use Rattle.messages.specs.Openings.{openAt}
@@ -33,7 +33,7 @@ recordsIn (g ∷ path) r = 0
 
 -- Where the entry starts that the path leads to.
 abbrev pub spotAt : List ℕ → ℕ → List ℕ → ℕ → ℕ → List ℕ → Spot
-spotAt p a m v l path = spotIn m v (stepsOf path) (innerAt p 4 a) l headerSize
+spotAt p a m v l path = spotIn (isBig p) m v (stepsOf path) (innerAt p 4 a) l headerSize
 
 unfoldable pub rooted : List ℕ → Spot → Result (Values × ℕ) → Root
 rooted path s (done r) = Root.the-variants.To (r .1) (recordsIn path (r .0)) (s .0) (s .1)
@@ -51,8 +51,8 @@ Ends m (Root.the-variants.Refused z) = Unit {0}
 -- What follows the groups of the root block at a: n surplus groups, its data, k surplus data, and the message's end.
 unfoldable pub restAt : List ℕ → ℕ → List ℕ → ℕ → ℕ → ℕ → ℕ → Result (List Answer × ℕ)
 restAt p a m v n k at = do
-  x ← skipGroups m n at
-  (ds, y) ← readDatas m v (shapeAt p a .datas) k x
+  x ← skipGroups (isBig p) m n at
+  (ds, y) ← readDatas (isBig p) m v (shapeAt p a .datas) k x
   _ ← must (eqb y (length m)) 20 y
   done (ds, y)
 
@@ -65,14 +65,14 @@ restEnd (ds, y) = (y, length ds)
 unfoldable pub wholeAt : List ℕ → List ℕ → Result (ℕ × ℕ × Values × List Answer)
 wholeAt p m = do
   (a, g, d) ← openAt p m
-  (gs, x) ← rootAt p a m (versionOf m) (blockLength m)
-  (ds, y) ← restAt p a m (versionOf m) g d x
+  (gs, x) ← rootAt p a m (versionOf (isBig p) m) (blockLength (isBig p) m)
+  (ds, y) ← restAt p a m (versionOf (isBig p) m) g d x
   done (a, g, gs, ds)
 
 unfoldable pub entered : List ℕ → List ℕ → List ℕ → Result (ℕ × ℕ × Values × List Answer) → Entered
 entered p m path (done (a, g, gs, ds)) =
-    let s = spotAt p a m (versionOf m) (blockLength m) path in
-    Entered.the-variants.At a (versionOf m) (blockLength m) g (recordsIn path gs) (s .0) (s .1)
+    let s = spotAt p a m (versionOf (isBig p) m) (blockLength (isBig p) m) path in
+    Entered.the-variants.At a (versionOf (isBig p) m) (blockLength (isBig p) m) g (recordsIn path gs) (s .0) (s .1)
 entered p m path (refused n q) = Entered.the-variants.Refused (refusal n q)
 
 -- The records of its groups are not too many.
@@ -83,4 +83,4 @@ Few (Entered.the-variants.Refused z) = Unit {0}
 -- The message's tree.
 abbrev pub treeAt : List ℕ → List ℕ → ℕ × ℕ × Values × List Answer → Values
 treeAt p m (a, g, gs, ds) =
-    entry (map (readField m (versionOf m) headerSize) (shapeAt p a .fields)) gs ds nil
+    entry (map (readField (isBig p) m (versionOf (isBig p) m) headerSize) (shapeAt p a .fields)) gs ds nil

@@ -9,7 +9,7 @@ ghost use mathlib.Core.Path.{_≡_};
 ghost use Prim.Native.Nat.{_≤_};
 ghost use Rattle.layout.specs.Contracts.{refusal};
 ghost use Rattle.layout.specs.Message.{readDatas};
-ghost use Rattle.prepared.specs.Positions.{BlockAt, IsBlock, shapeAt};
+ghost use Rattle.prepared.specs.Positions.{BlockAt, IsBlock, isBig, shapeAt};
 ghost use Rattle.prepared.specs.Books.{HoldsBook};
 ghost use Rattle.wire.specs.Walks.{walked};
 ghost use Rattle.walk.specs.Walks.{Lent, datasEnd};
@@ -19,13 +19,15 @@ ghost use Rattle.whole.specs.Wholes.{Ends, Few, entered, restAt, restEnd
 // The data of the root block at a, and k surplus data.
 fn walk_all_datas(p: &[u64], a: usize, m: &[u8], v: usize, k: usize, at: usize) -> Walked
     requires { ⌜ IsBlock (now p) a × Lent (now m) at ⌝ }
-    ensures { λ r. ⌜ r ≡ walked (datasEnd 0) (readDatas (now (m .entry)) v (shapeAt (now (p .entry)) a .datas) k at) ⌝ }
+    ensures { λ r. ⌜ r ≡ walked (datasEnd 0) (readDatas (isBig (now (p .entry))) (now (m .entry)) v
+        (shapeAt (now (p .entry)) a .datas) k at) ⌝ }
 {
-    let own = walk::walk_datas(p, number(p, a + 10), number(p, a + 5), m, v, at);
+    let big = prepared::is_big(p);
+    let own = walk::walk_datas(p, number(p, a + 10), number(p, a + 5), big, m, v, at);
     let Walked::To { next, records } = own else {
         return own;
     };
-    let surplus = wire::skip_datas(m, k, next);
+    let surplus = wire::skip_datas(big, m, k, next);
     let Walked::To { next: end, .. } = surplus else {
         return surplus;
     };
@@ -45,7 +47,7 @@ fn walk_rest(
     requires { ⌜ IsBlock (now p) a × Lent (now m) at ⌝ }
     ensures { λ r. ⌜ r ≡ walked restEnd (restAt (now (p .entry)) a (now (m .entry)) v groups datas at) ⌝ }
 {
-    let surplus = wire::skip_groups(m, groups, at);
+    let surplus = wire::skip_groups(prepared::is_big(p), m, groups, at);
     let Walked::To { next, .. } = surplus else {
         return surplus;
     };

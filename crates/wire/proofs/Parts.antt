@@ -1,32 +1,36 @@
 -- The surplus and the header as the code's tests find them.
-use mathlib.Core.Path.{_≡_, _∙_, refl, sym}
+use mathlib.Core.Path.{_≡_, _∙_, ap, refl, sym}
 use mathlib.Core.Bool.{Bool}
-use mathlib.Core.List.{List}
+use mathlib.Core.List.{List, [], _∷_}
 use Prim.Native.Nat.{_*_, _+_, _-_, _<_, _≤_, suc, zero, ℕ}
+use native.Mathlib.Nat.{zero-add}
 use native.Mathlib.Omega.{arith}
 use lib.Dec.{eqb, leb, ltb}
-use lib.ListN.{length}
-use borrow.Author.Tests.{le-leb}
-use Rattle.layout.specs.Result.{Result, _>>=_, _and_, done, must, refused}
-use Rattle.layout.specs.Octets.{null16, number16}
-use Rattle.layout.specs.Message.{checkHeader, headerNumbers, headerSize, headerWhole, readData, readDimension, schemaId}
-use Rattle.layout.specs.Message.{skipDatas, skipGroups}
+use lib.ListN.{getD, length, take}
+use borrow.Author.Tests.{le-leb, le-ltb, lt-ltb}
+use Rattle.layout.specs.Result.{Each, Result, _>>=_, _and_, done, must, refused}
+use Rattle.layout.specs.Contracts.{refusal}
+use Rattle.layout.specs.Octets.{null16}
+use Rattle.layout.specs.Message.{checkHeader, headerSize, headerWhole, readData, readDimension, skipDatas, skipGroups}
 use Rattle.layout.specs.declared.Refusal.{Refusal}
 use Rattle.layout.proofs.Results.{bind-assoc, none-left}
-use Rattle.wire.specs.Walks.{Inside, dataEnd, skipEnd, walked}
+use Rattle.layout.proofs.Stands.{AllWhole, AreAt}
+use Rattle.wire.specs.Headers.{ChecksHeader}
+use Rattle.wire.specs.Walks.{Inside, dataEnd, headerEnd, skipEnd, walked}
+use Rattle.wire.specs.declared.Header.{Header}
 use Rattle.wire.specs.declared.Walked.{Walked}
 use Rattle.wire.specs.declared.Walked.the-variants.{To, Refused}
 use Rattle.wire.proofs.Answers.{inv-to, lies-on, refused-on, refuses}
 
 -- ---- the surplus
 
-module _ (m : List ℕ) (at : ℕ) where
-  pub group-refused : (n p : ℕ) → readDimension m 0 at ≡ refused n p → skipGroups m 1 at ≡ refused n p
+module _ (big : Bool) (m : List ℕ) (at : ℕ) where
+  pub group-refused : (n p : ℕ) → readDimension big m 0 at ≡ refused n p → skipGroups big m 1 at ≡ refused n p
   unfolding skipGroups _>>=_
   group-refused n p e = rw e refl
 
-  pub group-told : (l k : ℕ) → readDimension m 0 at ≡ done (l, k) → (t : Bool) → leb (at + 4 + l * k) (length m) ≡ t
-      → skipGroups m 1 at ≡ (must t 16 at >>= λ _. done (at + 4 + l * k))
+  pub group-told : (l k : ℕ) → readDimension big m 0 at ≡ done (l, k) → (t : Bool) → leb (at + 4 + l * k) (length m) ≡ t
+      → skipGroups big m 1 at ≡ (must t 16 at >>= λ _. done (at + 4 + l * k))
   unfolding skipGroups _>>=_
   group-told l k e t h = rw (e, h) refl
 
@@ -35,13 +39,13 @@ pub record Skips {A : Type 0} (one : ℕ → Result A) (f : A → ℕ × ℕ) (a
   pub ends : (at : ℕ) → all 0 at ≡ done at
   pub step : (n at : ℕ) → all (suc n) at ≡ (one at >>= λ a. all n (f a .0))
 
-pub datas-skip : (m : List ℕ) → Skips (readData m) dataEnd (skipDatas m)
+pub datas-skip : (big : Bool) (m : List ℕ) → Skips (readData big m) dataEnd (skipDatas big m)
 unfolding skipDatas
-datas-skip m = record { ends = λ at. refl; step = λ n at. refl }
+datas-skip big m = record { ends = λ at. refl; step = λ n at. refl }
 
-pub groups-skip : (m : List ℕ) → Skips (skipGroups m 1) skipEnd (skipGroups m)
+pub groups-skip : (big : Bool) (m : List ℕ) → Skips (skipGroups big m 1) skipEnd (skipGroups big m)
 unfolding skipGroups _>>=_
-groups-skip m = record { ends = λ at. refl; step = λ n at. sym (simp bind-assoc refl) }
+groups-skip big m = record { ends = λ at. refl; step = λ n at. sym (simp bind-assoc refl) }
 
 -- Of n things from `at` on those that are left start at x.
 pub record Skipping (m : List ℕ) (all : ℕ → ℕ → Result ℕ) (n at left x : ℕ) : Type 0 where
@@ -80,22 +84,67 @@ module _ {A : Type 0} {one : ℕ → Result A} {f : A → ℕ × ℕ} {all : ℕ
 
 -- ---- the header
 
-pub header-end : (m : List ℕ) (n at : ℕ) → n ≤ 0 → headerWhole m n at ≡ done tt
-unfolding headerWhole
-header-end m n at h = rw (none-left h) refl
+-- The tests of 11, one for each of the numbers xs, which stand from `at` on.
+unfoldable pub wholeBy : List ℕ → ℕ → Result (Unit {0})
+wholeBy [] at = done tt
+wholeBy (x ∷ xs) at = must (ltb x null16) 11 at >>= λ _. wholeBy xs (at + 2)
 
--- x is the number that stands there.
-pub header-step : (m : List ℕ) (n at x : ℕ) → x ≡ number16 m at → 0 < n → (t : Bool) → ltb x null16 ≡ t
-    → headerWhole m n at ≡ (must t 11 at >>= λ _. headerWhole m (n - 1) (at + 2))
-unfolding headerWhole
-header-step m zero at x e h t u = absurd (omega arith)
-header-step m (suc n) at x e h t u = let q : suc n - 1 ≡ n = omega arith in rw (q, ← e, u) refl
+whole-by : (big : Bool) (m : List ℕ) (xs : List ℕ) (at : ℕ) → AreAt big m at xs
+    → headerWhole big m (length xs) at ≡ wholeBy xs at
+unfolding headerWhole wholeBy AreAt
+whole-by big m [] at a = refl
+whole-by big m (x ∷ xs) at a = rw (a .0, whole-by big m xs (at + 2) (a .1)) refl
 
--- Of a message of no length for 10: its header's numbers, and then its schema id, s.
-pub header-told : (schema : ℕ) (m : List ℕ) → (headerSize ≤ length m) × (length m ≤ 65535)
-    → (w : Result (Unit {0})) → headerWhole m headerNumbers 0 ≡ w
-    → (s : ℕ) → s ≡ schemaId m → (t : Bool) → eqb s schema ≡ t
-    → checkHeader schema m ≡ (w >>= λ _. must t 12 4)
+-- Those of a header.
+abbrev pub numbersIn : Header → List ℕ
+numbersIn h = h .length ∷ h .template ∷ h .schema ∷ h .version ∷ h .groups ∷ h .datas ∷ []
+
+whole-refused : (xs : List ℕ) (k at : ℕ) → AllWhole (take k xs) → null16 ≤ getD xs k 0
+    → wholeBy xs at ≡ refused 11 (at + 2 * k)
+unfolding wholeBy Each must _>>=_
+whole-refused [] k at h n = absurd (omega arith)
+whole-refused (x ∷ xs) zero at h n = rw (le-ltb x null16 n) (ap (refused 11) (omega arith))
+whole-refused (x ∷ xs) (suc k) at h n =
+    rw (lt-ltb x null16 (h .0)) (whole-refused xs k (at + 2) (h .1) n ∙ ap (refused 11) (omega arith))
+
+whole-done : (xs : List ℕ) (at : ℕ) → AllWhole xs → wholeBy xs at ≡ done tt
+unfolding wholeBy Each must _>>=_
+whole-done [] at h = refl
+whole-done (x ∷ xs) at h = rw (lt-ltb x null16 (h .0)) (whole-done xs (at + 2) (h .1))
+
+pub header-told : (h : Header) (schema : ℕ) (r : Walked)
+    → r ≡ walked headerEnd (wholeBy (numbersIn h) 0 >>= λ _. must (eqb (h .schema) schema) 12 4)
+    → ChecksHeader h schema r
 unfolding checkHeader must _>>=_ _and_
-header-told schema m lent w e s q t h =
-    rw (le-leb headerSize (length m) (lent .0), le-leb (length m) 65535 (lent .1), e, ← q, h) refl
+header-told h schema r e big m lent is = e ∙ sym (rw (
+  le-leb headerSize (length m) (lent .0),
+  le-leb (length m) 65535 (lent .1),
+  whole-by big m (numbersIn h) 0 are,
+  ← (is .schema .value),
+) refl)
+  where
+    are : AreAt big m 0 (numbersIn h)
+    are = unfold AreAt in (
+      sym (is .length .value),
+      (
+        sym (is .template .value),
+        (
+          sym (is .schema .value),
+          (sym (is .version .value), (sym (is .groups .value), (sym (is .datas .value), tt))),
+        ),
+      ),
+    )
+
+-- 11 at number k, the first that is 65535.
+pub header-refused : (h : Header) (schema : ℕ) (r : Walked) (k : ℕ) → AllWhole (take k (numbersIn h))
+    → null16 ≤ getD (numbersIn h) k 0 → r ≡ Refused (refusal 11 (2 * k)) → ChecksHeader h schema r
+header-refused h schema r k whole none e =
+    let there = whole-refused (numbersIn h) k 0 whole none in
+    header-told h schema r (e ∙ sym (unfold walked _>>=_ in rw (there, zero-add) refl))
+
+-- 12, if the schema id differs.
+pub header-whole : (h : Header) (schema : ℕ) (r : Walked) → AllWhole (numbersIn h) → (t : Bool)
+    → eqb (h .schema) schema ≡ t
+    → r ≡ walked headerEnd (must t 12 4) → ChecksHeader h schema r
+header-whole h schema r whole t is e =
+    header-told h schema r (e ∙ sym (unfold _>>=_ in rw (whole-done (numbersIn h) 0 whole, is) refl))

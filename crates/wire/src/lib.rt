@@ -1,14 +1,15 @@
-// What stands in a message whatever the book: the header, dimensions, data, and the surplus of a newer version.
+// What stands in a message whatever the book's templates: the header, dimensions, data, and the surplus of a newer
+// version. `big` is the order of the message's numbers.
 use layout::Refusal;
 ghost use mathlib.Core.Path.{_≡_};
 ghost use Prim.Native.Nat.{_+_, _≤_};
 ghost use lib.ListN.{length};
 ghost use Rattle.layout.specs.Contracts.{refusal};
-ghost use Rattle.layout.specs.Message.{readData, skipDatas, readDimension, skipGroups, checkHeader};
-ghost use Rattle.octets.specs.Spelt.{Spelt};
-ghost use Rattle.wire.specs.Walks.{walked, dataEnd, skipEnd, headerEnd, Inside};
+ghost use Rattle.layout.specs.Message.{readData, skipDatas, readDimension, skipGroups};
+ghost use Rattle.ordered.specs.Order.{SpeltBy};
+ghost use Rattle.wire.specs.Walks.{walked, dataEnd, skipEnd, Inside};
 ghost use Rattle.wire.specs.Dimensions.{dimensioned};
-ghost use Rattle.wire.specs.Headers.{IsHeader};
+ghost use Rattle.wire.specs.Headers.{ChecksHeader, IsHeader};
 
 // What walking a part of a message comes to: the octet after it and its number of records, or the refusal.
 pub enum Walked {
@@ -23,24 +24,24 @@ pub fn refuse(number: u8, place: usize) -> Walked
 }
 
 // The length of the data that stands at `at`.
-pub fn data_length(m: &[u8], at: usize) -> usize
+pub fn data_length(big: bool, m: &[u8], at: usize) -> usize
     requires { ⌜ at + 2 ≤ length (now m) ⌝ }
-    ensures { λ r. ⌜ Spelt 2 (now (m .entry)) at r ⌝ }
+    ensures { λ r. ⌜ SpeltBy big 2 (now (m .entry)) at r ⌝ }
 {
-    octets::get2(m, at) as usize
+    ordered::get2(big, m, at) as usize
 }
 
 // The data at `at`: its length and that many octets.
-pub fn read_data(m: &[u8], at: usize) -> Walked
+fn data_in(big: bool, m: &[u8], at: usize) -> Walked
     requires { ⌜ at ≤ length (now m) ⌝ }
-    ensures { λ r. ⌜ r ≡ walked dataEnd (readData (now (m .entry)) at) ⌝ }
+    ensures { λ r. ⌜ r ≡ walked dataEnd (readData big (now (m .entry)) at) ⌝ }
     ensures { λ r. ⌜ Inside (length (now (m .entry))) at r ⌝ }
 {
     let left = m.len() - at;
     if left < 2 {
         return refuse(16, at);
     }
-    let n = data_length(m, at);
+    let n = data_length(big, m, at);
     if 65535 <= n {
         return refuse(19, at);
     }
@@ -53,16 +54,29 @@ pub fn read_data(m: &[u8], at: usize) -> Walked
     }
 }
 
-// n surplus data.
-pub fn skip_datas(m: &[u8], n: usize, at: usize) -> Walked
+// The same. Here and below the compiler makes a path of its own for each order, so that a number is read as it stands
+// or turned, and not both.
+pub fn read_data(big: bool, m: &[u8], at: usize) -> Walked
     requires { ⌜ at ≤ length (now m) ⌝ }
-    ensures { λ r. ⌜ r ≡ walked skipEnd (skipDatas (now (m .entry)) n at) ⌝ }
+    ensures { λ r. ⌜ r ≡ walked dataEnd (readData big (now (m .entry)) at) ⌝ }
+    ensures { λ r. ⌜ Inside (length (now (m .entry))) at r ⌝ }
+{
+    if big {
+        return data_in(true, m, at);
+    }
+    data_in(false, m, at)
+}
+
+// n surplus data.
+pub fn skip_datas(big: bool, m: &[u8], n: usize, at: usize) -> Walked
+    requires { ⌜ at ≤ length (now m) ⌝ }
+    ensures { λ r. ⌜ r ≡ walked skipEnd (skipDatas big (now (m .entry)) n at) ⌝ }
     ensures { λ r. ⌜ Inside (length (now (m .entry))) at r ⌝ }
 {
     let mut x = at;
     let mut left = n;
     while 0 < left {
-        let data = read_data(m, x);
+        let data = read_data(big, m, x);
         let Walked::To { next, .. } = data else {
             return data;
         };
@@ -82,13 +96,14 @@ pub struct Sizes {
 }
 
 // The dimension that stands at `at`, whatever it says.
-pub fn sizes_at(m: &[u8], at: usize) -> Sizes
+pub fn sizes_at(big: bool, m: &[u8], at: usize) -> Sizes
     requires { ⌜ at + 4 ≤ length (now m) ⌝ }
-    ensures { λ r. ⌜ Spelt 2 (now (m .entry)) at (r .length) × Spelt 2 (now (m .entry)) (at + 2) (r .entries) ⌝ }
+    ensures { λ r. ⌜ SpeltBy big 2 (now (m .entry)) at (r .length)
+        × SpeltBy big 2 (now (m .entry)) (at + 2) (r .entries) ⌝ }
 {
     Sizes {
-        length: octets::get2(m, at) as usize,
-        entries: octets::get2(m, at + 2) as usize,
+        length: ordered::get2(big, m, at) as usize,
+        entries: ordered::get2(big, m, at + 2) as usize,
     }
 }
 
@@ -105,14 +120,14 @@ fn no_dimension(number: u8, place: usize) -> Dimension
 }
 
 // The dimension at `at`: a block length of at least `least`, and an entry count.
-pub fn open_group(m: &[u8], least: usize, at: usize) -> Dimension
+fn dimension_in(big: bool, m: &[u8], least: usize, at: usize) -> Dimension
     requires { ⌜ at ≤ length (now m) ⌝ }
-    ensures { λ r. ⌜ r ≡ dimensioned (readDimension (now (m .entry)) least at) ⌝ }
+    ensures { λ r. ⌜ r ≡ dimensioned (readDimension big (now (m .entry)) least at) ⌝ }
 {
     if m.len() - at < 4 {
         return no_dimension(16, at);
     }
-    let sizes = sizes_at(m, at);
+    let sizes = sizes_at(big, m, at);
     if 65535 <= sizes.length {
         return no_dimension(17, at);
     }
@@ -128,13 +143,24 @@ pub fn open_group(m: &[u8], least: usize, at: usize) -> Dimension
     }
 }
 
-// One surplus group, passed as a dimension and block length times entries.
-fn skip_group(m: &[u8], at: usize) -> Walked
+// The same, by a path for each order.
+pub fn open_group(big: bool, m: &[u8], least: usize, at: usize) -> Dimension
     requires { ⌜ at ≤ length (now m) ⌝ }
-    ensures { λ r. ⌜ r ≡ walked skipEnd (skipGroups (now (m .entry)) 1 at) ⌝ }
+    ensures { λ r. ⌜ r ≡ dimensioned (readDimension big (now (m .entry)) least at) ⌝ }
+{
+    if big {
+        return dimension_in(true, m, least, at);
+    }
+    dimension_in(false, m, least, at)
+}
+
+// One surplus group, passed as a dimension and block length times entries.
+fn skip_group(big: bool, m: &[u8], at: usize) -> Walked
+    requires { ⌜ at ≤ length (now m) ⌝ }
+    ensures { λ r. ⌜ r ≡ walked skipEnd (skipGroups big (now (m .entry)) 1 at) ⌝ }
     ensures { λ r. ⌜ Inside (length (now (m .entry))) at r ⌝ }
 {
-    match open_group(m, 0, at) {
+    match open_group(big, m, 0, at) {
         Dimension::Refused(refusal) => Walked::Refused(refusal),
         Dimension::Of { length, entries } => {
             let size = length * entries;
@@ -150,15 +176,15 @@ fn skip_group(m: &[u8], at: usize) -> Walked
 }
 
 // n surplus groups.
-pub fn skip_groups(m: &[u8], n: usize, at: usize) -> Walked
+pub fn skip_groups(big: bool, m: &[u8], n: usize, at: usize) -> Walked
     requires { ⌜ at ≤ length (now m) ⌝ }
-    ensures { λ r. ⌜ r ≡ walked skipEnd (skipGroups (now (m .entry)) n at) ⌝ }
+    ensures { λ r. ⌜ r ≡ walked skipEnd (skipGroups big (now (m .entry)) n at) ⌝ }
     ensures { λ r. ⌜ Inside (length (now (m .entry))) at r ⌝ }
 {
     let mut x = at;
     let mut left = n;
     while 0 < left {
-        let group = skip_group(m, x);
+        let group = skip_group(big, m, x);
         let Walked::To { next, .. } = group else {
             return group;
         };
@@ -182,33 +208,54 @@ pub struct Header {
 }
 
 // The header that a message starts with, whatever it says.
-pub fn header_of(m: &[u8]) -> Header
+fn header_in(big: bool, m: &[u8]) -> Header
     requires { ⌜ 12 ≤ length (now m) ⌝ }
-    ensures { λ r. ⌜ IsHeader (now (m .entry)) r ⌝ }
+    ensures { λ r. ⌜ IsHeader big (now (m .entry)) r ⌝ }
 {
     Header {
-        length: octets::get2(m, 0) as usize,
-        template: octets::get2(m, 2) as usize,
-        schema: octets::get2(m, 4) as usize,
-        version: octets::get2(m, 6) as usize,
-        groups: octets::get2(m, 8) as usize,
-        datas: octets::get2(m, 10) as usize,
+        length: ordered::get2(big, m, 0) as usize,
+        template: ordered::get2(big, m, 2) as usize,
+        schema: ordered::get2(big, m, 4) as usize,
+        version: ordered::get2(big, m, 6) as usize,
+        groups: ordered::get2(big, m, 8) as usize,
+        datas: ordered::get2(big, m, 10) as usize,
     }
 }
 
-// The header, up to the template id, of a message of no length for 10: 11 and 12.
-pub fn read_header(m: &[u8], schema: usize) -> Walked
-    requires { ⌜ (12 ≤ length (now m)) × (length (now m) ≤ 65535) ⌝ }
-    ensures { λ r. ⌜ r ≡ walked headerEnd (checkHeader schema (now (m .entry))) ⌝ }
+// The same, by a path for each order.
+pub fn header_of(big: bool, m: &[u8]) -> Header
+    requires { ⌜ 12 ≤ length (now m) ⌝ }
+    ensures { λ r. ⌜ IsHeader big (now (m .entry)) r ⌝ }
 {
-    let mut at = 0;
-    while at < 12 {
-        if 65535 <= octets::get2(m, at) {
-            return refuse(11, at);
-        }
-        at = at + 2;
+    if big {
+        return header_in(true, m);
     }
-    if octets::get2(m, 4) as usize == schema {
+    header_in(false, m)
+}
+
+// Whether the numbers of a header are good up to the template id: 11 and 12.
+pub fn check_header(h: Header, schema: usize) -> Walked
+    ensures { λ r. ⌜ ChecksHeader h schema r ⌝ }
+{
+    if 65535 <= h.length {
+        return refuse(11, 0);
+    }
+    if 65535 <= h.template {
+        return refuse(11, 2);
+    }
+    if 65535 <= h.schema {
+        return refuse(11, 4);
+    }
+    if 65535 <= h.version {
+        return refuse(11, 6);
+    }
+    if 65535 <= h.groups {
+        return refuse(11, 8);
+    }
+    if 65535 <= h.datas {
+        return refuse(11, 10);
+    }
+    if h.schema == schema {
         return Walked::To {
             next: 12,
             records: 0,

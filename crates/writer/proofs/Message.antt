@@ -1,5 +1,6 @@
 -- The parts, one after the other, are the message that the definition says; and its header in the code's terms.
 use mathlib.Core.Path.{_≡_, refl, sym, ap, _∙_}
+use mathlib.Core.Bool.{Bool}
 use mathlib.Core.List.{List, [], _∷_, _++_, append-assoc, append-nil}
 use Prim.Native.Nat.{ℕ, zero, suc, _+_, _*_, _≤_}
 use native.Mathlib.Numerals.{add-one}
@@ -27,32 +28,37 @@ use Rattle.writer.proofs.Zeros.{zeros-past, zeros-start}
 
 -- ---- the header
 
-pub two-numbers : (d : List ℕ) (at x y : ℕ)
-    → sets (sets d at (octetsOf 2 x)) (at + 2) (octetsOf 2 y) ≡ sets d at (numbers16 (x ∷ y ∷ []))
-unfolding numbers16
-two-numbers d at x y =
-    rw (append-nil (octetsOf 2 y), sets-append d at (octetsOf 2 x) (octetsOf 2 y), length-octets 2 x) refl
+module _ (big : Bool) where
+  pub two-numbers : (d : List ℕ) (at x y : ℕ)
+      → sets (sets d at (octetsOf big 2 x)) (at + 2) (octetsOf big 2 y) ≡ sets d at (numbers16 big (x ∷ y ∷ []))
+  unfolding numbers16
+  two-numbers d at x y =
+      let first = octetsOf big 2 x in
+      let second = octetsOf big 2 y in
+      rw (append-nil second, sets-append d at first second, length-octets big 2 x) refl
 
-numbers-append : (xs ys : List ℕ) → numbers16 (xs ++ ys) ≡ numbers16 xs ++ numbers16 ys
-unfolding numbers16
-numbers-append [] ys = refl
-numbers-append (x ∷ xs) ys = rw (numbers-append xs ys) (sym (append-assoc (octetsOf 2 x) (numbers16 xs) (numbers16 ys)))
+  numbers-append : (xs ys : List ℕ) → numbers16 big (xs ++ ys) ≡ numbers16 big xs ++ numbers16 big ys
+  unfolding numbers16
+  numbers-append [] ys = refl
+  numbers-append (x ∷ xs) ys =
+      rw (numbers-append xs ys) (sym (append-assoc (octetsOf big 2 x) (numbers16 big xs) (numbers16 big ys)))
 
-numbers-laid : (d : List ℕ) (at : ℕ) (xs ys : List ℕ)
-    → sets (sets d at (numbers16 xs)) (at + 2 * length xs) (numbers16 ys) ≡ sets d at (numbers16 (xs ++ ys))
-numbers-laid d at xs ys = rw (numbers-append xs ys, sets-append d at, length-numbers xs) refl
+  numbers-laid : (d : List ℕ) (at : ℕ) (xs ys : List ℕ)
+      → sets (sets d at (numbers16 big xs)) (at + 2 * length xs) (numbers16 big ys)
+      ≡ sets d at (numbers16 big (xs ++ ys))
+  numbers-laid d at xs ys = rw (numbers-append xs ys, sets-append d at, length-numbers big xs) refl
 
-pub header-laid : (d r₁ r₂ r₃ : List ℕ) (a b c e f g : ℕ) → r₁ ≡ sets d 0 (numbers16 (a ∷ b ∷ []))
-    → r₂ ≡ sets r₁ 4 (numbers16 (c ∷ e ∷ [])) → r₃ ≡ sets r₂ 8 (numbers16 (f ∷ g ∷ []))
-    → r₃ ≡ sets d 0 (numbers16 (a ∷ b ∷ c ∷ e ∷ f ∷ g ∷ []))
-header-laid d r₁ r₂ r₃ a b c e f g p q s =
-    s ∙ rw (q, p, numbers-laid d 0 (a ∷ b ∷ []) (c ∷ e ∷ [])) (numbers-laid d 0 (a ∷ b ∷ c ∷ e ∷ []) (f ∷ g ∷ []))
+  pub header-laid : (d r₁ r₂ r₃ : List ℕ) (a b c e f g : ℕ) → r₁ ≡ sets d 0 (numbers16 big (a ∷ b ∷ []))
+      → r₂ ≡ sets r₁ 4 (numbers16 big (c ∷ e ∷ [])) → r₃ ≡ sets r₂ 8 (numbers16 big (f ∷ g ∷ []))
+      → r₃ ≡ sets d 0 (numbers16 big (a ∷ b ∷ c ∷ e ∷ f ∷ g ∷ []))
+  header-laid d r₁ r₂ r₃ a b c e f g p q s =
+      s ∙ rw (q, p, numbers-laid d 0 (a ∷ b ∷ []) (c ∷ e ∷ [])) (numbers-laid d 0 (a ∷ b ∷ c ∷ e ∷ []) (f ∷ g ∷ []))
 
 -- ---- one part after the other: what is judged good is written as the definition says
 
-module _ (l pool : List ℕ) where
+module _ (big : Bool) (l pool : List ℕ) where
   fields-are : (n at : ℕ) (fs : List Field) (i : ℕ) (r : List Answer × ℕ) → judgeFields l pool fs i ≡ done r
-      → fieldsPart l pool n at fs i ≡ got (r .1) (blockOctets pool n at fs (r .0))
+      → fieldsPart big l pool n at fs i ≡ got (r .1) (blockOctets big pool n at fs (r .0))
   unfolding judgeFields fieldsPart valuePart printed andThen prepend blockOctets
   fields-are n at [] i r is = rw (← (done-inj is)) refl
   fields-are n at (f ∷ fs) i r is =
@@ -60,7 +66,7 @@ module _ (l pool : List ℕ) where
       rw (one, fields-are n (end f) fs (i + 1) z (rw (add-one i) rest), ← (done-inj e)) refl
 
   datas-are : (ds : List Data) (i : ℕ) (r : List Answer × ℕ) → judgeDatas l pool ds i ≡ done r
-      → datasPart l pool (length ds) i ≡ got (r .1) (dataOctets pool (r .0))
+      → datasPart big l pool (length ds) i ≡ got (r .1) (dataOctets big pool (r .0))
   unfolding judgeDatas datasPart dataPart printed andThen prepend dataOctets
   datas-are [] i r is = rw (← (done-inj is)) refl
   datas-are (d ∷ ds) i r is =
@@ -69,10 +75,10 @@ module _ (l pool : List ℕ) where
 
   -- The entries of a block s with groups gs, which f judges and `row` writes.
   module _ (s : Shape) (gs : Groups) (f : ℕ → Result (Values × ℕ)) (row : ℕ → Printed)
-      (rows : (i : ℕ) (r : Values × ℕ) → f i ≡ done r → row i ≡ got (r .1) (rowOctets pool s gs (r .0))) where
+      (rows : (i : ℕ) (r : Values × ℕ) → f i ≡ done r → row i ≡ got (r .1) (rowOctets big pool s gs (r .0))) where
     entries-are : (k i : ℕ) (r : Values × ℕ)
         → judgeEntries l pool k (judgeBlock l pool s f) i ≡ done r
-        → entriesPart l pool s row k i ≡ got (r .1) (rowOctets pool s gs (r .0))
+        → entriesPart big l pool s row k i ≡ got (r .1) (rowOctets big pool s gs (r .0))
     unfolding judgeEntries judgeBlock entriesPart andThen prepend rowOctets
     entries-are zero i r is = rw (← (done-inj is)) refl
     entries-are (suc k) i r is =
@@ -88,7 +94,7 @@ module _ (l pool : List ℕ) where
         ) (simp append-assoc)
 
   groups-are : (s : Shape) (gs : Groups) (i : ℕ) (r : Values × ℕ) → judgeGroups l pool gs i ≡ done r
-      → groupsPart l pool gs i ≡ got (r .1) (rowOctets pool s gs (r .0))
+      → groupsPart big l pool gs i ≡ got (r .1) (rowOctets big pool s gs (r .0))
   unfolding judgeGroups groupsPart andThen prepend rowOctets entriesIn if_then_else_ _and_
   groups-are s none i r is = rw (← (done-inj is)) refl
   groups-are s (more id since sh inner rest) i r is =
@@ -102,71 +108,77 @@ module _ (l pool : List ℕ) where
         ← (done-inj e),
       ) refl
 
-  -- ---- the whole
+-- ---- the whole
 
-  module _ (b : Book) (t : Template) where
-    -- The header and the root, which is one entry.
-    abbrev pub rootPart : Printed
-    rootPart =
-        prepend (numbers16 (headerOf b t)) (entriesPart l pool (t .shape) (groupsPart l pool (t .groups)) 1 0)
+module _ (l pool : List ℕ) (b : Book) (t : Template) where
+  abbrev big : Bool
+  big = b .format .big
 
-    root-entry : (e : Entry)
-        → judgeBlock l pool (t .shape) (judgeGroups l pool (t .groups)) 0 ≡ done e
-        → rootPart ≡ got (e .3) (messageOctets b t pool (entry (e .0) (e .1) (e .2) nil))
-    unfolding judgeEntries messageOctets prepend _>>=_
-    root-entry e is =
-        let gs = t .groups in
-        rw (entries-are (t .shape) gs (judgeGroups l pool gs) (groupsPart l pool gs) (groups-are (t .shape) gs)
-        1 0 (entry (e .0) (e .1) (e .2) nil, e .3) (rw is refl)) refl
+  abbrev header : List ℕ
+  header = numbers16 big (headerOf b t)
 
-    -- The message of a listing that was judged.
-    module _ (r : Values) (is : judgeListing l pool t ≡ done r) where
-      message-is : messagePart l pool b t ≡ got 0 (messageOctets b t pool r)
-      unfolding messagePart printed
-      message-is = rw is refl
+  -- The root, which is one entry, and with the header before it.
+  abbrev entryPart : Printed
+  entryPart = entriesPart big l pool (t .shape) (groupsPart big l pool (t .groups)) 1 0
 
-      pub message-octets : numbersOf (messagePart l pool b t) ≡ messageOctets b t pool r
-      unfolding numbersOf
-      message-octets = rw message-is refl
+  abbrev pub rootPart : Printed
+  rootPart = prepend header entryPart
 
-      pub message-ready : (d : List ℕ) → Zeros d → length (messageOctets b t pool r) ≤ length d
-          → Ready (messagePart l pool b t) d
-      unfolding endOf numbersOf
-      message-ready d z h = rw message-is (record { room = record { whole = refl; fits = omega arith }; zeros = z })
+  root-entry : (e : Entry)
+      → judgeBlock l pool (t .shape) (judgeGroups l pool (t .groups)) 0 ≡ done e
+      → rootPart ≡ got (e .3) (messageOctets b t pool (entry (e .0) (e .1) (e .2) nil))
+  unfolding judgeEntries messageOctets prepend _>>=_
+  root-entry e is =
+      let gs = t .groups in
+      rw (entries-are big l pool (t .shape) gs (judgeGroups l pool gs) (groupsPart big l pool gs)
+      (groups-are big l pool (t .shape) gs) 1 0 (entry (e .0) (e .1) (e .2) nil, e .3) (rw is refl)) refl
 
-      root-is : (y : ℕ) × (rootPart ≡ got y (messageOctets b t pool r))
-      unfolding judgeListing
-      root-is =
-          step _ _ _ is λ e one next. passed _ _ _ _ _ next λ counted whole.
-          (e .3, root-entry e one ∙ ap (λ (z : Values). got (e .3) (messageOctets b t pool z)) (done-inj whole))
+  -- The message of a listing that was judged.
+  module _ (r : Values) (is : judgeListing l pool t ≡ done r) where
+    message-is : messagePart l pool b t ≡ got 0 (messageOctets b t pool r)
+    unfolding messagePart printed
+    message-is = rw is refl
 
-    message-judged : Accepted (messagePart l pool b t) → Done (judgeListing l pool t)
-    unfolding messagePart
-    message-judged r = was-done _ _ _ r
+    pub message-octets : numbersOf (messagePart l pool b t) ≡ messageOctets b t pool r
+    unfolding numbersOf
+    message-octets = rw message-is refl
 
-    module _ {d : List ℕ} (y : Ready (messagePart l pool b t) d) where
-      pub root-same : numbersOf (messagePart l pool b t) ≡ numbersOf rootPart
-      unfolding numbersOf
-      root-same =
-          let j = message-judged (y .room .whole) in
-          message-octets (j .value) (j .is) ∙ sym (ap numbersOf (root-is (j .value) (j .is) .1))
+    pub message-ready : (d : List ℕ) → Zeros d → length (messageOctets b t pool r) ≤ length d
+        → Ready (messagePart l pool b t) d
+    unfolding endOf numbersOf
+    message-ready d z h = rw message-is (record { room = record { whole = refl; fits = omega arith }; zeros = z })
 
-      root-room : Room rootPart 0 (length d)
-      unfolding endOf numbersOf
-      root-room =
-          let j = message-judged (y .room .whole) in
-          record { whole = rw (root-is (j .value) (j .is) .1) refl; fits = rw root-same at (y .room .fits) }
+    root-is : (y : ℕ) × (rootPart ≡ got y (messageOctets b t pool r))
+    unfolding judgeListing
+    root-is =
+        step _ _ _ is λ e one next. passed _ _ _ _ _ next λ counted whole.
+        (e .3, root-entry e one ∙ ap (λ (z : Values). got (e .3) (messageOctets b t pool z)) (done-inj whole))
 
-      -- The header stands, and the root is to come.
-      pub root-headed : {d′ : List ℕ} → d′ ≡ sets d 0 (numbers16 (headerOf b t))
-          → Going rootPart (entriesPart l pool (t .shape) (groupsPart l pool (t .groups)) 1 0) 0 d 12 d′
-      root-headed q =
-          rw (length-numbers (headerOf b t)) at (going-put (going-none root-room) (numbers16 (headerOf b t)) refl q)
+  message-judged : Accepted (messagePart l pool b t) → Done (judgeListing l pool t)
+  unfolding messagePart
+  message-judged r = was-done _ _ _ r
 
-      pub header-fits : 12 ≤ length d
-      header-fits = omega (arith, root-headed refl .room .fits, length-sets d 0 (numbers16 (headerOf b t)))
+  module _ {d : List ℕ} (y : Ready (messagePart l pool b t) d) where
+    pub root-same : numbersOf (messagePart l pool b t) ≡ numbersOf rootPart
+    unfolding numbersOf
+    root-same =
+        let j = message-judged (y .room .whole) in
+        message-octets (j .value) (j .is) ∙ sym (ap numbersOf (root-is (j .value) (j .is) .1))
 
-      pub header-zeros : {d′ : List ℕ} → d′ ≡ sets d 0 (numbers16 (headerOf b t)) → ZerosFrom 12 d′
-      header-zeros q =
-          let long = length-numbers (headerOf b t) in
-          zeros-past (zeros-start (y .zeros)) (numbers16 (headerOf b t)) (omega arith) q
+    root-room : Room rootPart 0 (length d)
+    unfolding endOf numbersOf
+    root-room =
+        let j = message-judged (y .room .whole) in
+        record { whole = rw (root-is (j .value) (j .is) .1) refl; fits = rw root-same at (y .room .fits) }
+
+    -- The header stands, and the root is to come.
+    pub root-headed : {d′ : List ℕ} → d′ ≡ sets d 0 header → Going rootPart entryPart 0 d 12 d′
+    root-headed q = rw (length-numbers big (headerOf b t)) at (going-put (going-none root-room) header refl q)
+
+    pub header-fits : 12 ≤ length d
+    header-fits = omega (arith, root-headed refl .room .fits, length-sets d 0 header)
+
+    pub header-zeros : {d′ : List ℕ} → d′ ≡ sets d 0 header → ZerosFrom 12 d′
+    header-zeros q =
+        let long = length-numbers big (headerOf b t) in
+        zeros-past (zeros-start (y .zeros)) header (omega arith) q

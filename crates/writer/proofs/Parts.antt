@@ -53,11 +53,11 @@ module _ (l pool : List ℕ) (i : ℕ) where
   record ArrayIs (f : Field) (a : Answer) : Type 0 where
     there : i < length l / 3
     within : second l i + third l i ≤ length pool
-    octets : fieldOctets pool f a ≡ spanAt ++ replicate (f .length - third l i) 0
+    octets : (big : Bool) → fieldOctets big pool f a ≡ spanAt ++ replicate (f .length - third l i) 0
 
   octets-are : {f : Field} {a : Answer} → OctetsSaid l pool i a → ArrayIs f a
   unfolding fieldOctets spanOf
-  octets-are s = record { there = there-is l i _ (s .kind); within = s .within; octets = rw (← (s .is)) refl }
+  octets-are s = record { there = there-is l i _ (s .kind); within = s .within; octets = λ big. rw (← (s .is)) refl }
 
   array-is : (f : Field) (a : Answer) → isArray f ≡ true → ArraySaid l pool f i a → ArrayIs f a
   unfolding fieldOctets if_then_else_
@@ -65,13 +65,13 @@ module _ (l pool : List ℕ) (i : ℕ) where
       let unused = and-right _ _ (and-right _ _ n) in
       let start = eqb-true (second l i) 0 (and-left _ _ unused) in
       let none = eqb-true (third l i) 0 (and-right _ _ unused) in
-      record { there = there-is l i _ n; within = omega arith; octets = rw (← e, y, none, sub-zero) refl }
+      record { there = there-is l i _ n; within = omega arith; octets = λ big. rw (← e, y, none, sub-zero) refl }
   array-is f a y (text c s h) = octets-are s
   array-is f a y (plain c s h) = octets-are s
 
 -- ---- one field
 
-module _ (l pool : List ℕ) (f : Field) (i k : ℕ) (r : Room (valuePart l pool f i) 0 k) where
+module _ (big : Bool) (l pool : List ℕ) (f : Field) (i k : ℕ) (r : Room (valuePart big l pool f i) 0 k) where
   value-done : Done (judgeField l pool f i)
   unfolding valuePart
   value-done = was-done _ _ _ (r .whole)
@@ -85,27 +85,27 @@ module _ (l pool : List ℕ) (f : Field) (i k : ℕ) (r : Room (valuePart l pool
       each-way (isArray f) (λ y. array-done y .there)
       (λ y. there-is l i _ (number-said l pool f i _ y (value-done .is) .kind))
 
-  value-same : valuePart l pool f i ≡ got (i + 1) (fieldOctets pool f (value-done .value))
+  value-same : valuePart big l pool f i ≡ got (i + 1) (fieldOctets big pool f (value-done .value))
   unfolding valuePart printed
   value-same = rw (value-done .is) refl
 
   -- The octets that it has, and n of them fit.
   pub record ValueOpen (e : List ℕ) (n : ℕ) : Type 0 where
-    pub same : valuePart l pool f i ≡ got (i + 1) e
+    pub same : valuePart big l pool f i ≡ got (i + 1) e
     pub fits : n ≤ k
 
-  value-open : {e : List ℕ} {n : ℕ} → n ≤ length e → fieldOctets pool f (value-done .value) ≡ e → ValueOpen e n
+  value-open : {e : List ℕ} {n : ℕ} → n ≤ length e → fieldOctets big pool f (value-done .value) ≡ e → ValueOpen e n
   unfolding numbersOf
   value-open h q =
       let same = rw q at value-same in
       record { same = same; fits = omega (arith, rw same at (r .fits), h) }
 
   -- It is as long as its size says.
-  pub value-stored : lengthGood f ≡ true → {d d′ : List ℕ} → d′ ≡ sets d 0 (numbersOf (valuePart l pool f i))
-      → Stored (valuePart l pool f i) 0 d (i + 1) (size f) d′
+  pub value-stored : lengthGood f ≡ true → {d d′ : List ℕ} → d′ ≡ sets d 0 (numbersOf (valuePart big l pool f i))
+      → Stored (valuePart big l pool f i) 0 d (i + 1) (size f) d′
   unfolding endOf numbersOf
   value-stored g q =
-      let long = field-long l pool f i (value-done .value) g (value-done .is) in
+      let long = field-long big l pool f i (value-done .value) g (value-done .is) in
       record { place = rw value-same refl; taken = rw value-same (omega (arith, long)); room = q }
 
   -- An array is octets of the pool, and zeros.
@@ -118,16 +118,16 @@ module _ (l pool : List ℕ) (f : Field) (i k : ℕ) (r : Room (valuePart l pool
       let s = array-done (lt-ltb 1 (f .length) h) in
       let both = length-append (spanAt l pool i) (replicate (f .length - third l i) 0) in
       let long = span-long pool (second l i) (third l i) (s .within) in
-      record { within = s .within; value = value-open (omega (arith, both, long)) (s .octets) }
+      record { within = s .within; value = value-open (omega (arith, both, long)) (s .octets big) }
 
   -- A number, or the type's null x.
   pub number-open : f .length ≤ 1 → (n x : ℕ) → n ≡ typeAt (f .type) .width → x ≡ typeAt (f .type) .null
-      → ValueOpen (octetsOf n (numberOr l i x)) n
+      → ValueOpen (octetsOf big n (numberOr l i x)) n
   unfolding if_then_else_ fieldOctets
   number-open h n x is e =
       let single = le-ltb 1 (f .length) h in
       let said = number-said l pool f i _ single (value-done .is) in
-      value-open (omega (arith, length-octets n (numberOr l i x)))
+      value-open (omega (arith, length-octets big n (numberOr l i x)))
       (rw (← (said .is), is, e) (each-way (eqb (first l i) 0)
       (λ z. rw (z, eqb-true (first l i) 0 z) refl)
       (λ z. rw (z, not-zero l i (said .kind) (eqb-false (first l i) 0 z)) (rw single refl))))
@@ -187,16 +187,16 @@ field-next p len at (suc n) f t h w =
       };
     }
 
-module _ (l pool : List ℕ) where
+module _ (big : Bool) (l pool : List ℕ) where
   pub fields-step : (p : List ℕ) (len at n f i : ℕ) → 0 < n
-      → fieldsPart l pool len at (parseFields (listsAt p) p n f) i
-      ≡ prepend (replicate (word p (f + 3) - at) 0) (andThen (valuePart l pool (fieldAt p f) i)
-      (fieldsPart l pool len (end (fieldAt p f)) (parseFields (listsAt p) p (n - 1) (f + 7))))
+      → fieldsPart big l pool len at (parseFields (listsAt p) p n f) i
+      ≡ prepend (replicate (word p (f + 3) - at) 0) (andThen (valuePart big l pool (fieldAt p f) i)
+      (fieldsPart big l pool len (end (fieldAt p f)) (parseFields (listsAt p) p (n - 1) (f + 7))))
   unfolding parseFields fieldsPart
   fields-step p len at n f i h = rw (some-left h, one-less) refl
 
   pub fields-end : (p : List ℕ) (len at n f i : ℕ) → n ≤ 0
-      → fieldsPart l pool len at (parseFields (listsAt p) p n f) i ≡ prepend (replicate (len - at) 0) (got i [])
+      → fieldsPart big l pool len at (parseFields (listsAt p) p n f) i ≡ prepend (replicate (len - at) 0) (got i [])
   unfolding parseFields fieldsPart prepend
   fields-end p len at n f i h = rw (none-left h, append-nil) refl
 
@@ -208,39 +208,39 @@ module _ (l pool : List ℕ) where
     pub within : second l i + third l i ≤ length pool
     pub long : length (spanAt l pool i) ≡ third l i
     pub fits : 2 + third l i ≤ k
-    pub same : dataPart l pool i ≡ got (i + 1) (octetsOf 2 (third l i) ++ spanAt l pool i)
+    pub same : dataPart big l pool i ≡ got (i + 1) (octetsOf big 2 (third l i) ++ spanAt l pool i)
 
-  data-done : (i : ℕ) → Accepted (dataPart l pool i) → Done (judgeData l pool i)
+  data-done : (i : ℕ) → Accepted (dataPart big l pool i) → Done (judgeData l pool i)
   unfolding dataPart
   data-done i r = was-done _ _ _ r
 
-  pub data-open : {i k : ℕ} → Room (dataPart l pool i) 0 k → DataOpen i k
+  pub data-open : {i k : ℕ} → Room (dataPart big l pool i) 0 k → DataOpen i k
   unfolding dataPart printed spanOf numbersOf
   data-open {i} r =
       let d = data-done i (r .whole) in
       let s = data-said l pool i (d .value) (d .is) .0 in
-      let same : dataPart l pool i ≡ got (i + 1) (octetsOf 2 (third l i) ++ spanAt l pool i) =
+      let same : dataPart big l pool i ≡ got (i + 1) (octetsOf big 2 (third l i) ++ spanAt l pool i) =
       rw (d .is ∙ ap done (sym (s .is))) refl in
       let long = span-long pool (second l i) (third l i) (s .within) in
-      let both = length-append (octetsOf 2 (third l i)) (spanAt l pool i) in
+      let both = length-append (octetsOf big 2 (third l i)) (spanAt l pool i) in
       record {
         there = there-is l i _ (s .kind);
         within = s .within;
         long = long;
-        fits = omega (arith, rw same at (r .fits), both, length-octets 2 (third l i), long);
+        fits = omega (arith, rw same at (r .fits), both, length-octets big 2 (third l i), long);
         same = same;
       }
 
   -- Its length is stored, and its octets in the part that follows.
-  pub data-laid : {i : ℕ} {d₀ d ys : List ℕ} → DataOpen i (length d₀) → d ≡ sets d₀ 0 (octetsOf 2 (third l i))
+  pub data-laid : {i : ℕ} {d₀ d ys : List ℕ} → DataOpen i (length d₀) → d ≡ sets d₀ 0 (octetsOf big 2 (third l i))
       → ys ≡ sets (partOf 2 d) 0 (spanAt l pool i)
-      → Stored (dataPart l pool i) 0 d₀ (i + 1) (2 + third l i) (putMid 2 (length d - 2) d ys)
+      → Stored (dataPart big l pool i) 0 d₀ (i + 1) (2 + third l i) (putMid 2 (length d - 2) d ys)
   unfolding endOf numbersOf
   data-laid {i} {d₀} {d} {ys} o p q =
-      let n = octetsOf 2 (third l i) in
+      let n = octetsOf big 2 (third l i) in
       let long = ap length p ∙ length-sets d₀ 0 n in
       let both = length-append n (spanAt l pool i) in
-      let two = length-octets 2 (third l i) in
+      let two = length-octets big 2 (third l i) in
       record {
         place = rw (o .same) refl;
         taken = rw (o .same) (omega (arith, both, two, o .long));
@@ -248,31 +248,32 @@ module _ (l pool : List ℕ) where
             ∙ rw (o .same, sets-append d₀ 0 n (spanAt l pool i), two, ← p) refl;
       }
 
-  pub datas-step : (n i : ℕ) → 0 < n → datasPart l pool n i ≡ andThen (dataPart l pool i) (datasPart l pool (n - 1))
+  pub datas-step : (n i : ℕ) → 0 < n
+      → datasPart big l pool n i ≡ andThen (dataPart big l pool i) (datasPart big l pool (n - 1))
   unfolding datasPart
   datas-step n i h = rw (some-left h, one-less) refl
 
-  pub datas-end : (n i : ℕ) → n ≤ 0 → datasPart l pool n i ≡ got i []
+  pub datas-end : (n i : ℕ) → n ≤ 0 → datasPart big l pool n i ≡ got i []
   unfolding datasPart
   datas-end n i h = rw (none-left h) refl
 
   -- ---- entries
 
   module _ (s : Shape) (row : ℕ → Printed) where
-    pub entries-step : (k i : ℕ) → 0 < k → entriesPart l pool s row k i
-        ≡ andThen (fieldsPart l pool (s .length) 0 (s .fields) i)
+    pub entries-step : (k i : ℕ) → 0 < k → entriesPart big l pool s row k i
+        ≡ andThen (fieldsPart big l pool (s .length) 0 (s .fields) i)
         (λ j. andThen (row j)
-        (λ d. andThen (datasPart l pool (length (s .datas)) d) (entriesPart l pool s row (k - 1))))
+        (λ d. andThen (datasPart big l pool (length (s .datas)) d) (entriesPart big l pool s row (k - 1))))
     unfolding entriesPart
     entries-step k i h = rw (some-left h, one-less) refl
 
-    pub entries-end : (k i : ℕ) → k ≤ 0 → entriesPart l pool s row k i ≡ got i []
+    pub entries-end : (k i : ℕ) → k ≤ 0 → entriesPart big l pool s row k i ≡ got i []
     unfolding entriesPart
     entries-end k i h = rw (none-left h) refl
 
   -- ---- groups in a row
 
-  pub groups-end : (p : List ℕ) (depth n a i : ℕ) → n ≤ 0 → groupsPart l pool (groupsAt p depth n a) i ≡ got i []
+  pub groups-end : (p : List ℕ) (depth n a i : ℕ) → n ≤ 0 → groupsPart big l pool (groupsAt p depth n a) i ≡ got i []
   unfolding groupsPart
   groups-end p depth n a i h = rw (no-groups-at p depth n a h) refl
 
@@ -280,14 +281,16 @@ module _ (l pool : List ℕ) where
   module _ (gs : Groups) (s : Shape) (inner rest : Groups) (i : ℕ) where
     abbrev groupThen : Printed
     groupThen =
-        andThen (got (i + 1) (numbers16 (s .length ∷ second l i ∷ [])))
-        (λ j. andThen (entriesPart l pool s (groupsPart l pool inner) (second l i) j) (groupsPart l pool rest))
+        andThen (got (i + 1) (numbers16 big (s .length ∷ second l i ∷ [])))
+        (λ j. andThen (entriesPart big l pool s (groupsPart big l pool inner) (second l i) j)
+        (groupsPart big l pool rest))
 
     pub record GroupOpen : Type 0 where
       pub there : i < length l / 3
-      pub same : groupsPart l pool gs i ≡ groupThen
+      pub same : groupsPart big l pool gs i ≡ groupThen
 
-    pub group-open : {id since : ℕ} → gs ≡ more id since s inner rest → Accepted (groupsPart l pool gs i) → GroupOpen
+    pub group-open : {id since : ℕ} → gs ≡ more id since s inner rest → Accepted (groupsPart big l pool gs i)
+        → GroupOpen
     unfolding groupsPart if_then_else_ endOf numbersOf
     group-open is r = go (isGroup l i and ltb (second l i) null16) refl (rw is at r)
       where

@@ -1,4 +1,6 @@
--- What each part of a listing that was judged good writes: its octets, and the record after it. l is the listing.
+-- What each part of a listing that was judged good writes: its octets, and the record after it. l is the listing, and
+-- `big` the order of the message's numbers.
+use mathlib.Core.Bool.{Bool}
 use mathlib.Core.List.{List, [], _++_, _∷_}
 use Prim.Native.Nat.{ℕ, zero, suc, _+_, _-_}
 use lib.Dec.{eqb, ltb}
@@ -8,17 +10,17 @@ use Rattle.layout.specs.Octets.{null16, octetsOf}
 use Rattle.layout.specs.Book.{Book, Field, Groups, Shape, Template, end, more, none}
 use Rattle.layout.specs.Writing.{fieldOctets, first, isGroup, judgeData, judgeField, judgeListing, messageOctets}
 use Rattle.layout.specs.Writing.{numbers16, second, spanOctets, spanOf}
-use Rattle.prepared.specs.Positions.{innerAt, shapeAt}
+use Rattle.prepared.specs.Positions.{innerAt, isBig, shapeAt}
 use Rattle.prints.specs.Prints.{Printed, andThen, got, not, prepend, printed}
 
 -- The number of record i, or x where it is null.
 abbrev pub numberOr : List ℕ → ℕ → ℕ → ℕ
 numberOr l i x = if eqb (first l i) 0 then second l i else x
 
-module _ (l pool : List ℕ) where
+module _ (big : Bool) (l pool : List ℕ) where
   -- A field from record i.
   unfoldable pub valuePart : Field → ℕ → Printed
-  valuePart f i = printed (λ a. i + 1) (fieldOctets pool f) (judgeField l pool f i)
+  valuePart f i = printed (λ a. i + 1) (fieldOctets big pool f) (judgeField l pool f i)
 
   -- Fields of a block of n octets, from its octet `at` on: zeros before each one, and zeros up to the block's end.
   unfoldable pub fieldsPart : ℕ → ℕ → List Field → ℕ → Printed
@@ -28,7 +30,7 @@ module _ (l pool : List ℕ) where
 
   unfoldable pub dataPart : ℕ → Printed
   dataPart i =
-      printed (λ a. i + 1) (λ a. octetsOf 2 (spanOf a .1) ++ spanOctets pool a) (judgeData l pool i)
+      printed (λ a. i + 1) (λ a. octetsOf big 2 (spanOf a .1) ++ spanOctets pool a) (judgeData l pool i)
 
   unfoldable pub datasPart : ℕ → ℕ → Printed
   datasPart zero i = got i []
@@ -45,13 +47,14 @@ module _ (l pool : List ℕ) where
   groupsPart none i = got i []
   groupsPart (more id since s inner rest) i =
       if isGroup l i and ltb (second l i) null16
-      then andThen (got (i + 1) (numbers16 (s .length ∷ second l i ∷ [])))
+      then andThen (got (i + 1) (numbers16 big (s .length ∷ second l i ∷ [])))
       (λ j. andThen (entriesPart s (groupsPart inner) (second l i) j) (groupsPart rest)) else not
 
-  -- k entries of the block at a.
-  abbrev pub entriesAt : List ℕ → ℕ → ℕ → ℕ → ℕ → Printed
-  entriesAt p depth a k i = entriesPart (shapeAt p a) (groupsPart (innerAt p depth a)) k i
+-- k entries of the block at a of a prepared book.
+abbrev pub entriesAt : List ℕ → List ℕ → List ℕ → ℕ → ℕ → ℕ → ℕ → Printed
+entriesAt l pool p depth a k i =
+    entriesPart (isBig p) l pool (shapeAt p a) (groupsPart (isBig p) l pool (innerAt p depth a)) k i
 
-  -- The whole message.
-  unfoldable pub messagePart : Book → Template → Printed
-  messagePart b t = printed (λ r. 0) (messageOctets b t pool) (judgeListing l pool t)
+-- The whole message.
+unfoldable pub messagePart : List ℕ → List ℕ → Book → Template → Printed
+messagePart l pool b t = printed (λ r. 0) (messageOctets b t pool) (judgeListing l pool t)

@@ -10,7 +10,7 @@ ghost use lib.Seq.{sets};
 ghost use Rattle.layout.specs.BookRules.{word};
 ghost use Rattle.layout.specs.Writing.{headerOf, numbers16};
 ghost use Rattle.prepared.specs.Books.{bookAt, templateAt};
-ghost use Rattle.prepared.specs.Positions.{BlockAt, IsBlock, IsField, fieldAt, manyDatas, innerAt, shapeAt};
+ghost use Rattle.prepared.specs.Positions.{BlockAt, IsBlock, IsField, fieldAt, manyDatas, innerAt, isBig, shapeAt};
 ghost use Rattle.prints.specs.Prints.{Printed, Room, Stored, numbersOf};
 ghost use Rattle.writer.specs.Heads.{IsHead};
 ghost use Rattle.writer.specs.Zeros.{Ready, ZerosFrom};
@@ -90,6 +90,7 @@ fn number_for(p: &[u64], t: usize, listing: &[u64], i: usize) -> u64
 // The field at f, whose table is at t, from record i. Of an array the octets that the record names are copied, and
 // null's record names none: the NULs after them stand already.
 fn write_value(
+    big: bool,
     p: &[u64],
     f: usize,
     t: usize,
@@ -99,13 +100,13 @@ fn write_value(
     room: &mut [u8],
 )
     requires { ⌜ IsField (now p) f t × ZerosFrom 0 (now room) ⌝ }
-    requires { ⌜ Room (valuePart (now listing) (now pool) (fieldAt (now p) f) i) 0 (length (now room)) ⌝ }
-    ensures { λ _. ⌜ now (room .exit) ≡ sets (now (room .entry)) 0 (numbersOf (valuePart (now (listing .entry))
+    requires { ⌜ Room (valuePart big (now listing) (now pool) (fieldAt (now p) f) i) 0 (length (now room)) ⌝ }
+    ensures { λ _. ⌜ now (room .exit) ≡ sets (now (room .entry)) 0 (numbersOf (valuePart big (now (listing .entry))
         (now (pool .entry)) (fieldAt (now (p .entry)) f) i)) ⌝ }
 {
     if number(p, f + 2) <= 1 {
         let x = number_for(p, t, listing, i);
-        number_types::store(room, 0, number(p, t + 4), x);
+        number_types::store(big, room, 0, number(p, t + 4), x);
         return;
     }
     let start = number_of(listing, i, 1) as usize;
@@ -113,9 +114,10 @@ fn write_value(
     put_octets(room, pool, start, len);
 }
 
-// The block at a without its groups and data. Each field is stored at its offset, and the zeros
-// between them stand already.
+// The block at a without its groups and data. Each field is stored at its offset, and the zeros between them stand
+// already.
 fn write_fields(
+    big: bool,
     p: &[u64],
     a: usize,
     h: Head,
@@ -125,9 +127,9 @@ fn write_fields(
     c: Cursor,
 ) -> Cursor
     requires { ⌜ IsBlock (now p) a × IsHead (now p) a h × ZerosFrom (c .at) (now room) ⌝ }
-    requires { ⌜ Room (fieldsPart (now listing) (now pool) (word (now p) (a + 2)) 0 (shapeAt (now p) a .fields)
+    requires { ⌜ Room (fieldsPart big (now listing) (now pool) (word (now p) (a + 2)) 0 (shapeAt (now p) a .fields)
         (c .record)) (c .at) (length (now room)) ⌝ }
-    ensures { λ r. ⌜ Stored (fieldsPart (now (listing .entry)) (now (pool .entry)) (word (now (p .entry)) (a + 2)) 0
+    ensures { λ r. ⌜ Stored (fieldsPart big (now (listing .entry)) (now (pool .entry)) (word (now (p .entry)) (a + 2)) 0
         (shapeAt (now (p .entry)) a .fields) (c .record)) (c .at) (now (room .entry)) (r .record) (r .at)
         (now (room .exit)) ⌝ }
 {
@@ -138,7 +140,7 @@ fn write_fields(
     let mut i = c.record;
     while 0 < left {
         let at = start + number(p, f + 3);
-        write_value(p, f, t, listing, i, pool, &mut room[at..]);
+        write_value(big, p, f, t, listing, i, pool, &mut room[at..]);
         f = f + 7;
         t = t + 6;
         i = i + 1;
@@ -150,14 +152,37 @@ fn write_fields(
     }
 }
 
+// The same in the book's order. The compiler makes a loop of its own for each.
+fn write_block(
+    p: &[u64],
+    a: usize,
+    h: Head,
+    listing: &[u64],
+    pool: &[u8],
+    room: &mut [u8],
+    c: Cursor,
+) -> Cursor
+    requires { ⌜ IsBlock (now p) a × IsHead (now p) a h × ZerosFrom (c .at) (now room) ⌝ }
+    requires { ⌜ Room (fieldsPart (isBig (now p)) (now listing) (now pool) (word (now p) (a + 2)) 0 (shapeAt (now p) a
+        .fields) (c .record)) (c .at) (length (now room)) ⌝ }
+    ensures { λ r. ⌜ Stored (fieldsPart (isBig (now (p .entry))) (now (listing .entry)) (now (pool .entry)) (word (now
+        (p .entry)) (a + 2)) 0 (shapeAt (now (p .entry)) a .fields) (c .record)) (c .at) (now (room .entry)) (r .record)
+        (r .at) (now (room .exit)) ⌝ }
+{
+    if prepared::is_big(p) {
+        return write_fields(true, p, a, h, listing, pool, room, c);
+    }
+    write_fields(false, p, a, h, listing, pool, room, c)
+}
+
 // The data of record i: how many octets it has.
-fn write_data(listing: &[u64], i: usize, pool: &[u8], room: &mut [u8]) -> usize
-    requires { ⌜ Room (dataPart (now listing) (now pool) i) 0 (length (now room)) ⌝ }
-    ensures { λ r. ⌜ Stored (dataPart (now (listing .entry)) (now (pool .entry)) i) 0 (now (room .entry)) (i + 1) r
+fn write_data(big: bool, listing: &[u64], i: usize, pool: &[u8], room: &mut [u8]) -> usize
+    requires { ⌜ Room (dataPart big (now listing) (now pool) i) 0 (length (now room)) ⌝ }
+    ensures { λ r. ⌜ Stored (dataPart big (now (listing .entry)) (now (pool .entry)) i) 0 (now (room .entry)) (i + 1) r
         (now (room .exit)) × (i + 1 < 2 ^ 64) ⌝ }
 {
     let len = number_of(listing, i, 2);
-    octets::put2(room, 0, len);
+    ordered::put2(big, room, 0, len);
     let start = number_of(listing, i, 1);
     put_octets(&mut room[2..], pool, start as usize, len as usize);
     2 + len as usize
@@ -173,16 +198,17 @@ fn write_datas(
     c: Cursor,
 ) -> Cursor
     requires { ⌜ IsBlock (now p) a ⌝ }
-    requires { ⌜ Room (datasPart (now listing) (now pool) (manyDatas (now p) a) (c .record)) (c .at) (length
-        (now room)) ⌝ }
-    ensures { λ r. ⌜ Stored (datasPart (now (listing .entry)) (now (pool .entry)) (manyDatas (now (p .entry)) a)
-        (c .record)) (c .at) (now (room .entry)) (r .record) (r .at) (now (room .exit)) ⌝ }
+    requires { ⌜ Room (datasPart (isBig (now p)) (now listing) (now pool) (manyDatas (now p) a) (c .record)) (c .at)
+        (length (now room)) ⌝ }
+    ensures { λ r. ⌜ Stored (datasPart (isBig (now (p .entry))) (now (listing .entry)) (now (pool .entry)) (manyDatas
+        (now (p .entry)) a) (c .record)) (c .at) (now (room .entry)) (r .record) (r .at) (now (room .exit)) ⌝ }
 {
+    let big = prepared::is_big(p);
     let mut left = number(p, a + 5);
     let mut here = c;
     while 0 < left {
         let at = here.at;
-        let n = write_data(listing, here.record, pool, &mut room[at..]);
+        let n = write_data(big, listing, here.record, pool, &mut room[at..]);
         here = Cursor {
             record: here.record + 1,
             at: at + n,
@@ -193,23 +219,24 @@ fn write_datas(
 }
 
 // Two 16-bit numbers at `at`.
-fn put_two(room: &mut [u8], at: usize, x: u64, y: u64)
+fn put_two(big: bool, room: &mut [u8], at: usize, x: u64, y: u64)
     requires { ⌜ at + 4 ≤ length (now room) ⌝ }
-    ensures { λ _. ⌜ now (room .exit) ≡ sets (now (room .entry)) at (numbers16 (x ∷ y ∷ [])) ⌝ }
+    ensures { λ _. ⌜ now (room .exit) ≡ sets (now (room .entry)) at (numbers16 big (x ∷ y ∷ [])) ⌝ }
 {
-    octets::put2(room, at, x);
-    octets::put2(room, at + 2, y);
+    ordered::put2(big, room, at, x);
+    ordered::put2(big, room, at + 2, y);
 }
 
 // The dimension of the group at a, which has k entries.
 fn put_dimension(p: &[u64], a: usize, k: u64, room: &mut [u8], c: Cursor) -> Cursor
-    requires { ⌜ (a + 2 < length (now p)) × (c .record + 1 < 2 ^ 64) ⌝ }
-    requires { ⌜ Room (Printed.got (c .record + 1) (numbers16 (word (now p) (a + 2) ∷ k ∷ []))) (c .at) (length
-        (now room)) ⌝ }
-    ensures { λ r. ⌜ Stored (Printed.got (c .record + 1) (numbers16 (word (now (p .entry)) (a + 2) ∷ k ∷ []))) (c .at)
-        (now (room .entry)) (r .record) (r .at) (now (room .exit)) ⌝ }
+    requires { ⌜ IsBlock (now p) a × (c .record + 1 < 2 ^ 64) ⌝ }
+    requires { ⌜ Room (Printed.got (c .record + 1) (numbers16 (isBig (now p)) (word (now p) (a + 2) ∷ k ∷ []))) (c .at)
+        (length (now room)) ⌝ }
+    ensures { λ r. ⌜ Stored (Printed.got (c .record + 1) (numbers16 (isBig (now (p .entry))) (word (now (p .entry))
+        (a + 2) ∷ k ∷ []))) (c .at) (now (room .entry)) (r .record) (r .at) (now (room .exit)) ⌝ }
 {
-    put_two(room, c.at, p[a + 2], k);
+    let big = prepared::is_big(p);
+    put_two(big, room, c.at, p[a + 2], k);
     Cursor {
         record: c.record + 1,
         at: c.at + 4,
@@ -219,12 +246,13 @@ fn put_dimension(p: &[u64], a: usize, k: u64, room: &mut [u8], c: Cursor) -> Cur
 // The header of a message of the template at a: six numbers.
 fn put_header(p: &[u64], a: usize, room: &mut [u8])
     requires { ⌜ BlockAt (now p) 4 a × (12 ≤ length (now room)) ⌝ }
-    ensures { λ _. ⌜ now (room .exit) ≡ sets (now (room .entry)) 0 (numbers16 (headerOf (bookAt (now (p .entry)))
-        (templateAt (now (p .entry)) a))) ⌝ }
+    ensures { λ _. ⌜ now (room .exit) ≡ sets (now (room .entry)) 0 (numbers16 (isBig (now (p .entry))) (headerOf
+        (bookAt (now (p .entry))) (templateAt (now (p .entry)) a))) ⌝ }
 {
-    put_two(room, 0, p[a + 2], p[a]);
-    put_two(room, 4, p[0], p[1]);
-    put_two(room, 8, p[a + 4], p[a + 5]);
+    let big = prepared::is_big(p);
+    put_two(big, room, 0, p[a + 2], p[a]);
+    put_two(big, room, 4, p[0], p[1]);
+    put_two(big, room, 8, p[a + 4], p[a + 5]);
 }
 
 // k entries of the block at a, `depth` more levels being left.
@@ -252,7 +280,7 @@ fn write_entries(
     let mut here = c;
     while 0 < due {
         due = due - 1;
-        here = write_fields(s, a, block, t, o, room, here);
+        here = write_block(s, a, block, t, o, room, here);
         if block.follow == 0 {
             continue;
         }
@@ -273,10 +301,11 @@ fn write_row(
     c: Cursor,
 ) -> Cursor
     requires { ⌜ BlockAt (now (now p)) depth a × ZerosFrom (c .at) (now room) ⌝ }
-    requires { ⌜ Room (groupsPart (now (now listing)) (now (now pool)) (innerAt (now (now p)) depth a) (c .record))
-        (c .at) (length (now room)) ⌝ }
-    ensures { λ r. ⌜ Stored (groupsPart (now (now (listing .entry))) (now (now (pool .entry))) (innerAt (now (now (p
-        .entry))) depth a) (c .record)) (c .at) (now (room .entry)) (r .record) (r .at) (now (room .exit)) ⌝ }
+    requires { ⌜ Room (groupsPart (isBig (now (now p))) (now (now listing)) (now (now pool)) (innerAt (now (now p))
+        depth a) (c .record)) (c .at) (length (now room)) ⌝ }
+    ensures { λ r. ⌜ Stored (groupsPart (isBig (now (now (p .entry)))) (now (now (listing .entry))) (now (now (pool
+        .entry))) (innerAt (now (now (p .entry))) depth a) (c .record)) (c .at) (now (room .entry)) (r .record) (r .at)
+        (now (room .exit)) ⌝ }
 {
     let s = *p;
     let t = *listing;

@@ -68,7 +68,7 @@ impl Message<'_> {
         if field.is_array() {
             return [OCTETS, start as u64, octets.len() as u64];
         }
-        let value = field.kind().value(octets);
+        let value = field.kind().value(octets, self.book.byte_order());
         if field.kind().holds(value) {
             [if self.book.is_listed(field, value) { NUMBER } else { UNLISTED }, value as u64, 0]
         } else if value == field.kind().null && field.is_optional() {

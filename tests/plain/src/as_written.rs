@@ -2,14 +2,14 @@
 
 use crate::answers::{OUT_OF_RANGE, UNLISTED};
 use crate::message::Part;
-use crate::{text_length, word, Block, Book, Message};
+use crate::{text_length, Block, Book, Message};
 
 impl Message<'_> {
     /// The book's own version and block lengths, zeros as padding and after each text's first NUL, and no value out of
     /// range or unlisted.
     pub fn is_as_written(&self, book: &Book) -> bool {
         self.version == book.version
-            && word(self.octets, 0) == self.block.length
+            && book.byte_order().number16(self.octets, 0) == self.block.length
             && self.has_own_blocks(self.block, &self.root)
             && self.list().iter().all(|record| record[0] != OUT_OF_RANGE && record[0] != UNLISTED)
     }

@@ -1,11 +1,13 @@
 //! The schema book as a tree, read from its octets: refusals 1 to 4. `rules` has 5 and 6.
 
-use crate::{refusal, rules, word, NameList, Refusal, NULL16};
+use crate::{byte_order, refusal, rules, word, NameList, Refusal, NULL16};
 
 #[derive(Clone, Debug, PartialEq, Eq)]
 pub struct Book {
     pub schema: u16,
     pub version: u16,
+    /// Of its messages, 0 or 1 if the head holds.
+    pub byte_order: u16,
     pub templates: Vec<Template>,
     pub lists: Vec<NameList>,
 }
@@ -49,7 +51,7 @@ pub struct Group {
     pub block: Block,
 }
 
-const HEAD_WORDS: usize = 5;
+const HEAD_WORDS: usize = 6;
 const ROW_WORDS: usize = 3;
 const DEPTH: usize = 4;
 
@@ -70,7 +72,7 @@ impl Book {
         for (number, row) in contents.lists.iter().enumerate() {
             lists.push(NameList::read(row.id, row.words).ok_or(refusal(4, templates.len() + number))?);
         }
-        let book = Book { schema: words[0], version: words[1], templates, lists };
+        let book = Book { schema: words[0], version: words[1], byte_order: words[5], templates, lists };
         book.each(5, |block| rules::shape_holds(block, &book))?;
         book.each(6, |block| rules::sinces_hold(block, book.version, None))?;
         Ok(book)
@@ -95,7 +97,7 @@ impl Book {
         let mut first = HEAD_WORDS + ROW_WORDS * bodies.len();
         let total = first + bodies.iter().map(|(_, body)| body.len()).sum::<usize>();
         let (templates, lists) = (self.templates.len() as u16, self.lists.len() as u16);
-        let mut words = vec![self.schema, self.version, templates, total as u16, lists];
+        let mut words = vec![self.schema, self.version, templates, total as u16, lists, self.byte_order];
         for (id, body) in &bodies {
             words.extend([*id, first as u16, body.len() as u16]);
             first += body.len();
@@ -124,7 +126,8 @@ impl<'a> Contents<'a> {
         }
         let (templates, lists) = (usize::from(words[2]), usize::from(words[4]));
         let start = HEAD_WORDS + ROW_WORDS * (templates + lists);
-        let head_holds = usize::from(words[3]) == words.len() && words[0] != NULL16 && words[1] != NULL16;
+        let ids_hold = words[0] != NULL16 && words[1] != NULL16;
+        let head_holds = usize::from(words[3]) == words.len() && ids_hold && words[5] <= byte_order::BIG;
         if !head_holds || !(1..=64).contains(&templates) || start > words.len() {
             return Err(refusal(2, 0));
         }

@@ -7,7 +7,8 @@ pub fn extends(newer: &Book, older: &Book) -> bool {
     let templates_stand = older.templates.iter().all(|template| {
         newer.template(template.id).map_or(false, |same| books.root_extends(&same.block, &template.block))
     });
-    newer.schema == older.schema && newer.version > older.version && templates_stand
+    let same = newer.schema == older.schema && newer.byte_order == older.byte_order;
+    same && newer.version > older.version && templates_stand
 }
 
 struct Books<'a> {

@@ -5,6 +5,7 @@
 mod answers;
 mod as_written;
 mod book;
+pub mod byte_order;
 pub mod extension;
 pub mod lists;
 pub mod message;
@@ -15,6 +16,7 @@ pub mod writer;
 
 pub use answers::Place;
 pub use book::{Block, Book, Data, Field, Group, Template};
+pub use byte_order::ByteOrder;
 pub use lists::NameList;
 pub use message::Message;
 pub use rng::Rng;
@@ -40,7 +42,7 @@ pub const NULL16: u16 = 65535;
 /// The longest message.
 pub const LONGEST: usize = 65535;
 
-/// The 16-bit number at `at`, least significant octet first.
+/// The word of a book at `at`, least significant octet first.
 pub fn word(octets: &[u8], at: usize) -> u16 {
     u16::from_le_bytes([octets[at], octets[at + 1]])
 }

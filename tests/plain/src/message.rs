@@ -1,10 +1,11 @@
 //! A message by a book: refusals 10 to 20, and where each element's octets stand.
 
-use crate::{refusal, word, Block, Book, Refusal, LONGEST, NULL16};
+use crate::{refusal, Block, Book, ByteOrder, Refusal, LONGEST, NULL16};
 
 /// An accepted message.
 pub struct Message<'a> {
     pub octets: &'a [u8],
+    pub template: u16,
     pub version: u16,
     pub book: &'a Book,
     pub block: &'a Block,
@@ -35,13 +36,15 @@ const HEADER: usize = 12;
 impl<'a> Message<'a> {
     pub fn read(book: &'a Book, octets: &'a [u8]) -> Result<Message<'a>, Refusal> {
         let (block, surplus) = header(book, octets)?;
-        let (length, version) = (usize::from(word(octets, 0)), word(octets, 6));
-        let mut walk = Walk { octets, version, at: HEADER };
+        let order = book.byte_order();
+        let number = |at| order.number16(octets, at);
+        let (length, template, version) = (usize::from(number(0)), number(2), number(6));
+        let mut walk = Walk { octets, order, version, at: HEADER };
         let root = walk.part(block, length, surplus)?;
         if walk.at < octets.len() {
             return Err(refusal(20, walk.at));
         }
-        Ok(Message { octets, version, book, block, root })
+        Ok(Message { octets, template, version, book, block, root })
     }
 }
 
@@ -58,11 +61,12 @@ fn header<'a>(book: &'a Book, octets: &[u8]) -> Result<(&'a Block, Surplus), Ref
     if octets.len() < HEADER || octets.len() > LONGEST {
         return Err(refusal(10, 0));
     }
-    if let Some(place) = (0..HEADER).step_by(2).find(|&at| word(octets, at) == NULL16) {
+    let number = |at| book.byte_order().number16(octets, at);
+    if let Some(place) = (0..HEADER).step_by(2).find(|&at| number(at) == NULL16) {
         return Err(refusal(11, place));
     }
-    let (length, template, schema) = (word(octets, 0), word(octets, 2), word(octets, 4));
-    let (version, groups, data) = (word(octets, 6), usize::from(word(octets, 8)), usize::from(word(octets, 10)));
+    let (length, template, schema) = (number(0), number(2), number(4));
+    let (version, groups, data) = (number(6), usize::from(number(8)), usize::from(number(10)));
     if schema != book.schema {
         return Err(refusal(12, 4));
     }
@@ -84,11 +88,16 @@ fn header<'a>(book: &'a Book, octets: &[u8]) -> Result<(&'a Block, Surplus), Ref
 /// The walk in wire order. The first fault ends it.
 struct Walk<'a> {
     octets: &'a [u8],
+    order: ByteOrder,
     version: u16,
     at: usize,
 }
 
 impl Walk<'_> {
+    fn number(&self, at: usize) -> u16 {
+        self.order.number16(self.octets, at)
+    }
+
     /// Passes so many octets and gives their start. Where they run past the end, the fault is placed at `place`.
     fn pass(&mut self, count: usize, place: usize) -> Result<usize, Refusal> {
         let start = self.at;
@@ -137,7 +146,7 @@ impl Walk<'_> {
     /// Block length and entry count.
     fn dimension(&mut self) -> Result<(usize, usize), Refusal> {
         let start = self.pass(4, self.at)?;
-        let (length, entries) = (word(self.octets, start), word(self.octets, start + 2));
+        let (length, entries) = (self.number(start), self.number(start + 2));
         if length == NULL16 || entries == NULL16 {
             return Err(refusal(17, start));
         }
@@ -146,7 +155,7 @@ impl Walk<'_> {
 
     fn data(&mut self) -> Result<Octets, Refusal> {
         let place = self.pass(2, self.at)?;
-        let length = word(self.octets, place);
+        let length = self.number(place);
         if length == NULL16 {
             return Err(refusal(19, place));
         }

@@ -1,5 +1,7 @@
 //! The nine types: octets, range and null.
 
+use crate::ByteOrder;
+
 pub struct Type {
     pub octets: usize,
     pub signed: bool,
@@ -28,9 +30,9 @@ impl Type {
         self.least <= value && value <= self.greatest
     }
 
-    /// The value that the octets stand for, the least significant first.
-    pub fn value(&self, octets: &[u8]) -> i128 {
-        let value = octets.iter().rev().fold(0, |value, &octet| value << 8 | i128::from(octet));
+    /// The value that the octets stand for.
+    pub fn value(&self, octets: &[u8], order: ByteOrder) -> i128 {
+        let value = i128::from(order.number(octets));
         let modulus = 1 << (8 * self.octets);
         if self.signed && value >= modulus / 2 {
             value - modulus
@@ -40,7 +42,7 @@ impl Type {
     }
 
     /// The octets that stand for the value.
-    pub fn octets_of(&self, value: i128) -> Vec<u8> {
-        value.to_le_bytes()[..self.octets].to_vec()
+    pub fn octets_of(&self, value: i128, order: ByteOrder) -> Vec<u8> {
+        order.octets(value as u64, self.octets)
     }
 }

@@ -27,7 +27,7 @@ pub fn message(book: &Book, draft: &Draft) -> Result<Vec<u8>, Refusal> {
         [block.length, *template, book.schema, book.version, block.groups.len() as u16, block.data.len() as u16];
     let mut writer = Writer { book, listing, pool, record: 0, length: 0, message: Vec::new() };
     for number in header {
-        writer.put(&number.to_le_bytes());
+        writer.number16(number);
     }
     writer.block(block)?;
     if writer.record * 3 < listing.len() {
@@ -58,6 +58,10 @@ impl<'a> Writer<'a> {
         }
     }
 
+    fn number16(&mut self, number: u16) {
+        self.put(&self.book.byte_order().octets16(number));
+    }
+
     /// The next record and its number.
     fn next(&mut self) -> Result<(Record, usize), Refusal> {
         let number = self.record;
@@ -83,29 +87,29 @@ impl<'a> Writer<'a> {
         self.put(&octets);
         for group in &block.groups {
             let entries = self.entries()?;
-            self.put(&group.block.length.to_le_bytes());
-            self.put(&entries.to_le_bytes());
+            self.number16(group.block.length);
+            self.number16(entries);
             for _ in 0..entries {
                 self.block(&group.block)?;
             }
         }
         for _ in &block.data {
             let octets = self.data()?;
-            self.put(&(octets.len() as u16).to_le_bytes());
+            self.number16(octets.len() as u16);
             self.put(octets);
         }
         Ok(())
     }
 
     fn number(&mut self, field: &Field) -> Result<Vec<u8>, Refusal> {
-        let kind = field.kind();
+        let (kind, order) = (field.kind(), self.book.byte_order());
         match self.next()? {
             ([0, second, 0], number) => {
                 let value = if kind.signed { i128::from(second as i64) } else { i128::from(second) };
                 let holds = kind.holds(value) && self.book.is_listed(field, value);
-                holds.then(|| kind.octets_of(value)).ok_or(refusal(52, number))
+                holds.then(|| kind.octets_of(value, order)).ok_or(refusal(52, number))
             }
-            ([1, 0, 0], _) if field.is_optional() => Ok(kind.octets_of(kind.null)),
+            ([1, 0, 0], _) if field.is_optional() => Ok(kind.octets_of(kind.null, order)),
             ([1, 0, 0], number) => Err(refusal(52, number)),
             (_, number) => Err(refusal(51, number)),
         }

@@ -13,6 +13,7 @@ mod recorded;
 mod report;
 mod robust;
 mod rooms;
+mod turned;
 
 use report::Report;
 use std::os::raw::{c_char, c_int};

@@ -1,9 +1,9 @@
 //! The recorded cases of `tests/cases`: an input, and the answer that two implementations gave, made apart from each
 //! other.
 //!
-//! A case is an octet for the call (0 list, 2 place, 3 write), a 32-bit length and the input. All numbers are
-//! little-endian. An input begins with the book's octet count, 16 bits, and the book, as the listing program reads
-//! them. Then, for each call:
+//! A case is an octet for the call (0 list, 2 place, 3 write), a 32-bit length and the input. All numbers but those of a
+//! message are little-endian. An input begins with the book's octet count, 16 bits, and the book, as the listing program
+//! reads them. Then, for each call:
 //!
 //! - list: the message.
 //! - place: an octet, how many steps; a group's number and an entry's for each, 16 bits; an octet for the kind of
@@ -15,8 +15,8 @@ use crate::readers::{lent, Free, Plain, Reader, Stream};
 use crate::report::{hex, same, Report};
 use plain::{refusal, word, Draft, Place, Record, Refusal};
 
-const CASES: &[u8] = include_bytes!("../../cases/text.cases");
-const EXPECTED: &str = include_str!("../../cases/text.expected");
+const CASES: &[u8] = include_bytes!("../../cases/order.cases");
+const EXPECTED: &str = include_str!("../../cases/order.expected");
 
 const LIST: u8 = 0;
 pub const PLACE: u8 = 2;

@@ -5,7 +5,7 @@ use native.Mathlib.Omega.{arith}
 use borrow.Author.Needs.{needs}
 use lib.ListN.{length}
 use Rattle.layout.specs.Lists.{findNames, namesOf}
-use Rattle.layout.specs.BookRules.{fieldAt, listsOf}
+use Rattle.layout.specs.BookRules.{fieldAt, headSize, listsOf}
 use Rattle.layout.specs.Octets.{wordsOf}
 use Rattle.layout.specs.BookRules.{word}
 use Rattle.book.specs.Rows.{listAt}
@@ -70,7 +70,7 @@ word-requires-3 c κs =
 -- The row lies in the book.
 small : (c : tie.After-word3) → let read = c .before .before in
     let a = read .before .before .before .before .before .before .before .before .before .args in
-    5 + 3 * (c .word3 .result + read .before .before .i .given .0 .0) ≤ length (a .book .now) / 2
+    headSize + 3 * (c .word3 .result + read .before .before .i .given .0 .0) ≤ length (a .book .now) / 2
 small c =
     let read = c .before .before in
     omega (

@@ -9,7 +9,7 @@ start c = c .before .before
 pub read-field-spec : {M : Type 1} → statement M
 read-field-spec =
     tie.close
-    (tie.spec (λ c κs. (start c .pre .field .fits, start c .pre .fits))
+    (tie.spec (λ c κs. start c .pre)
     (λ c κs. let field = start (c .before) .pre .field in (field .tableFits, field .derived .names .list))
     (λ c. let read = c .before in
-    field-beside _ _ _ _ _ _ _ (start (read .before) .pre .field) (read .read-plain .ensures) _ (c .beside .ensures)))
+    field-beside _ _ _ _ _ _ _ _ (start (read .before) .pre .field) (read .read-plain .ensures) _ (c .beside .ensures)))

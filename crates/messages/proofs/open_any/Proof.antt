@@ -1,12 +1,23 @@
 -- The header is refused, or what follows it is opened.
-use mathlib.Core.Path.{_∙_, ap, sym}
+use mathlib.Core.Path.{_≡_, _∙_, ap, sym}
 use borrow.Author.Needs.{needs}
 use Rattle.layout.specs.Result.{_>>=_}
+use Rattle.layout.specs.Message.{checkHeader}
+use Rattle.prepared.specs.Positions.{isBig}
 use Rattle.prepared.proofs.Found.{found}
+use Rattle.wire.specs.Walks.{headerEnd, walked}
 use Rattle.messages.specs.Openings.{known, opened}
 use Rattle.messages.proofs.Stages.{header-good, header-refused}
 use Rattle.messages.proofs.open_any.Statement.{statement}
 use Rattle.messages.proofs.open_any.Tie as tie
+
+-- What the header's tests come to.
+checked : (c : tie.After-check-header) → let s = c .before .before .before .before .args in
+    c .check-header .result
+    ≡ walked headerEnd (checkHeader (isBig (s .p .now)) (c .before .number .result) (s .m .now))
+checked c =
+    let given = c .before .before .before .before .pre in
+    c .check-header .ensures _ _ (given .1 .inside, given .1 .short) (given .2)
 
 returns : tie.Need-returns
 unfolding opened known _>>=_
@@ -15,8 +26,8 @@ returns c =
     let header = told .before .before in
     let s = header .before .before .before .before in
     c .refuse .ensures
-    ∙ sym (ap (opened (s .args .m .now)) (header-good (s .args .p .now) _ _ (header .before .number .ensures) _ _
-    (sym (told .enum-told .given .1) ∙ header .read-header .ensures) _ (s .pre .2 .template .value) _
+    ∙ sym (ap (opened _ (s .args .m .now)) (header-good (s .args .p .now) _ _ (header .before .number .ensures) _ _
+    (sym (told .enum-told .given .1) ∙ checked header) _ (s .pre .2 .template .value) _
     (sym (c .before .enum-told2 .given .1) ∙ s .pre .3)))
 
 open-by-requires : tie.Need-open-by-requires
@@ -32,15 +43,16 @@ returns-2 c =
     let header = told .before .before in
     let s = header .before .before .before .before in
     c .open-by .ensures (s .args .m .now) (s .pre .2)
-    ∙ sym (ap (opened (s .args .m .now)) (header-good (s .args .p .now) _ _ (header .before .number .ensures) _ _
-    (sym (told .enum-told .given .1) ∙ header .read-header .ensures) _ (s .pre .2 .template .value) _
+    ∙ sym (ap (opened _ (s .args .m .now)) (header-good (s .args .p .now) _ _ (header .before .number .ensures) _ _
+    (sym (told .enum-told .given .1) ∙ checked header) _ (s .pre .2 .template .value) _
     (sym (c .before .before .place .given .1) ∙ s .pre .3)))
 
 returns-3 : tie.Need-returns-3
 returns-3 c =
     let header = c .before .before .before in
-    sym (header-refused _ _ _ (header .before .number .ensures) _
-    (sym (c .before .refusal .given .1) ∙ header .read-header .ensures))
+    let s = header .before .before .before .before .args in
+    sym (header-refused (s .p .now) (s .m .now) _ (header .before .number .ensures) _
+    (sym (c .before .refusal .given .1) ∙ checked header))
 
 pub open-any-spec : {M : Type 1} → statement M
 open-any-spec =

@@ -2,6 +2,7 @@
 use mathlib.Core.Path.{_≡_}
 use native.Mathlib.Omega.{arith}
 use borrow.Author.Needs.{needs}
+use Rattle.ordered.proofs.Turns.{one-spelt}
 use Rattle.number_types.proofs.Types.{width-eight}
 use Rattle.number_types.proofs.raw.Statement.{statement}
 use Rattle.number_types.proofs.raw.Tie as tie
@@ -13,5 +14,6 @@ pub raw-spec : {M : Type 1} → statement M
 raw-spec =
     tie.close
     (tie.spec (λ c κs. search needs) (λ c κs. search needs) (λ c κs. search needs) (λ c κs. omega (arith, eight c))
-    (λ c. rw (c .before .match .keys1) (c .get1 .ensures)) (λ c. rw (c .before .match .keys2) (c .get2 .ensures))
+    (λ c. rw (c .before .match .keys1) (one-spelt _ (c .get1 .ensures)))
+    (λ c. rw (c .before .match .keys2) (c .get2 .ensures))
     (λ c. rw (c .before .match .keys3) (c .get4 .ensures)) (λ c. rw (eight (c .before)) (c .get8 .ensures)))

@@ -2,6 +2,7 @@
 use mathlib.Core.Path.{_≡_, refl}
 use native.Mathlib.Omega.{arith}
 use borrow.Author.Needs.{needs}
+use Rattle.ordered.proofs.Turns.{one-octet}
 use Rattle.number_types.proofs.Types.{width-eight}
 use Rattle.number_types.proofs.store.Statement.{statement}
 use Rattle.number_types.proofs.store.Tie as tie
@@ -14,7 +15,7 @@ store-spec =
     tie.close
     (tie.spec (λ c κs. search needs) (λ c κs. search needs) (λ c κs. search needs)
     (λ c κs. omega (arith, eight (c .before))) (λ c. search needs)
-    (λ c. rw (c .before .before .before .before .match .keys1) (refl, c .before .before .put1 .ensures))
+    (λ c. rw (c .before .before .before .before .match .keys1, one-octet _ _) (refl, c .before .before .put1 .ensures))
     (λ c. search needs)
     (λ c. rw (c .before .before .before .before .match .keys2) (refl, c .before .before .put2 .ensures))
     (λ c. search needs)

@@ -9,8 +9,10 @@ use borrow.Fn.Kinds.{In, Out}
 use borrow.Fn.PlainCycle.{Measures, is, falls, and}
 use lib.ListN.{length}
 use Rattle.layout.specs.BookRules.{word}
-use Rattle.prepared.specs.Positions.{BlockAt}
+use Rattle.prepared.specs.Positions.{BlockAt, isBig}
+use Rattle.prepared.proofs.Open.{head-there}
 use Rattle.prepared.proofs.number.Reads as number-reads
+use Rattle.prepared.proofs.is_big.Reads as is-big-reads
 use Rattle.prepared.proofs.need.Reads as need-reads
 use Rattle.prepared.proofs.open_row.Reads as open-row-reads
 use Rattle.wire.proofs.Dimensions.{good}
@@ -62,13 +64,14 @@ row-μ κs a = 4 * a .1 .1 .0 + 1
 
 -- Whatever is known at the start and used later stands in the invariant, so that no need looks further back than it.
 abbrev entries-Inv : entries-lts.InvT-loop
-entries-Inv p a depth m v l k start path i s t e turn due₀ at₀ found₀ long₀ due at found long =
+entries-Inv p a depth m v l k start path i s t e big turn due₀ at₀ found₀ long₀ due at found long =
     BlockAt (p .now) depth a × (length (m .now) ≤ 65535) × (at ≤ length (m .now)) × Path (path .now) (i + 2)
+    × (big ≡ isBig (p .now))
     × (entriesSought (p .now) depth a (m .now) v (path .now) i l (k - word (path .now) (i + 1)) nowhere k start
     ≡ entriesSought (p .now) depth a (m .now) v (path .now) i l turn (found, long) due at)
 
 abbrev entries-μ-loop : entries-lts.MeasureT-loop
-entries-μ-loop p a depth m v l k start path i s t e turn due₀ at₀ found₀ long₀ due at found long = due
+entries-μ-loop p a depth m v l k start path i s t e big turn due₀ at₀ found₀ long₀ due at found long = due
 
 module _ (t : ℕ) where
   abbrev inner-at : In 6 inner-kinds.ps
@@ -109,9 +112,10 @@ module _ (t : ℕ) where
   inner-returns c =
       let test = c .before in
       let steps = test .before in
-      let pre = steps .before .before .before .before .before .pre .1 in
+      let start = steps .before .before .before .before .before in
       let on =
-      inner-on _ _ _ _ _ _ _ _ _ _ _ (steps .before .if1 .taken) (path-next (pre .2) (test .if2 .taken) .inside) in
+      inner-on (start .args .p .now .now) _ _ _ _ _ _ _ _ _ _ (steps .before .if1 .taken)
+      (path-next (start .pre .1 .2) (test .if2 .taken) .inside) in
       (c .seek-row .ensures .0 ∙ sym on, c .seek-row .ensures .1)
 
   inner-pass-row-requires : inner-Need inner-lts.Need-pass-row-requires
@@ -125,9 +129,10 @@ module _ (t : ℕ) where
       let pass = c .before in
       let test = pass .before in
       let n = test .before .before .before in
+      let p = n .before .before .before .args .p .now .now in
       ends-walked _ _ _ _ _ (c .found-at .ensures)
       (rw (n .before .number .ensures, n .number2 .ensures) at (pass .pass-row .ensures))
-      (inner-last _ _ _ _ _ _ _ _ _ _ _ (test .before .before .if1 .taken) (test .if2 .left))
+      (inner-last p _ _ _ _ _ _ _ _ _ _ (test .before .before .if1 .taken) (test .if2 .left))
 
   inner-pass-row-requires-2 : inner-Need inner-lts.Need-pass-row-requires-2
   inner-pass-row-requires-2 c κs =
@@ -142,7 +147,7 @@ module _ (t : ℕ) where
       let args = n .before .before .before .args in
       ends-walked _ _ _ _ _ (c .found-at2 .ensures)
       (rw (n .before .number .ensures, n .number2 .ensures) at (pass .pass-row2 .ensures))
-      (inner-off _ _ _ _ _ (args .path .now .now) (args .i) _ _ _ _ (pass .before .if1 .left))
+      (inner-off (args .p .now .now) _ _ _ _ (args .path .now .now) (args .i) _ _ _ _ (pass .before .if1 .left))
 
   -- ---- the row of a block
 
@@ -280,6 +285,8 @@ module _ (t : ℕ) where
     pass-reads.Learnt,
     found-at-reads.Asked,
     found-at-reads.Learnt,
+    is-big-reads.Asked,
+    is-big-reads.Learnt,
     need-reads.Asked,
     need-reads.Learnt,
     open-group-reads.Asked,
@@ -303,16 +310,18 @@ module _ (t : ℕ) where
       let test = pass .before in
       let next = test .before .before in
       ends-walked _ _ _ _ _ (c .found-at .ensures) (rw (next .number .ensures) at (pass .pass-row .ensures))
-      (group-absent _ _ _ _ _ _ _ _ (next .before .open-row .ensures .tree) _ _ _
+      (group-absent _ _ _ _ _ _ _ _ _ (next .before .open-row .ensures .tree) _ _ _
       (rw (test .before .number2 .ensures) at (test .if1 .taken)))
 
   group-seek-entries-requires : group-Need group-lts.Need-seek-entries-requires
   group-seek-entries-requires c κs =
       let told = c .before in
       let call = told .before .before in
-      let row = call .before .before .before .before .before in
+      let row = call .before .before .before .before .before .before in
       let pre = row .before .before .before .pre .1 in
-      let dimension = good _ _ _ _ _ (sym (told .length .given .1) ∙ call .open-group .ensures) in (
+      let dimension =
+      good _ _ _ _ _ _ (sym (told .length .given .1) ∙ rw (call .before .before .is-big .ensures)
+      at (call .open-group .ensures)) in (
         omega (arith, row .open-row .ensures .deep),
         (
           row .open-row .ensures .first,
@@ -329,24 +338,24 @@ module _ (t : ℕ) where
       let seek = c .before .before in
       let told = seek .before .before in
       let call = told .before .before in
-      let test = call .before .before in
+      let test = call .before .before .before in
       let row = test .before .before .before in
       ends-refused _ _ (c .enum-told .given .1)
-      (entries-refused _ _ _ _ _ _ _ _ (row .open-row .ensures .tree) _ _ _
+      (entries-refused _ _ _ _ _ _ _ _ _ (row .open-row .ensures .tree) _ _ _
       (rw (test .before .number2 .ensures) at (test .if1 .left)) _ (call .before .need .ensures) _ _
-      (sym (told .length .given .1) ∙ call .open-group .ensures) _
+      (sym (told .length .given .1) ∙ rw (call .before .before .is-big .ensures) at (call .open-group .ensures)) _
       (sym (c .enum-told .given .1) ∙ seek .seek-entries .ensures .0))
 
   group-sub-pass-row-2 : group-Need group-lts.Need-sub-pass-row-2
   group-sub-pass-row-2 c =
       let seek = c .before .before .before in
-      let test = seek .before .before .before .before .before .before in
+      let test = seek .before .before .before .before .before .before .before in
       omega (arith, test .before .before .before .before .before .before .pre .1 .1)
 
   group-pass-row-requires-2 : group-Need group-lts.Need-pass-row-requires-2
   group-pass-row-requires-2 c κs =
       let seek = c .before .before .before in
-      let test = seek .before .before .before .before .before .before in
+      let test = seek .before .before .before .before .before .before .before in
       let next = test .before .before in
       let pre = next .before .before .before .before .pre .1 in
       let inside = leads-within _ _ _ _ (seek .seek-entries .ensures .1) (c .before .inside .given .1) in (
@@ -362,24 +371,24 @@ module _ (t : ℕ) where
       let seek = told2 .before .before in
       let told = seek .before .before in
       let call = told .before .before in
-      let test = call .before .before in
+      let test = call .before .before .before in
       let next = test .before .before in
       ends-walked _ _ _ _ _ (c .found-at2 .ensures) (rw (next .number .ensures) at (pass .pass-row2 .ensures))
-      (entries-passed _ _ _ _ _ _ _ _ (next .before .open-row .ensures .tree) _ _ _
+      (entries-passed _ _ _ _ _ _ _ _ _ (next .before .open-row .ensures .tree) _ _ _
       (rw (test .before .number2 .ensures) at (test .if1 .left)) _ (call .before .need .ensures) _ _
-      (sym (told .length .given .1) ∙ call .open-group .ensures) _ _ _
+      (sym (told .length .given .1) ∙ rw (call .before .before .is-big .ensures) at (call .open-group .ensures)) _ _ _
       (sym (told2 .inside .given .1) ∙ seek .seek-entries .ensures .0))
 
   group-returns-3 : group-Need group-lts.Need-returns-3
   group-returns-3 c =
       let told = c .before in
       let call = told .before .before in
-      let test = call .before .before in
+      let test = call .before .before .before in
       let row = test .before .before .before in
       ends-refused _ _ refl
-      (group-refused _ _ _ _ _ _ _ _ (row .open-row .ensures .tree) _ _ _
+      (group-refused _ _ _ _ _ _ _ _ _ (row .open-row .ensures .tree) _ _ _
       (rw (test .before .number2 .ensures) at (test .if1 .left)) _ (call .before .need .ensures) _
-      (sym (told .refusal .given .1) ∙ call .open-group .ensures))
+      (sym (told .refusal .given .1) ∙ rw (call .before .before .is-big .ensures) at (call .open-group .ensures)))
 
   -- ---- the entries of the group
 
@@ -389,6 +398,8 @@ module _ (t : ℕ) where
     number-reads.Learnt,
     plain-row-reads.Asked,
     plain-row-reads.Learnt,
+    is-big-reads.Asked,
+    is-big-reads.Learnt,
     turn-of-reads.Asked,
     turn-of-reads.Learnt,
     refuse-row-reads.Asked,
@@ -428,12 +439,13 @@ module _ (t : ℕ) where
 
   entries-loop-holds : entries-Need entries-lts.Need-loop-holds
   entries-loop-holds c =
-      let number = c .before .before .before in
+      let number = c .before .before .before .before in
       let pre = number .before .before .before .before .pre .1 in (
         pre .0,
         pre .1 .short,
         pre .1 .inside,
         path-next (pre .4) (pre .5),
+        c .before .is-big .ensures,
         rw (c .turn-of .ensures, number .number .ensures) refl,
       )
 
@@ -441,7 +453,7 @@ module _ (t : ℕ) where
   entries-returns-2 c =
       let i = c .before .before in
       ends-refused _ _ (c .refuse-row .ensures)
-      (i .before .loop .inv .4 ∙ entry-short-on _ _ _ _ _ _ _ _ _ _ (i .loop-test .taken) (omega arith))
+      (i .before .loop .inv .5 ∙ entry-short-on _ _ _ _ _ _ _ _ _ _ _ (i .loop-test .taken) (omega arith))
 
   entries-inner-row-requires : entries-Need entries-lts.Need-inner-row-requires
   entries-inner-row-requires c κs =
@@ -453,7 +465,7 @@ module _ (t : ℕ) where
       let call = c .before .before in
       let i = call .before .before in
       ends-refused _ _ (c .enum-told .given .1)
-      (i .before .loop .inv .4 ∙ entry-row-on _ _ _ _ _ _ _ _ _ _ (i .loop-test .taken) (omega arith) _ _
+      (i .before .loop .inv .5 ∙ entry-row-on _ _ _ _ _ _ _ _ _ _ _ (i .loop-test .taken) (omega arith) _ _
       (sym (c .enum-told .given .1) ∙ call .inner-row .ensures .0))
 
   entries-walk-datas-requires : entries-Need entries-lts.Need-walk-datas-requires
@@ -472,9 +484,11 @@ module _ (t : ℕ) where
       let told = at-datas .before .before in
       let row = told .before .before in
       let i = row .before .before in
-      let datas = rw (at-datas .number3 .ensures, call .before .number4 .ensures) at (call .walk-datas .ensures .0) in
+      let datas =
+      rw (at-datas .number3 .ensures, call .before .number4 .ensures, i .before .loop .inv .4)
+      at (call .walk-datas .ensures .0) in
       ends-refused _ _ (c .found-at .ensures ∙ found-refused _ _ _ (told2 .enum-told2 .given .1))
-      (i .before .loop .inv .4 ∙ entry-datas-on _ _ _ _ _ _ _ _ _ _ (i .loop-test .taken) (omega arith) _ _ _ _
+      (i .before .loop .inv .5 ∙ entry-datas-on _ _ _ _ _ _ _ _ _ _ _ (i .loop-test .taken) (omega arith) _ _ _ _
       (sym (told .inside .given .1) ∙ row .inner-row .ensures .0) _ (sym (told2 .enum-told2 .given .1) ∙ datas))
 
   entries-loop-again : entries-Need entries-lts.Need-loop-again
@@ -485,13 +499,15 @@ module _ (t : ℕ) where
       let row = told .before .before in
       let i = row .before .before in
       let inv = i .before .loop .inv in
-      let datas = rw (at-datas .number3 .ensures, call .before .number4 .ensures) at (call .walk-datas .ensures .0) in
+      let datas =
+      rw (at-datas .number3 .ensures, call .before .number4 .ensures, inv .4) at (call .walk-datas .ensures .0) in
       let end = leads _ _ _ _ _ _ (call .walk-datas .ensures .1) (c .before .datas .given .1) in (
         inv .0,
         inv .1,
         end .1,
         inv .3,
-        inv .4 ∙ entry-next-on _ _ _ _ _ _ _ _ _ _ (i .loop-test .taken) (omega arith) _ _ _ _
+        inv .4,
+        inv .5 ∙ entry-next-on _ _ _ _ _ _ _ _ _ _ _ (i .loop-test .taken) (omega arith) _ _ _ _
             (sym (told .inside .given .1) ∙ row .inner-row .ensures .0) refl _ _
             (sym (c .before .datas .given .1) ∙ datas),
       )
@@ -500,8 +516,8 @@ module _ (t : ℕ) where
   entries-returns-5 c =
       let last = c .before in
       let inv = last .before .loop .inv in
-      let ends = entries-done _ _ _ _ _ _ _ _ _ _ (last .loop-test .left) in
-      (c .row-to .ensures ∙ sym (inv .4 ∙ ends), within-to _ (c .row-to .ensures) (inv .2))
+      let ends = entries-done _ _ _ _ _ _ _ _ _ _ _ (last .loop-test .left) in
+      (c .row-to .ensures ∙ sym (inv .5 ∙ ends), within-to _ (c .row-to .ensures) (inv .2))
 
 pub +inner-row+seek-entries+seek-group+seek-row-spec : {M : Type 1} → statement M
 +inner-row+seek-entries+seek-group+seek-row-spec =
@@ -534,6 +550,7 @@ pub +inner-row+seek-entries+seek-group+seek-row-spec : {M : Type 1} → statemen
     (λ c. omega arith)
     (λ c κs. omega arith)
     (entries-returns t)
+    (λ c κs. head-there (c .before .before .before .before .before .before .pre .1 .0 .block))
     (λ c κs. tt)
     (entries-loop-holds t)
     (λ c. omega arith)
@@ -569,6 +586,7 @@ pub +inner-row+seek-entries+seek-group+seek-row-spec : {M : Type 1} → statemen
     (group-pass-row-requires t)
     (λ c κs. tt)
     (group-returns t)
+    (λ c κs. head-there (c .before .before .before .open-row .ensures .first .block))
     (λ c κs. search needs)
     (λ c κs. omega arith)
     (λ c. search needs)

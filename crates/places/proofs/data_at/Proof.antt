@@ -13,20 +13,20 @@ returns : tie.Need-returns
 returns c =
     let walk = c .before .before in
     let pre = walk .before .before .before .pre in
-    absurd (not-refused _ _ (datas-before _ _ _ _ _ _ _ (pre .2) (pre .4)) _
+    absurd (not-refused _ _ (datas-before _ _ _ _ _ _ _ _ (pre .2) (pre .4)) _
     (sym (c .enum-told .given .1) ∙ walk .walk-datas .ensures .0))
 
 -- What the data is, by the since that is read.
 here : (c : tie.After-number) → let told = c .before .before in
     let s = told .before .before .before .before .before .args in
-    DataHere (s .m .now) (s .v) (s .p .now) (c .number .result) (told .passed .given .0 .0)
-    (dataRead (s .k) (readDatas (s .m .now) (s .v) (parseDatas (s .p .now) (s .n) (s .from)) 0 (s .start)))
+    DataHere (s .big) (s .m .now) (s .v) (s .p .now) (c .number .result) (told .passed .given .0 .0)
+    (dataRead (s .k) (readDatas (s .big) (s .m .now) (s .v) (parseDatas (s .p .now) (s .n) (s .from)) 0 (s .start)))
 here c =
     let told = c .before .before in
     let walk = told .before .before in
     let pre = walk .before .before .before .pre in
     rw (c .number .ensures)
-    (data-here _ _ _ _ _ _ _ (pre .2) (pre .4) _ _ (sym (told .passed .given .1) ∙ walk .walk-datas .ensures .0))
+    (data-here _ _ _ _ _ _ _ _ (pre .2) (pre .4) _ _ (sym (told .passed .given .1) ∙ walk .walk-datas .ensures .0))
 
 pub data-at-spec : {M : Type 1} → statement M
 data-at-spec =

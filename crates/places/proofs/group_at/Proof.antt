@@ -2,7 +2,8 @@
 use mathlib.Core.Path.{sym, _∙_}
 use native.Mathlib.Omega.{arith}
 use borrow.Author.Needs.{needs}
-use Rattle.prepared.specs.Positions.{manyGroups, groupsFrom}
+use Rattle.prepared.specs.Positions.{manyGroups, groupsFrom, isBig}
+use Rattle.prepared.proofs.Open.{head-there}
 use Rattle.walk.specs.Walks.{rowAt}
 use Rattle.places.specs.Elements.{groupRead}
 use Rattle.places.proofs.Elements.{GroupHere, group-here, groups-before, not-refused}
@@ -46,7 +47,7 @@ number-requires-2 c κs =
 here : (c : tie.After-number2) → let told = c .before .before .before in
     let s = told .before .before .before .before .before .args in
     let p = s .p .now .now in
-    GroupHere (s .m .now .now) (s .v) (c .number2 .result) (told .passed .given .0 .0)
+    GroupHere (isBig p) (s .m .now .now) (s .v) (c .number2 .result) (told .passed .given .0 .0)
     (groupRead (s .k) (rowAt p (s .depth) (manyGroups p (s .a)) (groupsFrom p (s .a)) (s .m .now .now) (s .v)
     (s .start)))
 here c =
@@ -59,12 +60,13 @@ here c =
 
 returns-3 : tie.Need-returns-3
 returns-3 c =
-    rw (c .sizes-at .ensures .1 .value)
-    (sym (here (c .before .before .before) .counts (c .before .before .if1 .left)))
+    rw (c .sizes-at .ensures .1 .value, c .before .before .is-big .ensures)
+    (sym (here (c .before .before .before .before) .counts (c .before .before .before .if1 .left)))
 
 pub group-at-spec : {M : Type 1} → statement M
 group-at-spec =
     tie.close
     (tie.spec (λ c. omega arith) (λ c κs. omega arith) pass-row-requires (λ c. search needs) (λ c. search needs) returns
     skip-row-requires add-number-2 number-requires-2 (λ c. sym (here (c .before) .absent (c .if1 .taken)))
-    (λ c κs. omega (arith, here (c .before .before) .fits (c .before .if1 .left))) returns-3)
+    (λ c κs. head-there (c .before .before .before .before .before .before .before .before .before .pre .0 .block))
+    (λ c κs. omega (arith, here (c .before .before .before) .fits (c .before .before .if1 .left))) returns-3)

@@ -1,14 +1,14 @@
 -- Its elements are stored, then its groups one after the other, and its head when it is known where they end. The
 -- measure of a call is the depth left.
 use mathlib.Core.Path.{_≡_, ap}
-use Prim.Native.Nat.{ℕ, _+_, _<_}
+use Prim.Native.Nat.{ℕ, _<_}
 use native.Mathlib.Omega.{arith}
 use borrow.Fn.Kinds.{In, Out}
 use borrow.Fn.PlainCycle.{Measures, is, falls, and}
 use lib.ListN.{length}
 use lib.Seq.{length-sets}
 use Rattle.layout.specs.Book.{need as needOf}
-use Rattle.prepare.specs.Names.{GoodLists, fromIn, listsIn, versionOf}
+use Rattle.prepare.specs.Names.{GoodLists, bigIn, fromIn, listsIn, versionOf}
 use Rattle.prepare.specs.Positions.{BlockAt, shapeAt}
 use Rattle.book.proofs.word.Reads as word-reads
 use Rattle.prepare.proofs.Rows.{Storing, end-is, first-fits, group-stored, groups-stored, next-is, storing-on}
@@ -30,7 +30,8 @@ abbrev μ : Measures 3 kinds.ps ℕ
 abbrev Inv-loop : lts.InvT-loop
 Inv-loop book body w id since depth room₀ at need to₀ x₀ left₀ room to x left =
     BlockAt body depth w × (need ≡ needOf (versionOf book) (shapeAt (listsIn book) body w))
-    × Storing (listsIn book) (fromIn book) (versionOf book) body depth w at room₀ room left x to × GoodLists book
+    × Storing (listsIn book) (fromIn book) (bigIn book) (versionOf book) body depth w at room₀ room left x to
+    × GoodLists book
 
 abbrev μ-loop : lts.MeasureT-loop
 μ-loop book body w id since depth room₀ at need to₀ x₀ left₀ room to x left = left
@@ -72,7 +73,7 @@ module _ (t : ℕ) where
       let long = rw length-sets at (ap length (elements .put-elements .ensures .1)) in (
         start .pre .1 .1,
         elements .put-elements .ensures .0,
-        storing-starts _ _ _ _ _ _ _ _ _ _ _ (start .pre .1 .1) (omega (arith, long, start .pre .1 .2))
+        storing-starts _ _ _ _ _ _ _ _ _ _ _ _ (start .pre .1 .1) (omega (arith, long, start .pre .1 .2))
             (c .word .ensures .value) (from .groups-from .ensures) (omega (arith, own .size-block .ensures)),
         start .pre .1 .0,
       )
@@ -84,7 +85,7 @@ module _ (t : ℕ) where
       let start = l .before .before .before .before .before .before .before .before .before .before .before in
       let inv = l .loop .inv in
       let opened = o .open-row .ensures in
-      (omega (arith, opened .deep, start .pre .0), (inv .3, opened .block, first-fits _ _ _ (inv .2) opened 0 0))
+      (omega (arith, opened .deep, start .pre .0), (inv .3, opened .block, first-fits _ _ _ _ (inv .2) opened 0 0))
 
   loop-again : Need lts.Need-loop-again
   loop-again c =
@@ -95,9 +96,9 @@ module _ (t : ℕ) where
       let inv = o .before .before .loop .inv in (
         inv .0,
         inv .1,
-        storing-on _ _ _ (inv .2) (o .open-row .ensures) _ _ (id .word2 .ensures .value) (since .word3 .ensures .value)
-            (call .put-group .result) _ (call .put-group .ensures .0 .0) (call .put-group .ensures .0 .1)
-            (call .put-group .ensures .1),
+        storing-on _ _ _ _ (inv .2) (o .open-row .ensures) _ _ (id .word2 .ensures .value)
+            (since .word3 .ensures .value) (call .put-group .result) _ (call .put-group .ensures .0 .0)
+            (call .put-group .ensures .0 .1) (call .put-group .ensures .1),
         inv .3,
       )
 
@@ -114,10 +115,10 @@ module _ (t : ℕ) where
       let inv = l .loop .inv in
       let elements = l .before .before .before .before .before .before in
       let start = elements .before .before .before .before .before in
-      let next = next-is _ _ _ (inv .2) (none .loop-test .left) in (
-        (end-is _ _ _ (inv .2) (none .loop-test .left), next),
-        group-stored _ _ _ _ _ _ (inv .0) _ _ _ _ _ (start .args .room .now) _ _ _ (inv .1) next
-            (elements .put-elements .ensures .1) (groups-stored _ _ _ (inv .2) (none .loop-test .left))
+      let next = next-is _ _ _ _ (inv .2) (none .loop-test .left) in (
+        (end-is _ _ _ _ (inv .2) (none .loop-test .left), next),
+        group-stored _ _ _ _ _ _ _ (inv .0) _ _ _ _ _ (start .args .room .now) _ _ _ (inv .1) next
+            (elements .put-elements .ensures .1) (groups-stored _ _ _ _ (inv .2) (none .loop-test .left))
             (head .put-head .ensures),
       )
 

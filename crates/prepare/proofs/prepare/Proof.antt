@@ -1,10 +1,11 @@
 -- The numbers are counted, and stored if there is room for them.
 use mathlib.Core.Path.{_≡_, refl}
-use Prim.Native.Nat.{_+_, _*_}
+use Prim.Native.Nat.{_+_}
 use native.Mathlib.Omega.{arith}
 use borrow.Author.Needs.{needs}
 use Rattle.book.proofs.Rows.{head-says}
-use Rattle.prepared.specs.Numbers.{listsSize, sizesOf}
+use Rattle.layout.specs.BookRules.{headSize}
+use Rattle.prepared.specs.Numbers.{listsFrom, listsSize, sizesOf}
 use Rattle.prepare.specs.Names.{listsIn}
 use Rattle.prepare.specs.Templates.{IsPreparable, templatesAt}
 use Rattle.prepare.proofs.Accepted.{no-room, prepared, ready}
@@ -17,8 +18,8 @@ is-ready c = ready _ (c .before .before .before .pre) _ (c .word .ensures .value
 -- As many numbers as were counted.
 size-is : (c : tie.After-size-templates) → let n = c .before .before .word .result in
     let s = c .before .before .before .before .before .args .book .now in
-    68 + 2 * n + c .before .size-lists .result + c .size-templates .result
-    ≡ 68 + 2 * n + listsSize (listsIn s) + sizesOf (templatesAt s n 5)
+    listsFrom n + c .before .size-lists .result + c .size-templates .result
+    ≡ listsFrom n + listsSize (listsIn s) + sizesOf (templatesAt s n headSize)
 size-is c = rw (c .before .size-lists .ensures, c .size-templates .ensures) refl
 
 returns : tie.Need-returns

@@ -1,7 +1,7 @@
 -- The head, empty slots and the lists are stored, and then each template in turn.
 use mathlib.Core.Path.{_∙_, ap, refl, sym}
 use mathlib.Core.List.{List}
-use Prim.Native.Nat.{ℕ, _+_, _*_, _/_, _≤_}
+use Prim.Native.Nat.{ℕ, _+_, _/_, _≤_}
 use native.Mathlib.Omega.{arith}
 use borrow.Author.Needs.{needs}
 use lib.ListN.{length, length-set}
@@ -9,7 +9,7 @@ use lib.Seq.{length-sets, sets}
 use Rattle.layout.specs.Octets.{wordsOf}
 use Rattle.layout.specs.BookRules.{contentsSize, headSize}
 use Rattle.book.proofs.Rows.{head-says, lists-length}
-use Rattle.prepared.specs.Numbers.{listsNumbers}
+use Rattle.prepared.specs.Numbers.{listsFrom, listsNumbers}
 use Rattle.prepare.specs.Names.{GoodLists, listsIn}
 use Rattle.prepare.proofs.Templates.{First, Laying, all-laid, first-of, laying-on}
 use Rattle.prepare.proofs.put_book.Statement.{statement}
@@ -25,7 +25,7 @@ loop-holds : tie.Need-loop-holds Inv-loop μ-loop
 loop-holds c =
     let put = c .before .before in
     let zeros = put .before .before .before .before in
-    let pre = zeros .before .before .before .before .before .before .before .pre in
+    let pre = zeros .before .before .before .before .before .before .before .before .pre in
     let at = put .put-lists .ensures .0 in
     let cleared = simp (length-sets, length-set) at (ap length (zeros .put-zeros .ensures)) in
     let long = rw length-sets at (ap length (put .put-lists .ensures .1)) in (
@@ -41,7 +41,7 @@ loop-holds c =
 
 first : (c : tie.In-loop Inv-loop μ-loop) → let l = c .before .loop in
     First (c .before .before .before .before .before .before .before .before .before .before .before .before .before
-    .before .before .args .book .now) (l .left) (l .w)
+    .before .before .before .args .book .now) (l .left) (l .w)
 first c = first-of _ _ _ (c .loop-test .taken) (c .before .loop .inv .1 .are)
 
 -- The contents lie within the book.
@@ -52,7 +52,7 @@ fits c = head-says _ (c .pre .0 .lists .has .head) .fits
 put-lists-requires : tie.Need-put-lists-requires Inv-loop μ-loop
 put-lists-requires c κs =
     let zeros = c .before .before .before in
-    let pre = zeros .before .before .before .before .before .before .before .pre in
+    let pre = zeros .before .before .before .before .before .before .before .before .pre in
     let cleared = simp (length-sets, length-set) at (ap length (zeros .put-zeros .ensures)) in
     (pre .0 .lists, omega (arith, pre .1, cleared))
 
@@ -75,15 +75,16 @@ returns c =
     let l = c .before in
     let put = l .before .before .before in
     let zeros = put .before .before .before .before in
-    let many = zeros .before .before in
+    let order = zeros .before .before in
+    let many = order .before in
     let version = many .before in
     let schema = version .before in
     let start = schema .before .before .before in
     let s = start .args .book .now in
-    let listed : List ℕ → List ℕ = λ d. sets d (68 + 2 * start .args .n) (listsNumbers (listsIn s)) in
-    all-laid (l .loop .inv .1) (c .loop-test .left) _ _ _ (start .args .room .now) (start .pre .0 .count)
+    let listed : List ℕ → List ℕ = λ d. sets d (listsFrom (start .args .n)) (listsNumbers (listsIn s)) in
+    all-laid (l .loop .inv .1) (c .loop-test .left) _ _ _ _ (start .args .room .now) (start .pre .0 .count)
     (schema .word .ensures .value) (version .word2 .ensures .value)
-    (many .word3 .ensures .value ∙ sym (lists-length (wordsOf s) _ _))
+    (many .word3 .ensures .value ∙ sym (lists-length (wordsOf s) _ _)) (order .order-of .ensures)
     (put .put-lists .ensures .1 ∙ ap listed (zeros .put-zeros .ensures))
 
 pub put-book-spec : {M : Type 1} → statement M
@@ -92,6 +93,7 @@ put-book-spec =
     (tie.spec Inv-loop μ-loop (λ c κs. omega (arith, fits (c .before .before))) (λ c. search needs)
     (λ c κs. omega (arith, fits (c .before .before .before))) (λ c. simp length-set (search needs))
     (λ c. simp length-set (search needs)) (λ c κs. omega (arith, fits (c .before .before .before .before)))
+    (λ c. simp length-set (search needs)) (λ c κs. c .before .before .before .before .before .pre .0 .lists)
     (λ c. simp length-set (search needs)) (λ c κs. simp length-set (search needs))
     (λ c. search needs) (λ c. search needs) put-lists-requires loop-holds put-template-requires
     (λ c. omega (arith, c .before .before .before .before .before .loop .inv .1 .gap))

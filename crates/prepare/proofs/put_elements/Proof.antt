@@ -26,7 +26,7 @@ returns c =
     let start = d .before .before .before .before .before in
     let is-f = d .before .word .ensures .value in (
       table .put-table .ensures .0 ∙ rw is-f refl,
-      elements-stored _ _ _ _ _ _ _ (start .args .room .now) _ _ is-f
+      elements-stored _ _ _ _ _ _ _ _ (start .args .room .now) _ _ is-f
           (omega (arith, d .word2 .ensures .value)) (copy .copy-words .ensures) (table .put-table .ensures .1),
     )
 

@@ -27,17 +27,14 @@ some-are c = omega (arith, c .before .before .before .word .ensures .value, c .b
 
 first-is : (c : tie.After-word3) → let s = c .before .before .before .before .before .args .book .now in
     c .word3 .result ≡ word (wordsOf s) (headSize + 3 * word (wordsOf s) 2 + 1)
-first-is c =
-    let s = c .before .before .before .before .before .args .book .now in
-    let q : 6 + 3 * word (wordsOf s) 2 ≡ headSize + 3 * word (wordsOf s) 2 + 1 = omega arith in
-    c .word3 .ensures .value ∙ rw (c .before .word2 .ensures .value, q) refl
+first-is c = c .word3 .ensures .value ∙ rw (c .before .word2 .ensures .value) refl
 
 pub size-lists-spec : {M : Type 1} → statement M
 size-lists-spec =
     tie.close
     (tie.spec (λ c κs. omega (arith, fits c)) returns (λ c. search needs)
     (λ c κs. omega (arith, fits (c .before .before)))
-    (λ c. search needs) (λ c. search needs)
+    (λ c. search needs) (λ c. search needs) (λ c. search needs)
     (λ c κs. omega (
       arith,
       fits (c .before .before .before),

@@ -4,6 +4,7 @@ use mathlib.Core.List.{List}
 use Prim.Native.Nat.{ℕ, _+_, _-_, _*_, _≤_}
 use native.Mathlib.Omega.{arith}
 use lib.ListN.{drop, take}
+use Rattle.layout.specs.BookRules.{headSize}
 use Rattle.prepared.specs.Numbers.{sizesOf}
 use Rattle.prepare.specs.Positions.{groupSize}
 use Rattle.prepare.specs.Templates.{AreTemplates, IsBody, bodyAt, templateSize, templatesAt}
@@ -13,8 +14,8 @@ use Rattle.prepare.proofs.size_templates.Tie as tie
 
 abbrev Inv-loop : tie.InvT-loop
 Inv-loop book n left₀ w₀ seen₀ left w seen =
-    AreTemplates book left w × (sizesOf (templatesAt book n 5) ≤ 65535)
-    × (sizesOf (templatesAt book n 5) ≡ seen + sizesOf (templatesAt book left w))
+    AreTemplates book left w × (sizesOf (templatesAt book n headSize) ≤ 65535)
+    × (sizesOf (templatesAt book n headSize) ≡ seen + sizesOf (templatesAt book left w))
 
 abbrev μ-loop : tie.MeasureT-loop
 μ-loop book n left₀ w₀ seen₀ left w seen = left

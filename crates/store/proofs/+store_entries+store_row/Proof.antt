@@ -9,8 +9,9 @@ use borrow.Fn.PlainCycle.{Measures, is, falls, and}
 use Rattle.layout.specs.Book.{need}
 use Rattle.layout.specs.BookRules.{word}
 use Rattle.layout.proofs.Results.{and-right}
-use Rattle.prepared.specs.Positions.{BlockAt, IsRow, groupsAt, innerAt, nextFrom, shapeAt}
-use Rattle.prepared.proofs.Open.{no-datas-at, no-groups-at}
+use Rattle.prepared.specs.Positions.{BlockAt, IsRow, groupsAt, innerAt, isBig, nextFrom, shapeAt}
+use Rattle.prepared.proofs.Open.{head-there, no-datas-at, no-groups-at}
+use Rattle.prepared.proofs.is_big.Reads as is-big-reads
 use Rattle.prepared.proofs.number.Reads as number-reads
 use Rattle.prepared.proofs.open_row.Reads as open-row-reads
 use Rattle.wire.proofs.sizes_at.Reads as sizes-at-reads
@@ -45,21 +46,24 @@ abbrev entries-Inv : entries-lts.InvT-loop
 entries-Inv p a depth m v l k surplus room₀ s t follow due₀ here₀ room due here =
     (BlockAt (p .now) depth a × (need v (shapeAt (p .now) a) ≤ l) × (follow ≡ word (p .now) (a + 7) + surplus))
     × Lent (m .now) (here .at)
-    × Going (entriesPrint (m .now) v (shapeAt (p .now) a) (innerAt (p .now) depth a) surplus l k (here₀ .at))
-    (entriesPrint (m .now) v (shapeAt (p .now) a) (innerAt (p .now) depth a) surplus l due (here .at)) (here₀ .n) room₀
-    (here .n) room
+    × Going
+    (entriesPrint (isBig (p .now)) (m .now) v (shapeAt (p .now) a) (innerAt (p .now) depth a) surplus l k (here₀ .at))
+    (entriesPrint (isBig (p .now)) (m .now) v (shapeAt (p .now) a) (innerAt (p .now) depth a) surplus l due (here .at))
+    (here₀ .n) room₀ (here .n) room
 
 abbrev entries-μ-loop : entries-lts.MeasureT-loop
 entries-μ-loop p a depth m v l k surplus room₀ s t follow due₀ here₀ room due here = due
 
 abbrev row-Inv : row-lts.InvT-loop
-row-Inv p a depth m v surplus room₀ s t g₀ left₀ here₀ room g left here =
+row-Inv p a depth m v surplus room₀ s t big g₀ left₀ here₀ room g left here =
     IsRow (p .now) depth left g × Lent (m .now) (here .at)
-    × Going (groupsPrint (m .now) v (innerAt (p .now) depth a) surplus (here₀ .at))
-    (groupsPrint (m .now) v (groupsAt (p .now) depth left g) surplus (here .at)) (here₀ .n) room₀ (here .n) room
+    × Going (groupsPrint (isBig (p .now)) (m .now) v (innerAt (p .now) depth a) surplus (here₀ .at))
+    (groupsPrint (isBig (p .now)) (m .now) v (groupsAt (p .now) depth left g) surplus (here .at)) (here₀ .n) room₀
+    (here .n) room
+    × (big ≡ isBig (p .now))
 
 abbrev row-μ-loop : row-lts.MeasureT-loop
-row-μ-loop p a depth m v surplus room₀ s t g₀ left₀ here₀ room g left here = left
+row-μ-loop p a depth m v surplus room₀ s t big g₀ left₀ here₀ room g left here = left
 
 module _ (t : ℕ) where
   abbrev entries-at : In 5 entries-kinds.ps
@@ -94,7 +98,7 @@ module _ (t : ℕ) where
       let i = c .before in
       let inv = i .before .loop .inv in
       let block = inv .0 .0 .block in
-      let o = entry-open _ _ _ _ _ _ _ _ (i .loop-test .taken) (inv .2 .room .whole) in (
+      let o = entry-open _ _ _ _ _ _ _ _ _ (i .loop-test .taken) (inv .2 .room .whole) in (
         (block, fields-fit _ _ _ _ _ _ _ _ (and-right _ _ (block .good)) (omega arith) (inv .0 .1) (o .within)),
         ((inv .1 .short, o .within), going-first (inv .2) _ (o .same)),
       )
@@ -106,13 +110,13 @@ module _ (t : ℕ) where
       let i = call .before .before in
       let inv = i .before .loop .inv in
       let none = rw (inv .0 .2, inv .0 .0 .block .follow) at (c .if1 .taken) in
-      let o = entry-open _ _ _ _ _ _ _ _ (i .loop-test .taken) (inv .2 .room .whole) in
+      let o = entry-open _ _ _ _ _ _ _ _ _ (i .loop-test .taken) (inv .2 .room .whole) in
       let fields = going-call (inv .2) _ (o .same) (call .store-fields .ensures .0) in
       let groups = going-call fields _ refl (stored-none
-      (no-groups _ _ _ _ _ (no-groups-at _ _ _ _ (omega (arith, none))) (omega (arith, none)))) in (
+      (no-groups _ _ _ _ _ _ (no-groups-at _ _ _ _ (omega (arith, none))) (omega (arith, none)))) in (
         inv .0,
         record { short = inv .1 .short; inside = call .store-fields .ensures .1 },
-        going-call groups _ refl (stored-none (no-datas _ _ _ _ (no-datas-at _ _ _ (omega (arith, none))))),
+        going-call groups _ refl (stored-none (no-datas _ _ _ _ _ (no-datas-at _ _ _ (omega (arith, none))))),
       )
 
   entries-store-row-requires : entries-Need entries-lts.Need-store-row-requires
@@ -120,7 +124,7 @@ module _ (t : ℕ) where
       let call = c .before .before .before .before in
       let i = call .before .before in
       let inv = i .before .loop .inv in
-      let o = entry-open _ _ _ _ _ _ _ _ (i .loop-test .taken) (inv .2 .room .whole) in
+      let o = entry-open _ _ _ _ _ _ _ _ _ (i .loop-test .taken) (inv .2 .room .whole) in
       let fields = going-call (inv .2) _ (o .same) (call .store-fields .ensures .0) in (
         omega arith,
         (
@@ -135,7 +139,7 @@ module _ (t : ℕ) where
       let call = row .before .before .before .before .before in
       let i = call .before .before in
       let inv = i .before .loop .inv in
-      let o = entry-open _ _ _ _ _ _ _ _ (i .loop-test .taken) (inv .2 .room .whole) in
+      let o = entry-open _ _ _ _ _ _ _ _ _ (i .loop-test .taken) (inv .2 .room .whole) in
       let fields = going-call (inv .2) _ (o .same) (call .store-fields .ensures .0) in
       let groups = going-call fields _ refl (row .store-row .ensures .0) in (
         (inv .0 .0 .block, record { short = inv .1 .short; inside = row .store-row .ensures .1 }),
@@ -149,7 +153,7 @@ module _ (t : ℕ) where
       let call = row .before .before .before .before .before in
       let i = call .before .before in
       let inv = i .before .loop .inv in
-      let o = entry-open _ _ _ _ _ _ _ _ (i .loop-test .taken) (inv .2 .room .whole) in
+      let o = entry-open _ _ _ _ _ _ _ _ _ (i .loop-test .taken) (inv .2 .room .whole) in
       let fields = going-call (inv .2) _ (o .same) (call .store-fields .ensures .0) in
       let groups = going-call fields _ refl (row .store-row .ensures .0) in (
         inv .0,
@@ -159,6 +163,8 @@ module _ (t : ℕ) where
 
   abbrev row-claims : row-lts.Claims
   row-claims = (
+    is-big-reads.Asked,
+    is-big-reads.Learnt,
     number-reads.Asked,
     number-reads.Learnt,
     open-row-reads.Asked,
@@ -179,15 +185,16 @@ module _ (t : ℕ) where
 
   row-loop-holds : row-Need row-lts.Need-loop-holds
   row-loop-holds c =
-      let pre = c .before .before .before .before .before .pre .1 in
-      rw (c .before .number .ensures, c .number2 .ensures) (pre .0 .0 .row, pre .0 .1, going-none (pre .1))
+      let pre = c .before .before .before .before .before .before .pre .1 in
+      rw (c .before .number .ensures, c .number2 .ensures)
+      (pre .0 .0 .row, pre .0 .1, going-none (pre .1), c .before .before .is-big .ensures)
 
   row-store-answer-requires : row-Need row-lts.Need-store-answer-requires
   row-store-answer-requires c κs =
       let test = c .before in
       let row = test .before .before .before in
       let g = row .before .before .loop .inv .2 in
-      going-first g _ (group-absent _ _ _ _ _ _ _ _ (row .open-row .ensures .tree) (g .room .whole)
+      going-first g _ (group-absent _ _ _ _ _ _ _ _ _ (row .open-row .ensures .tree) (g .room .whole)
       (rw (test .before .number4 .ensures) at (test .if1 .taken)))
 
   row-loop-again : row-Need row-lts.Need-loop-again
@@ -202,30 +209,31 @@ module _ (t : ℕ) where
       rw (test .before .before .number3 .ensures) (
         opened .rest,
         rw (call .store-answer .ensures .place) (inv .1),
-        going-call g _ (group-absent _ _ _ _ _ _ _ _ (opened .tree) (g .room .whole)
+        going-call g _ (group-absent _ _ _ _ _ _ _ _ _ (opened .tree) (g .room .whole)
             (rw (test .before .number4 .ensures) at (test .if1 .taken))) (call .store-answer .ensures),
+        inv .3,
       )
 
   -- A group that is present was accepted.
   row-opened : (c : row-Need row-lts.Else1)
       → let l = c .before .before .before .before .before in
-      let a = l .before .before .before .before .before .before .args in
+      let a = l .before .before .before .before .before .before .before .args in
       let p = a .p .now .now in
       let g = l .loop .g in
-      GroupOpen (a .m .now .now) (a .v) (groupsAt p (a .depth) (l .loop .left) g) (shapeAt p g)
+      GroupOpen (isBig p) (a .m .now .now) (a .v) (groupsAt p (a .depth) (l .loop .left) g) (shapeAt p g)
       (innerAt p (a .depth - 1) g) (groupsAt p (a .depth) (l .loop .left - 1) (nextFrom p g)) (a .surplus)
       (l .loop .here .at)
   row-opened c =
       let row = c .before .before .before in
-      group-open _ _ _ _ _ _ _ _ (row .open-row .ensures .tree) (row .before .before .loop .inv .2 .room .whole)
+      group-open _ _ _ _ _ _ _ _ _ (row .open-row .ensures .tree) (row .before .before .loop .inv .2 .room .whole)
       (rw (c .before .number4 .ensures) at (c .if1 .left))
 
   row-store-answer-requires-2 : row-Need row-lts.Need-store-answer-requires-2
   row-store-answer-requires-2 c κs =
       let sizes = c .before .before in
       let test = sizes .before in
-      rw (sizes .sizes-at .ensures .1 .value)
-      (going-first (test .before .before .before .before .before .loop .inv .2) _ (row-opened test .same))
+      let inv = test .before .before .before .before .before .loop .inv in
+      rw (rw (inv .3) at (sizes .sizes-at .ensures .1 .value)) (going-first (inv .2) _ (row-opened test .same))
 
   row-store-entries-requires : row-Need row-lts.Need-store-entries-requires
   unfolding endOf
@@ -237,11 +245,15 @@ module _ (t : ℕ) where
       let opened = row .open-row .ensures in
       let inv = row .before .before .loop .inv in
       let here = row-opened test in
-      let l = sizes .sizes-at .ensures .0 .value in
-      let k = sizes .sizes-at .ensures .1 .value in
+      let l = rw (inv .3) at (sizes .sizes-at .ensures .0 .value) in
+      let k = rw (inv .3) at (sizes .sizes-at .ensures .1 .value) in
       let is-put = rw k at (put .store-answer2 .ensures) in
       let entries = going-call (inv .2) _ (here .same) is-put in (
-        omega (arith, opened .deep, row .before .before .before .before .before .before .before .before .pre .0),
+        omega (
+          arith,
+          opened .deep,
+          row .before .before .before .before .before .before .before .before .before .pre .0,
+        ),
         (
           rw l (opened .first, here .needs, omega arith),
           (
@@ -259,26 +271,31 @@ module _ (t : ℕ) where
       let test = sizes .before in
       let row = test .before .before .before in
       let inv = row .before .before .loop .inv in
-      let k = sizes .sizes-at .ensures .1 .value in
+      let l = rw (inv .3) at (sizes .sizes-at .ensures .0 .value) in
+      let k = rw (inv .3) at (sizes .sizes-at .ensures .1 .value) in
       let entries = going-call (inv .2) _ (row-opened test .same) (rw k at (put .store-answer2 .ensures)) in
       rw (test .before .before .number3 .ensures) (
         row .open-row .ensures .rest,
         record { short = inv .1 .short; inside = call .store-entries .ensures .1 },
-        going-call entries _ refl
-            (rw (sizes .sizes-at .ensures .0 .value, k) at (call .store-entries .ensures .0)),
+        going-call entries _ refl (rw (l, k) at (call .store-entries .ensures .0)),
+        inv .3,
       )
 
   row-pass-surplus-requires : row-Need row-lts.Need-pass-surplus-requires
   row-pass-surplus-requires c κs =
       let inv = c .before .loop .inv in
-      (surplus-accepted _ _ _ _ _ (no-groups-at _ _ _ _ (c .loop-test .left)) (inv .2 .room .whole), inv .1 .inside)
+      rw (inv .3) (
+        surplus-accepted _ _ _ _ _ _ (no-groups-at _ _ _ _ (c .loop-test .left)) (inv .2 .room .whole),
+        inv .1 .inside,
+      )
 
   row-returns : row-Need row-lts.Need-returns
   row-returns c =
       let loop = c .before in
-      let g = loop .before .loop .inv .2 in
-      let end = c .pass-surplus .ensures in
-      let past = surplus-stored _ _ _ _ _ (no-groups-at _ _ _ _ (loop .loop-test .left)) (g .room .whole) (end .0) in
+      let inv = loop .before .loop .inv in
+      let g = inv .2 in
+      let end = rw (inv .3) at (c .pass-surplus .ensures) in
+      let past = surplus-stored _ _ _ _ _ _ (no-groups-at _ _ _ _ (loop .loop-test .left)) (g .room .whole) (end .0) in
       (going-end g past, end .1)
 
 pub +store-entries+store-row-spec : {M : Type 1} → statement M
@@ -290,12 +307,13 @@ pub +store-entries+store-row-spec : {M : Type 1} → statement M
     (entries-store-fields-requires t) (λ c. omega arith) (entries-loop-again t) (entries-store-row-requires t)
     (entries-store-datas-requires t) (λ c. omega arith) (entries-loop-again-2 t) (λ c. omega arith)
     (λ c. (
-      going-end (c .before .loop .inv .2) (stored-none (entries-end _ _ _ _ _ _ _ _ (c .loop-test .left))),
+      going-end (c .before .loop .inv .2) (stored-none (entries-end _ _ _ _ _ _ _ _ _ (c .loop-test .left))),
       c .before .loop .inv .1 .inside,
     )))
     (λ t.
     row-lts.spec (row-claims t) (row-at t) row-reads.Post row-Inv row-μ-loop
-    (λ c. omega arith) (λ c κs. omega arith) (λ c. omega arith) (λ c κs. omega arith) (row-loop-holds t)
+    (λ c κs. head-there (c .before .before .before .pre .1 .0 .0 .block)) (λ c. omega arith) (λ c κs. omega arith)
+    (λ c. omega arith) (λ c κs. omega arith) (row-loop-holds t)
     (λ c κs. search needs) (λ c. omega arith) (λ c κs. omega arith) (λ c. omega arith) (λ c. omega arith)
     (λ c κs. omega arith) (row-store-answer-requires t) (λ c. omega arith) (row-loop-again t)
     (λ c κs. row-opened t c .within) (λ c. omega (arith, row-opened t (c .before .before) .within))

@@ -11,14 +11,14 @@ use Rattle.store.proofs.pass_surplus.Tie as tie
 returns : tie.Need-returns
 returns c =
     let call = c .before .before in
-    let passed = surplus-passed _ _ _ (call .before .before .pre .0) (call .skip-groups .ensures .0) in
+    let passed = surplus-passed _ _ _ _ (call .before .before .pre .0) (call .skip-groups .ensures .0) in
     absurd (let z : _≡_ {A = ℕ} 0 1 = cc (sym (c .enum-told .given .1) ∙ passed) in omega arith)
 
 returns-2 : tie.Need-returns-2
 returns-2 c =
     let told = c .before in
     let call = told .before .before in
-    let passed = surplus-passed _ _ _ (call .before .before .pre .0) (call .skip-groups .ensures .0) in (
+    let passed = surplus-passed _ _ _ _ (call .before .before .pre .0) (call .skip-groups .ensures .0) in (
       cc (sym (told .surplus .given .1) ∙ passed),
       lies-on _ _ _ _ _ (call .skip-groups .ensures .1) (told .surplus .given .1) .1,
     )

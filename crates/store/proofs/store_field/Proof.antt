@@ -8,7 +8,7 @@ use borrow.Author.Tests.{not-true}
 use Rattle.layout.specs.Lists.{beside, has}
 use Rattle.layout.specs.Message.{readField}
 use Rattle.prepared.specs.Names.{HasNames}
-use Rattle.prepared.specs.Positions.{fieldAt}
+use Rattle.prepared.specs.Positions.{fieldAt, isBig}
 use Rattle.prepared.proofs.Names.{names-free, names-here, no-lists}
 use Rattle.fields.proofs.Fields.{field-bare, field-beside}
 use Rattle.store.proofs.Records.{Holds, is-listed, is-unlisted, no-number, record-stored, stored-anew}
@@ -26,7 +26,7 @@ returns c =
     let p = c .before .before .before in
     let s = start p in
     record-stored _ _ _ (p .put .ensures)
-    (field-bare _ _ _ _ _ _ _ (s .pre .0 .field) (p .before .read-plain .ensures)
+    (field-bare _ _ _ _ _ _ _ _ (s .pre .0 .field) (p .before .read-plain .ensures)
     (no-lists (s .pre .0 .field) (sym (s .pre .1) ∙ not-true _ (c .if1 .taken))))
 
 -- The place that stands for the field's list leads to its names.
@@ -38,7 +38,7 @@ returns-2 : tie.Need-returns-2
 returns-2 c =
     let p = put (c .before .before) in
     record-stored _ _ _ (p .put .ensures)
-    (field-bare _ _ _ _ _ _ _ (start p .pre .0 .field) (p .before .read-plain .ensures)
+    (field-bare _ _ _ _ _ _ _ _ (start p .pre .0 .field) (p .before .read-plain .ensures)
     (names-free (leads (c .before)) (c .if2 .taken)))
 
 held : (c : tie.Else1) → let p = put c in
@@ -48,10 +48,10 @@ held c = record { fits = start (put c) .pre .2; is = put c .put .ensures }
 -- What was read is, beside the field's list, what the field is.
 seen : (c : tie.Else1) → let a = start (put c) .args in
     beside (fieldAt (a .p .now) (a .f) .names) (put c .before .read-plain .result)
-    ≡ readField (a .m .now) (a .v) (a .at) (fieldAt (a .p .now) (a .f))
+    ≡ readField (isBig (a .p .now)) (a .m .now) (a .v) (a .at) (fieldAt (a .p .now) (a .f))
 seen c =
     let field = start (put c) .pre .0 .field in
-    field-beside _ _ _ _ _ _ _ field (put c .before .read-plain .ensures) _ (rw (field .derived .names .names) refl)
+    field-beside _ _ _ _ _ _ _ _ field (put c .before .read-plain .ensures) _ (rw (field .derived .names .names) refl)
 
 returns-3 : tie.Need-returns-3
 returns-3 c =

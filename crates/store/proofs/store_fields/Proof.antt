@@ -5,7 +5,7 @@ use native.Mathlib.Omega.{arith}
 use Rattle.layout.specs.Result.{Each}
 use Rattle.layout.specs.BookRules.{parseFields}
 use Rattle.prepared.specs.Names.{hasLists, listsAt}
-use Rattle.prepared.specs.Positions.{IsBlock, fieldsFrom, manyFields, shapeAt, tableFrom}
+use Rattle.prepared.specs.Positions.{IsBlock, fieldsFrom, isBig, manyFields, shapeAt, tableFrom}
 use Rattle.fields.specs.Readable.{Fits}
 use Rattle.fields.proofs.Fields.{fields-each}
 use Rattle.prepared.proofs.Open.{field-here}
@@ -22,7 +22,8 @@ Inv-loop p a m v l room₀ at left₀ f₀ t₀ n₀ listed room left f t n =
     IsBlock p a × (left ≤ manyFields p a)
     × (f + 7 * left ≡ fieldsFrom p a + 7 * manyFields p a) × (t + 6 * left ≡ tableFrom p a + 6 * manyFields p a)
     × Each (Fits m v at) fields × (listed ≡ hasLists p)
-    × Going (fieldsPrint m v (shapeAt p a .fields) l at) (fieldsPrint m v fields l at) n₀ room₀ n room
+    × Going (fieldsPrint (isBig p) m v (shapeAt p a .fields) l at) (fieldsPrint (isBig p) m v fields l at) n₀ room₀ n
+    room
 
 abbrev μ-loop : tie.MeasureT-loop
 μ-loop p a m v l room₀ at left₀ f₀ t₀ n₀ listed room left f t n = left
@@ -43,7 +44,7 @@ store-field-requires c κs =
         fits = fields-each _ _ _ _ here (inv .4) .0;
       },
       inv .5,
-      room-three _ (going-first (inv .6) _ (fields-next _ _ _ _ _ _ _ here)),
+      room-three _ (going-first (inv .6) _ (fields-next _ _ _ _ _ _ _ _ here)),
     )
 
 loop-again : tie.Need-loop-again Inv-loop μ-loop
@@ -57,7 +58,7 @@ loop-again c =
       omega arith,
       fields-each _ _ _ _ (i .loop-test .taken) (inv .4) .1,
       inv .5,
-      going-call (inv .6) _ (fields-next _ _ _ _ _ _ _ (i .loop-test .taken)) (call .store-field .ensures),
+      going-call (inv .6) _ (fields-next _ _ _ _ _ _ _ _ (i .loop-test .taken)) (call .store-field .ensures),
     )
 
 pub store-fields-spec : {M : Type 1} → statement M
@@ -70,6 +71,6 @@ store-fields-spec =
     (λ c. omega arith) (λ c. omega arith) (λ c. omega arith) (λ c. omega arith) loop-again (λ c. omega arith)
     (λ c. omega arith)
     (λ c. (
-      going-end (c .before .loop .inv .6) (stored-none (fields-end _ _ _ _ _ _ _ (c .loop-test .left))),
+      going-end (c .before .loop .inv .6) (stored-none (fields-end _ _ _ _ _ _ _ _ (c .loop-test .left))),
       omega arith,
     )))

@@ -8,10 +8,11 @@ use borrow.Author.Needs.{needs}
 use borrow.Fn.Kinds.{In, Out}
 use borrow.Fn.PlainCycle.{Measures, is, falls, and}
 use lib.ListN.{length}
-use Rattle.prepared.specs.Positions.{BlockAt, IsRow, manyFields}
+use Rattle.prepared.specs.Positions.{BlockAt, IsRow, isBig, manyFields}
 use Rattle.prepared.proofs.Accepted.{fields-length}
-use Rattle.prepared.proofs.Open.{no-groups-at}
+use Rattle.prepared.proofs.Open.{head-there, no-groups-at}
 use Rattle.prepared.proofs.number.Reads as number-reads
+use Rattle.prepared.proofs.is_big.Reads as is-big-reads
 use Rattle.prepared.proofs.need.Reads as need-reads
 use Rattle.prepared.proofs.open_row.Reads as open-row-reads
 use Rattle.wire.specs.Walks.{walked}
@@ -47,13 +48,14 @@ row-μ κs a = 3 * a .1 .1 .1 .0
 
 -- Whatever is known at the start and used later stands in the invariant, so that no need looks further back than it.
 abbrev entries-Inv : entries-lts.InvT-loop
-entries-Inv p a depth m v l k start s t fields due₀ at₀ seen₀ due at seen =
+entries-Inv p a depth m v l k start s t fields big due₀ at₀ seen₀ due at seen =
     BlockAt (p .now) depth a × (length (m .now) ≤ 65535) × (due ≤ k) × (k ≤ 65535) × (fields ≡ manyFields (p .now) a)
+    × (big ≡ isBig (p .now))
     × Way (m .now) start (96 * k) (walked (valuesEnd 0) (entriesAt (p .now) depth a (m .now) v l k start))
     (walked (valuesEnd seen) (entriesAt (p .now) depth a (m .now) v l due at)) seen (96 * due) at
 
 abbrev entries-μ-loop : entries-lts.MeasureT-loop
-entries-μ-loop p a depth m v l k start s t fields due₀ at₀ seen₀ due at seen = due
+entries-μ-loop p a depth m v l k start s t fields big due₀ at₀ seen₀ due at seen = due
 
 abbrev row-Inv : row-lts.InvT-loop
 row-Inv p first n depth m v start s t a₀ left₀ at₀ seen₀ a left at seen =
@@ -84,12 +86,14 @@ module _ (t : ℕ) where
   pass-returns c =
       let pre = c .before .pre .1 in
       way-ends (way-starts _ _ _ _ (pre .1 .inside))
-      (groups-done _ _ _ _ _ (no-groups-at _ _ _ _ (omega (arith, c .if1 .taken))))
+      (groups-done _ _ _ _ _ _ (no-groups-at _ _ _ _ (omega (arith, c .if1 .taken))))
 
   abbrev entries-claims : entries-lts.Claims
   entries-claims = (
     number-reads.Asked,
     number-reads.Learnt,
+    is-big-reads.Asked,
+    is-big-reads.Learnt,
     refuse-reads.Asked,
     refuse-reads.Learnt,
     and 4 pass-kinds.ps (falls 4 pass-kinds.ps _<_ pass-μ t) pass-reads.Pre,
@@ -109,8 +113,8 @@ module _ (t : ℕ) where
       let start = c .before .before .before .before .before in
       omega (arith, mul-le-mul-right (start .args .k) (start .pre .1 .2))
 
-  entries-mul-t30 : entries-Need entries-lts.Need-mul-t30
-  entries-mul-t30 c =
+  entries-mul-t31 : entries-Need entries-lts.Need-mul-t31
+  entries-mul-t31 c =
       let start = c .before .before .before .before .before .before in
       let few = mul-le-mul-right (start .args .k) (start .pre .1 .0 .block .fewFields) in
       rw (c .before .before .before .number .ensures) (omega arith)
@@ -124,20 +128,22 @@ module _ (t : ℕ) where
 
   entries-loop-holds : entries-Need entries-lts.Need-loop-holds
   entries-loop-holds c =
-      let start = c .before .before .before .before .before in (
+      let follow = c .before .before in
+      let start = follow .before .before .before .before in (
         start .pre .1 .0,
         omega arith,
         omega arith,
         omega arith,
-        c .before .before .number .ensures,
+        follow .before .number .ensures,
+        c .is-big .ensures,
         way-starts _ _ _ _ (omega arith),
       )
 
   entries-returns-2 : entries-Need entries-lts.Need-returns-2
   entries-returns-2 c =
       let i = c .before .before in
-      way-refused (i .before .loop .inv .5) _ (c .refuse .ensures)
-      (entry-short _ _ _ _ _ _ _ _ (i .loop-test .taken) (omega arith))
+      way-refused (i .before .loop .inv .6) _ (c .refuse .ensures)
+      (entry-short _ _ _ _ _ _ _ _ _ (i .loop-test .taken) (omega arith))
 
   entries-pass-row-requires : entries-Need entries-lts.Need-pass-row-requires
   entries-pass-row-requires c κs =
@@ -156,8 +162,8 @@ module _ (t : ℕ) where
       let at-row = call .before .before in
       let i = at-row .before .before in
       let row = rw (at-row .number3 .ensures, call .before .number4 .ensures) at (call .pass-row .ensures .0) in
-      way-refused (i .before .loop .inv .5) _ (c .enum-told .given .1)
-      (entry-row _ _ _ _ _ _ _ _ (i .loop-test .taken) (omega arith) _ (sym (c .enum-told .given .1) ∙ row))
+      way-refused (i .before .loop .inv .6) _ (c .enum-told .given .1)
+      (entry-row _ _ _ _ _ _ _ _ _ (i .loop-test .taken) (omega arith) _ (sym (c .enum-told .given .1) ∙ row))
 
   entries-walk-datas-requires : entries-Need entries-lts.Need-walk-datas-requires
   entries-walk-datas-requires c κs =
@@ -176,9 +182,11 @@ module _ (t : ℕ) where
       let at-row = call-row .before .before in
       let i = at-row .before .before in
       let row = rw (at-row .number3 .ensures, call-row .before .number4 .ensures) at (call-row .pass-row .ensures .0) in
-      let datas = rw (at-datas .number5 .ensures, call .before .number6 .ensures) at (call .walk-datas .ensures .0) in
-      way-refused (i .before .loop .inv .5) _ (c .enum-told2 .given .1)
-      (entry-datas _ _ _ _ _ _ _ _ (i .loop-test .taken) (omega arith) _ _ (sym (told .row .given .1) ∙ row) _
+      let inv = i .before .loop .inv in
+      let there = rw (at-datas .number5 .ensures, call .before .number6 .ensures) at (call .walk-datas .ensures .0) in
+      let datas = rw (inv .5) at there in
+      way-refused (inv .6) _ (c .enum-told2 .given .1)
+      (entry-datas _ _ _ _ _ _ _ _ _ (i .loop-test .taken) (omega arith) _ _ (sym (told .row .given .1) ∙ row) _
       (sym (c .enum-told2 .given .1) ∙ datas))
 
   entries-total-requires : entries-Need entries-lts.Need-total-requires
@@ -202,7 +210,8 @@ module _ (t : ℕ) where
       let i = at-row .before .before in
       let inv = i .before .loop .inv in
       let row = rw (at-row .number3 .ensures, call-row .before .number4 .ensures) at (call-row .pass-row .ensures .0) in
-      let datas = rw (at-datas .number5 .ensures, call .before .number6 .ensures) at (call .walk-datas .ensures .0) in
+      let there = rw (at-datas .number5 .ensures, call .before .number6 .ensures) at (call .walk-datas .ensures .0) in
+      let datas = rw (inv .5) at there in
       let on = leads _ _ _ _ _ _ (call-row .pass-row .ensures .1) (told .row .given .1) in
       let end = leads _ _ _ _ _ _ (call .walk-datas .ensures .1) (datas-told .datas .given .1) in
       rw (c .total .ensures) (
@@ -211,8 +220,9 @@ module _ (t : ℕ) where
         omega arith,
         omega arith,
         inv .4,
-        way-on (inv .5) _ _ _
-            (entry-next _ _ _ _ _ _ _ _ (i .loop-test .taken) (omega arith) _ _ (sym (told .row .given .1) ∙ row)
+        inv .5,
+        way-on (inv .6) _ _ _
+            (entry-next _ _ _ _ _ _ _ _ _ (i .loop-test .taken) (omega arith) _ _ (sym (told .row .given .1) ∙ row)
             _ _ _ (sym (datas-told .datas .given .1) ∙ datas) (inv .4 ∙ sym (fields-length _ _ _ _)))
             (omega arith) (end .1) (omega arith),
       )
@@ -223,6 +233,8 @@ module _ (t : ℕ) where
     open-row-reads.Learnt,
     number-reads.Asked,
     number-reads.Learnt,
+    is-big-reads.Asked,
+    is-big-reads.Learnt,
     need-reads.Asked,
     need-reads.Learnt,
     open-group-reads.Asked,
@@ -245,7 +257,7 @@ module _ (t : ℕ) where
         inv .1,
         inv .2,
         way-on (inv .3) _ _ _
-            (row-absent _ _ _ _ _ _ _ _ _ (opened .tree) _ (rw (test .before .number .ensures) at (test .if1 .taken)))
+            (row-absent _ _ _ _ _ _ _ _ _ _ (opened .tree) _ (rw (test .before .number .ensures) at (test .if1 .taken)))
             (omega arith) (inv .3 .inside) (omega arith),
       )
 
@@ -253,19 +265,20 @@ module _ (t : ℕ) where
   row-returns c =
       let told = c .before in
       let call = told .before .before in
-      let test = call .before .before in
+      let test = call .before .before .before in
       let at-row = test .before .before in
       way-refused (at-row .before .before .loop .inv .3) _ refl
-      (row-dimension _ _ _ _ _ _ _ _ _ (at-row .open-row .ensures .tree) _
+      (row-dimension _ _ _ _ _ _ _ _ _ _ (at-row .open-row .ensures .tree) _
       (rw (test .before .number .ensures) at (test .if1 .left)) _ (call .before .need .ensures) _
-      (sym (told .refusal .given .1) ∙ call .open-group .ensures))
+      (sym (told .refusal .given .1) ∙ rw (call .before .before .is-big .ensures) at (call .open-group .ensures)))
 
   row-walk-entries-requires : row-Need row-lts.Need-walk-entries-requires
   row-walk-entries-requires c κs =
       let told = c .before in
       let call = told .before .before in
-      let at-row = call .before .before .before .before in
-      let dimension = good _ _ _ _ _ (sym (told .length .given .1) ∙ call .open-group .ensures) in (
+      let at-row = call .before .before .before .before .before in
+      let is = rw (call .before .before .is-big .ensures) at (call .open-group .ensures) in
+      let dimension = good _ _ _ _ _ _ (sym (told .length .given .1) ∙ is) in (
         omega (arith, at-row .open-row .ensures .deep),
         (
           at-row .open-row .ensures .first,
@@ -280,12 +293,12 @@ module _ (t : ℕ) where
       let walk = c .before .before in
       let told = walk .before .before in
       let call = told .before .before in
-      let test = call .before .before in
+      let test = call .before .before .before in
       let at-row = test .before .before in
       way-refused (at-row .before .before .loop .inv .3) _ (c .enum-told .given .1)
-      (row-entries _ _ _ _ _ _ _ _ _ (at-row .open-row .ensures .tree) _
+      (row-entries _ _ _ _ _ _ _ _ _ _ (at-row .open-row .ensures .tree) _
       (rw (test .before .number .ensures) at (test .if1 .left)) _ (call .before .need .ensures) _ _
-      (sym (told .length .given .1) ∙ call .open-group .ensures) _
+      (sym (told .length .given .1) ∙ rw (call .before .before .is-big .ensures) at (call .open-group .ensures)) _
       (sym (c .enum-told .given .1) ∙ walk .walk-entries .ensures .0))
 
   row-add-seen-2 : row-Need row-lts.Need-add-seen-2
@@ -294,8 +307,9 @@ module _ (t : ℕ) where
       let walk = told2 .before .before in
       let told = walk .before .before in
       let call = told .before .before in
-      let inv = call .before .before .before .before .before .before .loop .inv in
-      let dimension = good _ _ _ _ _ (sym (told .length .given .1) ∙ call .open-group .ensures) in
+      let inv = call .before .before .before .before .before .before .before .loop .inv in
+      let is = rw (call .before .before .is-big .ensures) at (call .open-group .ensures) in
+      let dimension = good _ _ _ _ _ _ (sym (told .length .given .1) ∙ is) in
       let on = leads _ _ _ _ _ _ (walk .walk-entries .ensures .1) (told2 .walked .given .1) in
       omega (arith, dimension .few)
 
@@ -305,21 +319,22 @@ module _ (t : ℕ) where
       let walk = told2 .before .before in
       let told = walk .before .before in
       let call = told .before .before in
-      let test = call .before .before in
+      let test = call .before .before .before in
       let at-row = test .before .before in
       let opened = at-row .open-row .ensures in
       let inv = at-row .before .before .loop .inv in
-      let is = sym (told .length .given .1) ∙ call .open-group .ensures in
+      let there = rw (call .before .before .is-big .ensures) at (call .open-group .ensures) in
+      let is = sym (told .length .given .1) ∙ there in
       let on = leads _ _ _ _ _ _ (walk .walk-entries .ensures .1) (told2 .walked .given .1) in
       rw (c .number3 .ensures) (
         opened .rest,
         inv .1,
         inv .2,
         way-on (inv .3) _ _ _
-            (row-next _ _ _ _ _ _ _ _ _ (opened .tree) _ (rw (test .before .number .ensures) at (test .if1 .left)) _
+            (row-next _ _ _ _ _ _ _ _ _ _ (opened .tree) _ (rw (test .before .number .ensures) at (test .if1 .left)) _
             (call .before .need .ensures) _ _ is _ _ (sym (told2 .walked .given .1) ∙ walk .walk-entries .ensures .0))
             (omega arith) (on .1)
-            (omega (arith, good _ _ _ _ _ is .few, at-row .before .loop-test .taken)),
+            (omega (arith, good _ _ _ _ _ _ is .few, at-row .before .loop-test .taken)),
       )
 
 pub +pass-row+walk-entries+walk-row-spec : {M : Type 1} → statement M
@@ -340,8 +355,9 @@ pub +pass-row+walk-entries+walk-row-spec : {M : Type 1} → statement M
     (λ c. omega arith)
     (λ c. omega arith)
     (λ c. omega arith)
-    (entries-mul-t30 t)
+    (entries-mul-t31 t)
     (entries-returns t)
+    (λ c κs. head-there (c .before .before .before .before .before .pre .1 .0 .block))
     (entries-loop-holds t)
     (λ c. omega arith)
     (λ c κs. tt)
@@ -367,7 +383,7 @@ pub +pass-row+walk-entries+walk-row-spec : {M : Type 1} → statement M
     (λ c. omega arith)
     (λ c. omega arith)
     (entries-loop-again t)
-    (λ c. way-ends (c .before .loop .inv .5) (entries-end _ _ _ _ (c .loop-test .left))))
+    (λ c. way-ends (c .before .loop .inv .6) (entries-end _ _ _ _ (c .loop-test .left))))
     (λ t.
     row-lts.spec (row-claims t) (row-at t) row-reads.Post row-Inv row-μ-loop
     (λ c.
@@ -382,6 +398,7 @@ pub +pass-row+walk-entries+walk-row-spec : {M : Type 1} → statement M
     (λ c κs. omega arith)
     (λ c. omega arith)
     (row-loop-again t)
+    (λ c κs. head-there (c .before .before .open-row .ensures .first .block))
     (λ c κs. search needs)
     (λ c κs. omega arith)
     (λ c. search needs)
@@ -398,4 +415,4 @@ pub +pass-row+walk-entries+walk-row-spec : {M : Type 1} → statement M
     (row-add-seen-2 t)
     (λ c. omega arith)
     (row-loop-again-2 t)
-    (λ c. way-ends (c .before .loop .inv .3) (groups-done _ _ _ _ _ (no-groups-at _ _ _ _ (c .loop-test .left)))))
+    (λ c. way-ends (c .before .loop .inv .3) (groups-done _ _ _ _ _ _ (no-groups-at _ _ _ _ (c .loop-test .left)))))

@@ -13,13 +13,13 @@ use Rattle.walk.proofs.walk_datas.Statement.{statement}
 use Rattle.walk.proofs.walk_datas.Tie as tie
 
 abbrev Inv-loop : tie.InvT-loop
-Inv-loop p from n m v start left₀ d₀ at₀ left d at =
+Inv-loop p from n big m v start left₀ d₀ at₀ left d at =
     (d + 2 * left ≤ length p) × (left ≤ n) × (n ≤ 16)
-    × Way m start 16 (walked (datasEnd 0) (datasAt m v p 0 n from start))
-    (walked (datasEnd (n - left)) (datasAt m v p 0 left d at)) (n - left) left at
+    × Way m start 16 (walked (datasEnd 0) (datasAt big m v p 0 n from start))
+    (walked (datasEnd (n - left)) (datasAt big m v p 0 left d at)) (n - left) left at
 
 abbrev μ-loop : tie.MeasureT-loop
-μ-loop p from n m v start left₀ d₀ at₀ left d at = left
+μ-loop p from n big m v start left₀ d₀ at₀ left d at = left
 
 loop-holds : tie.Need-loop-holds Inv-loop μ-loop
 loop-holds c =
@@ -39,7 +39,7 @@ returns c =
     let i = pass .before in
     let e = c .enum-told .given .1 in
     way-refused (i .before .loop .inv .3) _ e
-    (datas-refused _ _ _ _ _ _ _ _ (i .loop-test .taken) _ (sym e ∙ pass .pass-data .ensures .0))
+    (datas-refused _ _ _ _ _ _ _ _ _ (i .loop-test .taken) _ (sym e ∙ pass .pass-data .ensures .0))
 
 loop-again : tie.Need-loop-again Inv-loop μ-loop
 loop-again c =
@@ -54,8 +54,8 @@ loop-again c =
       omega arith,
       omega arith,
       omega arith,
-      way-on (inv .3) _ _ _ (datas-next _ _ _ _ _ _ _ _ (i .loop-test .taken) _ _ (sym e ∙ pass .pass-data .ensures .0))
-          (on .0) (on .1) (omega (arith, on .0)),
+      way-on (inv .3) _ _ _
+          (datas-next _ _ _ _ _ _ _ _ _ (i .loop-test .taken) _ _ (sym e ∙ pass .pass-data .ensures .0)) (on .0) (on .1) (omega (arith, on .0)),
     )
 
 returns-2 : tie.Need-returns-2 Inv-loop μ-loop
@@ -63,7 +63,7 @@ returns-2 c =
     let inv = c .before .loop .inv in
     let n = c .before .before .before .before .args .n in
     let all : n - c .before .loop .left ≡ n = omega arith in
-    rw all at (way-ends (inv .3) (datas-done _ _ _ _ _ _ _ (c .loop-test .left)))
+    rw all at (way-ends (inv .3) (datas-done _ _ _ _ _ _ _ _ (c .loop-test .left)))
 
 pub walk-datas-spec : {M : Type 1} → statement M
 walk-datas-spec =

@@ -1,6 +1,7 @@
 -- The root's octets are there or not; then its groups, with a path or without.
 use mathlib.Core.Path.{_∙_, sym}
-use Prim.Native.Nat.{_+_, _<_, _≤_}
+use mathlib.Core.List.{List}
+use Prim.Native.Nat.{_+_, _<_, _≤_, ℕ}
 use native.Mathlib.Omega.{arith}
 use lib.ListN.{length}
 use borrow.Author.Needs.{needs}
@@ -16,8 +17,17 @@ use Rattle.whole.proofs.walk_root.Tie as tie
 abbrev start : tie.Else1 → tie.Start
 start c = c .before .before .before .before
 
+abbrev book : tie.Else1 → List ℕ
+book c = start c .args .p .now .now
+
 fits : (c : tie.Else1) → 12 + start c .args .l ≤ length (start c .args .m .now .now)
 fits c = omega (arith, start c .pre .1 .inside, c .if1 .left)
+
+returns : tie.Need-returns
+unfolding Ends
+returns c =
+    let s = c .before .before .before .before .args in
+    (sym (root-short (s .p .now .now) _ (s .m .now .now) _ _ _ (omega (arith, c .if1 .taken))), tt)
 
 -- Without a path.
 returns-2 : tie.Need-returns-2
@@ -29,7 +39,7 @@ returns-2 c =
     let row = rw (call .before .before .number .ensures, call .before .number2 .ensures) at
     (call .pass-row .ensures .0) in
     let on = leads _ _ _ _ _ _ (call .pass-row .ensures .1) (c .before .next .given .1) in (
-      sym (root-counted _ _ _ _ _ _ (fits (test .before)) (test .if2 .taken) (Walked.To _ _)
+      sym (root-counted (book (test .before)) _ _ _ _ _ (fits (test .before)) (test .if2 .taken) (Walked.To _ _)
           (sym (c .before .next .given .1) ∙ row)),
       (on .1, omega (arith, on, call .before .number2 .ensures, s .pre .0 .block .fewGroups, s .pre .1 .short)),
     )
@@ -41,7 +51,7 @@ returns-3 c =
     let test = call .before .before .before in
     let row = rw (call .before .before .number .ensures, call .before .number2 .ensures) at
     (call .pass-row .ensures .0) in (
-      sym (root-counted _ _ _ _ _ _ (fits (test .before)) (test .if2 .taken) (Walked.Refused _)
+      sym (root-counted (book (test .before)) _ _ _ _ _ (fits (test .before)) (test .if2 .taken) (Walked.Refused _)
           (sym (c .before .refusal .given .1) ∙ row)),
       tt,
     )
@@ -55,8 +65,8 @@ unfolding Ends Within sought
 returns-4 c =
     let call = c .before .before .before in
     let other = call .before in (
-      sym (root-sought _ _ _ _ _ _ (fits (other .before)) (start (other .before) .pre .3) (some-are other)
-          (Row.To _ _ _) (sym (c .before .next2 .given .1) ∙ call .seek-row .ensures .0)),
+      sym (root-sought (book (other .before)) _ _ _ _ _ (fits (other .before)) (start (other .before) .pre .3)
+          (some-are other) (Row.To _ _ _) (sym (c .before .next2 .given .1) ∙ call .seek-row .ensures .0)),
       (rw (c .before .next2 .given .1) at (call .seek-row .ensures .1), omega arith),
     )
 
@@ -65,8 +75,8 @@ unfolding Ends sought
 returns-5 c =
     let call = c .before .before .before in
     let other = call .before in (
-      sym (root-sought _ _ _ _ _ _ (fits (other .before)) (start (other .before) .pre .3) (some-are other)
-          (Row.Refused _) (sym (c .before .refusal2 .given .1) ∙ call .seek-row .ensures .0)),
+      sym (root-sought (book (other .before)) _ _ _ _ _ (fits (other .before)) (start (other .before) .pre .3)
+          (some-are other) (Row.Refused _) (sym (c .before .refusal2 .given .1) ∙ call .seek-row .ensures .0)),
       tt,
     )
 
@@ -88,7 +98,7 @@ pub walk-root-spec : {M : Type 1} → statement M
 walk-root-spec =
     tie.close
     (tie.spec (λ c. omega (arith, c .before .before .before .pre .1 .inside))
-    (λ c. unfold Ends in (sym (root-short _ _ _ _ _ _ (omega (arith, c .if1 .taken))), tt)) (λ c. search needs)
+    returns (λ c. search needs)
     (λ c κs. search needs) (λ c. search needs) (λ c κs. search needs)
     (λ c. omega (arith, fits (c .before .before .before), start (c .before .before .before) .pre .1 .short))
     pass-row-requires (λ c. search needs) (λ c. search needs) returns-2 returns-3

@@ -19,9 +19,9 @@ abbrev start : tie.After-known-told2 → tie.Start
 start c = c .before .before .before .before .before
 
 is-good : (c : tie.After-known-told2)
-    → Good (start c .args .m .now) 0 (start c .args .at) (c .before .length .given .0 .0)
+    → Good (start c .args .big) (start c .args .m .now) 0 (start c .args .at) (c .before .length .given .0 .0)
     (c .before .length .given .0 .1 .0)
-is-good c = good _ _ _ _ _ (sym (c .before .length .given .1) ∙ c .before .before .before .open-group .ensures)
+is-good c = good _ _ _ _ _ _ (sym (c .before .length .given .1) ∙ c .before .before .before .open-group .ensures)
 
 -- The octets of its entries fit a number.
 mul-size : tie.Need-mul-size
@@ -35,13 +35,13 @@ returns c =
     let known = c .before .before in
     let d = is-good known in
     refuses _ _ _ (c .refuse .ensures)
-    (ap (walked skipEnd) (group-told _ _ _ _ (d .is) false
+    (ap (walked skipEnd) (group-told _ _ _ _ _ (d .is) false
     (lt-leb _ (length (start known .args .m .now)) (omega (arith, d .fits)))))
 
 returns-2 : tie.Need-returns-2
 unfolding walked Inside
 returns-2 c = (
-  sym (ap (walked skipEnd) (group-refused _ _ _ _ (refused-by _ _ _ _
+  sym (ap (walked skipEnd) (group-refused _ _ _ _ _ (refused-by _ _ _ _ _
       (sym (c .before .refusal .given .1) ∙ c .before .before .before .open-group .ensures)))),
   tt,
 )
@@ -51,7 +51,7 @@ unfolding Inside walked must _>>=_
 returns-3 c =
     let known = c .before in
     let d = is-good known in (
-      sym (ap (walked skipEnd) (group-told _ _ _ _ (d .is) true
+      sym (ap (walked skipEnd) (group-told _ _ _ _ _ (d .is) true
           (le-leb _ (length (start known .args .m .now)) (omega (arith, d .fits))))),
       (omega arith, omega (arith, d .fits)),
     )

@@ -6,7 +6,7 @@ use native.Mathlib.Omega.{arith}
 use borrow.Author.Needs.{needs}
 use borrow.Fn.Kinds.{In, Out}
 use borrow.Fn.PlainCycle.{Measures, is, falls, and}
-use Rattle.prepared.specs.Positions.{BlockAt, IsRow, groupsAt, innerAt, nextFrom, shapeAt}
+use Rattle.prepared.specs.Positions.{BlockAt, IsRow, groupsAt, innerAt, isBig, nextFrom, shapeAt}
 use Rattle.prepared.proofs.Accepted.{datas-length}
 use Rattle.prepared.proofs.number.Reads as number-reads
 use Rattle.prepared.proofs.open_row.Reads as open-row-reads
@@ -19,7 +19,7 @@ use Rattle.writer.proofs.Zeros.{zeros-on}
 use Rattle.writer.proofs.head_at.Reads as head-at-reads
 use Rattle.writer.proofs.number_of.Reads as number-of-reads
 use Rattle.writer.proofs.put_dimension.Reads as put-dimension-reads
-use Rattle.writer.proofs.write_fields.Reads as write-fields-reads
+use Rattle.writer.proofs.write_block.Reads as write-block-reads
 use Rattle.writer.proofs.write_datas.Reads as write-datas-reads
 use Rattle.writer.proofs.write_entries.Reads as entries-reads
 use Rattle.writer.proofs.write_entries.Kinds as entries-kinds
@@ -48,10 +48,10 @@ entries-μ-loop p a depth k listing pool room₀ s t o block due₀ here₀ room
 
 abbrev row-Inv : row-lts.InvT-loop
 row-Inv p a depth listing pool room₀ s t g₀ left₀ here₀ room g left here =
+    let part = groupsPart (isBig (p .now)) (listing .now) (pool .now) in
     IsRow (p .now) depth left g × ZerosFrom (here .at) room
-    × Going (groupsPart (listing .now) (pool .now) (innerAt (p .now) depth a) (here₀ .record))
-    (groupsPart (listing .now) (pool .now) (groupsAt (p .now) depth left g) (here .record)) (here₀ .at) room₀ (here .at)
-    room
+    × Going (part (innerAt (p .now) depth a) (here₀ .record)) (part (groupsAt (p .now) depth left g) (here .record))
+    (here₀ .at) room₀ (here .at) room
 
 abbrev row-μ-loop : row-lts.MeasureT-loop
 row-μ-loop p a depth listing pool room₀ s t g₀ left₀ here₀ room g left here = left
@@ -67,8 +67,8 @@ module _ (t : ℕ) where
   entries-claims = (
     head-at-reads.Asked,
     head-at-reads.Learnt,
-    write-fields-reads.Asked,
-    write-fields-reads.Learnt,
+    write-block-reads.Asked,
+    write-block-reads.Learnt,
     and 7 row-kinds.ps (falls 7 row-kinds.ps _<_ row-μ t) row-reads.Pre,
     row-reads.Post,
     write-datas-reads.Asked,
@@ -84,12 +84,12 @@ module _ (t : ℕ) where
       let pre = c .before .before .before .before .before .pre .1 in
       ((pre .0 .0, c .head-at .ensures), pre .0 .1, going-none (pre .1))
 
-  entries-write-fields-requires : entries-Need entries-lts.Need-write-fields-requires
-  entries-write-fields-requires c κs =
+  entries-write-block-requires : entries-Need entries-lts.Need-write-block-requires
+  entries-write-block-requires c κs =
       let i = c .before in
       let inv = i .before .loop .inv in (
         (inv .0 .0 .block, inv .0 .1, inv .1),
-        going-first (inv .2) _ (entries-step _ _ _ _ _ _ (i .loop-test .taken)),
+        going-first (inv .2) _ (entries-step _ _ _ _ _ _ _ (i .loop-test .taken)),
       )
 
   -- The block has neither groups nor data: its fields are all of it.
@@ -99,11 +99,12 @@ module _ (t : ℕ) where
       let i = call .before .before in
       let inv = i .before .loop .inv in
       let none = rw (inv .0 .1 .follow, inv .0 .0 .block .follow) at (c .if1 .taken) in
-      let laid = going-call (inv .2) _ (entries-step _ _ _ _ _ _ (i .loop-test .taken)) (call .write-fields .ensures) in
-      let groups = going-call laid _ refl (stored-none (groups-end _ _ _ _ _ _ _ (omega (arith, none)))) in (
+      let fields = call .write-block .ensures in
+      let laid = going-call (inv .2) _ (entries-step _ _ _ _ _ _ _ (i .loop-test .taken)) fields in
+      let groups = going-call laid _ refl (stored-none (groups-end _ _ _ _ _ _ _ _ (omega (arith, none)))) in (
         inv .0,
-        zeros-on (inv .1) (call .write-fields .ensures),
-        going-call groups _ refl (stored-none (datas-end _ _ _ _ (rw datas-length (omega (arith, none))))),
+        zeros-on (inv .1) fields,
+        going-call groups _ refl (stored-none (datas-end _ _ _ _ _ (rw datas-length (omega (arith, none))))),
       )
 
   entries-write-row-requires : entries-Need entries-lts.Need-write-row-requires
@@ -111,10 +112,11 @@ module _ (t : ℕ) where
       let call = c .before .before .before .before .before in
       let i = call .before .before in
       let inv = i .before .loop .inv in
-      let laid = going-call (inv .2) _ (entries-step _ _ _ _ _ _ (i .loop-test .taken)) (call .write-fields .ensures) in
+      let fields = call .write-block .ensures in
+      let laid = going-call (inv .2) _ (entries-step _ _ _ _ _ _ _ (i .loop-test .taken)) fields in
       let start = i .before .before .before .before .before .before .before in (
         omega (arith, start .pre .0),
-        ((inv .0 .0, zeros-on (inv .1) (call .write-fields .ensures)), going-first laid _ refl),
+        ((inv .0 .0, zeros-on (inv .1) fields), going-first laid _ refl),
       )
 
   entries-write-datas-requires : entries-Need entries-lts.Need-write-datas-requires
@@ -123,7 +125,8 @@ module _ (t : ℕ) where
       let call = row .before .before .before .before .before .before in
       let i = call .before .before in
       let inv = i .before .loop .inv in
-      let laid = going-call (inv .2) _ (entries-step _ _ _ _ _ _ (i .loop-test .taken)) (call .write-fields .ensures) in
+      let fields = call .write-block .ensures in
+      let laid = going-call (inv .2) _ (entries-step _ _ _ _ _ _ _ (i .loop-test .taken)) fields in
       let groups = going-call laid _ refl (row .write-row .ensures) in
       (inv .0 .0 .block, rw datas-length at (going-first groups _ refl))
 
@@ -134,9 +137,10 @@ module _ (t : ℕ) where
       let call = row .before .before .before .before .before .before in
       let i = call .before .before in
       let inv = i .before .loop .inv in
-      let laid = going-call (inv .2) _ (entries-step _ _ _ _ _ _ (i .loop-test .taken)) (call .write-fields .ensures) in
+      let fields = call .write-block .ensures in
+      let laid = going-call (inv .2) _ (entries-step _ _ _ _ _ _ _ (i .loop-test .taken)) fields in
       let groups = going-call laid _ refl (row .write-row .ensures) in
-      let zeros = zeros-on (zeros-on (inv .1) (call .write-fields .ensures)) (row .write-row .ensures) in (
+      let zeros = zeros-on (zeros-on (inv .1) fields) (row .write-row .ensures) in (
         inv .0,
         zeros-on zeros (datas .write-datas .ensures),
         going-call (rw datas-length at groups) _ refl (datas .write-datas .ensures),
@@ -169,17 +173,18 @@ module _ (t : ℕ) where
       → let l = c .before .before .loop in
       let a = c .before .before .before .before .before .before .before .before .args in
       let p = a .p .now .now in
-      GroupOpen (a .listing .now .now) (a .pool .now .now) (groupsAt p (a .depth) (l .left) (l .g)) (shapeAt p (l .g))
-      (innerAt p (a .depth - 1) (l .g)) (groupsAt p (a .depth) (l .left - 1) (nextFrom p (l .g))) (l .here .record)
+      GroupOpen (isBig p) (a .listing .now .now) (a .pool .now .now) (groupsAt p (a .depth) (l .left) (l .g))
+      (shapeAt p (l .g)) (innerAt p (a .depth - 1) (l .g)) (groupsAt p (a .depth) (l .left - 1) (nextFrom p (l .g)))
+      (l .here .record)
   row-opened c =
-      group-open _ _ _ _ _ _ _ (c .open-row .ensures .tree) (c .before .before .loop .inv .2 .room .whole)
+      group-open _ _ _ _ _ _ _ _ (c .open-row .ensures .tree) (c .before .before .loop .inv .2 .room .whole)
 
   row-put-dimension-requires : row-Need row-lts.Need-put-dimension-requires
   row-put-dimension-requires c κs =
       let row = c .before .before .before in
       let block = row .open-row .ensures .first .block in
       rw (c .before .number-of .ensures .0) (
-        (omega (arith, block .fieldsFit), c .before .number-of .ensures .1),
+        (block, c .before .number-of .ensures .1),
         going-first (row .before .before .loop .inv .2) _ (row-opened row .same),
       )
 
@@ -219,10 +224,10 @@ pub +write-entries+write-row-spec : {M : Type 1} → statement M
     (λ t.
     entries-lts.spec (entries-claims t) (entries-at t) entries-reads.Post entries-Inv entries-μ-loop
     (λ c κs. c .before .before .before .before .pre .1 .0 .0 .block) (entries-loop-holds t)
-    (λ c. omega arith) (entries-write-fields-requires t) (λ c. omega arith) (entries-loop-again t)
+    (λ c. omega arith) (entries-write-block-requires t) (λ c. omega arith) (entries-loop-again t)
     (entries-write-row-requires t) (entries-write-datas-requires t) (λ c. omega arith) (entries-loop-again-2 t)
     (λ c. omega arith)
-    (λ c. going-end (c .before .loop .inv .2) (stored-none (entries-end _ _ _ _ _ _ (c .loop-test .left)))))
+    (λ c. going-end (c .before .loop .inv .2) (stored-none (entries-end _ _ _ _ _ _ _ (c .loop-test .left)))))
     (λ t.
     row-lts.spec (row-claims t) (row-at t) row-reads.Post row-Inv row-μ-loop
     (λ c. omega arith) (λ c κs. omega arith) (λ c. omega arith) (λ c κs. omega arith) (row-loop-holds t)
@@ -230,4 +235,4 @@ pub +write-entries+write-row-spec : {M : Type 1} → statement M
     (λ c κs. (row-opened t (c .before) .there, omega arith)) (row-put-dimension-requires t)
     (λ c. omega (arith, c .before .before .before .before .before .before .open-row .ensures .deep))
     (row-write-entries-requires t) (λ c. omega arith) (row-loop-again t) (λ c. omega arith)
-    (λ c. going-end (c .before .loop .inv .2) (stored-none (groups-end _ _ _ _ _ _ _ (c .loop-test .left)))))
+    (λ c. going-end (c .before .loop .inv .2) (stored-none (groups-end _ _ _ _ _ _ _ _ (c .loop-test .left)))))

@@ -12,14 +12,16 @@ returns c =
     let third = c .before .before in
     let second = third .before .before .before .before .before .before in
     let first = second .before .before .before .before .before .before in
-    let start = first .before .before .before .before .before .before in
-    rw (length-row _ _ _ _ (start .pre .0 .row), datas-length)
-    (header-laid _ _ _ _ _ _ _ _ _ _ (first .put-two .ensures) (second .put-two2 .ensures) (third .put-two3 .ensures))
+    let order = first .before .before .before .before in
+    let start = order .before .before .before in
+    rw (length-row _ _ _ _ (start .pre .0 .row), datas-length, ← (order .is-big .ensures))
+    (header-laid _ _ _ _ _ _ _ _ _ _ _
+    (first .put-two .ensures) (second .put-two2 .ensures) (third .put-two3 .ensures))
 
 pub put-header-spec : {M : Type 1} → statement M
 put-header-spec =
     tie.close
-    (tie.spec (λ c. omega arith) (λ c. omega arith) (λ c. omega arith) (λ c. omega arith) (λ c. omega arith)
-    (λ c κs. search needs) (λ c. omega arith) (λ c. omega arith) (λ c κs. search needs) (λ c. omega arith)
-    (λ c. omega arith) (λ c. omega arith) (λ c. omega arith) (λ c. omega arith) (λ c. omega arith)
+    (tie.spec (λ c κs. search needs) (λ c. omega arith) (λ c. omega arith) (λ c. omega arith) (λ c. omega arith)
+    (λ c. omega arith) (λ c κs. search needs) (λ c. omega arith) (λ c. omega arith) (λ c κs. search needs)
+    (λ c. omega arith) (λ c. omega arith) (λ c. omega arith) (λ c. omega arith) (λ c. omega arith) (λ c. omega arith)
     (λ c κs. search needs) (λ c. search needs) returns)

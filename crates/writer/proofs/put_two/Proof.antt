@@ -7,7 +7,7 @@ use Rattle.writer.proofs.put_two.Tie as tie
 returns : tie.Need-returns
 returns c =
     let a = c .before .before .before .before .before .before .before .before .before .args in
-    cc (two-numbers (a .room .now) (a .at) (a .x) (a .y))
+    cc (two-numbers (a .big) (a .room .now) (a .at) (a .x) (a .y))
 
 pub put-two-spec : {M : Type 1} → statement M
 put-two-spec =

@@ -8,8 +8,8 @@ use Rattle.writer.proofs.write_data.Statement.{statement}
 use Rattle.writer.proofs.write_data.Tie as tie
 
 opened : (c : tie.Start)
-    → DataOpen (c .args .listing .now) (c .args .pool .now) (c .args .i) (length (c .args .room .now))
-opened c = data-open _ _ (c .pre)
+    → let a = c .args in DataOpen (a .big) (a .listing .now) (a .pool .now) (a .i) (length (a .room .now))
+opened c = data-open _ _ _ (c .pre)
 
 abbrev start : tie.After-number-of2 → tie.Start
 start c = c .before .before .before .before .before .before .before .before .before
@@ -20,7 +20,7 @@ put-octets-requires c κs =
     let put = call .before .before .before in
     let o = opened (start call) in
     rw (put .before .before .number-of .ensures .0, call .number-of2 .ensures .0)
-    (omega (arith, o .fits, part-long 2 (put .put2 .last .0)), o .within)
+    (omega (arith, o .fits, part-long 2 (put .put2 .last .1 .0)), o .within)
 
 returns : tie.Need-returns
 returns c =
@@ -28,7 +28,7 @@ returns c =
     let second = call .before .before in
     let put = second .before .before .before in
     let len = put .before .before .number-of .ensures in (
-      rw (len .0) (data-laid _ _ (opened (start second)) (rw (len .0) at (put .put2 .ensures))
+      rw (len .0) (data-laid _ _ _ (opened (start second)) (rw (len .0) at (put .put2 .ensures))
           (rw (len .0, second .number-of2 .ensures .0) at (call .put-octets .ensures))),
       omega (arith, len .1),
     )

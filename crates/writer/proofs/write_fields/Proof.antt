@@ -19,15 +19,15 @@ use Rattle.writer.proofs.write_fields.Statement.{statement}
 use Rattle.writer.proofs.write_fields.Tie as tie
 
 abbrev Inv-loop : tie.InvT-loop
-Inv-loop p a h listing pool room₀ start left₀ f₀ t₀ i₀ room left f t i =
+Inv-loop big p a h listing pool room₀ start left₀ f₀ t₀ i₀ room left f t i =
     let n = word p (a + 2) in
     (h .length ≡ n)
     × ((at : ℕ) × FieldsLeft p n at left f t × ZerosFrom (start + at) room
-    × Going (fieldsPart listing pool n 0 (shapeAt p a .fields) i₀)
-    (fieldsPart listing pool n at (parseFields (listsAt p) p left f) i) start room₀ (start + at) room)
+    × Going (fieldsPart big listing pool n 0 (shapeAt p a .fields) i₀)
+    (fieldsPart big listing pool n at (parseFields (listsAt p) p left f) i) start room₀ (start + at) room)
 
 abbrev μ-loop : tie.MeasureT-loop
-μ-loop p a h listing pool room₀ start left₀ f₀ t₀ i₀ room left f t i = left
+μ-loop big p a h listing pool room₀ start left₀ f₀ t₀ i₀ room left f t i = left
 
 loop-holds : tie.Need-loop-holds Inv-loop μ-loop
 loop-holds c =
@@ -49,16 +49,17 @@ padded : (c : tie.After-number Inv-loop μ-loop)
     let p = a .p .now in
     let n = word p (a .a + 2) in
     let field = fieldAt p (l .f) in
-    Going (fieldsPart (a .listing .now) (a .pool .now) n 0 (shapeAt p (a .a) .fields) (a .c .record))
-    (andThen (valuePart (a .listing .now) (a .pool .now) field (l .i))
-    (fieldsPart (a .listing .now) (a .pool .now) n (end field) (parseFields (listsAt p) p (l .left - 1) (l .f + 7))))
+    let part = fieldsPart (a .big) (a .listing .now) (a .pool .now) n in
+    Going (part 0 (shapeAt p (a .a) .fields) (a .c .record))
+    (andThen (valuePart (a .big) (a .listing .now) (a .pool .now) field (l .i))
+    (part (end field) (parseFields (listsAt p) p (l .left - 1) (l .f + 7))))
     (a .c .at) (a .room .now) (a .c .at + c .number .result) (l .room)
 padded c =
     let i = c .before in
     let l = i .before .loop in
     let inv = l .inv .1 in
     let p = i .before .before .before .before .before .before .args .p .now in
-    going-pad (inv .2) (inv .3) (word p (l .f + 3) - inv .0) (fields-step _ _ _ _ _ _ _ _ (i .loop-test .taken))
+    going-pad (inv .2) (inv .3) (word p (l .f + 3) - inv .0) (fields-step _ _ _ _ _ _ _ _ _ (i .loop-test .taken))
     (omega (arith, c .number .ensures, next i .placed))
 
 -- The room from there on is zeros.
@@ -78,7 +79,7 @@ add-i c =
     let at = c .before .before .before .before in
     let start = at .before .before .before .before .before .before .before in
     let room = part-room _ (at .before .before .loop .room) (going-first (padded at) _ refl) in
-    omega (arith, value-there _ _ _ _ _ room, start .good)
+    omega (arith, value-there _ _ _ _ _ _ room, start .good)
 
 loop-again : tie.Need-loop-again Inv-loop μ-loop
 loop-again c =
@@ -93,7 +94,7 @@ loop-again c =
     let room = going-first way _ refl in
     let q : a .c .at + at .number .result + size field ≡ a .c .at + end field = omega (arith, at .number .ensures) in
     let stored = rw q at (part-stored _ (l .room) room
-    (value-stored _ _ _ _ _ (part-room _ (l .room) room) (o .whole) (call .write-value .ensures))) in
+    (value-stored _ _ _ _ _ _ (part-room _ (l .room) room) (o .whole) (call .write-value .ensures))) in
     (l .inv .0, (end field, o .rest, zeros-on (zeros at) stored, going-call way _ refl stored))
 
 returns : tie.Need-returns Inv-loop μ-loop
@@ -103,7 +104,7 @@ returns c =
     let n = word (a .p .now) (a .a + 2) in
     let w = loop .before .loop .inv .1 in
     going-end (going-pad (w .2) (w .3) (n - w .0) {m = a .c .at + a .h .length}
-    (fields-end _ _ _ _ _ _ _ _ (loop .loop-test .left)) (omega arith)) (stored-none refl)
+    (fields-end _ _ _ _ _ _ _ _ _ (loop .loop-test .left)) (omega arith)) (stored-none refl)
 
 pub write-fields-spec : {M : Type 1} → statement M
 write-fields-spec =

@@ -6,7 +6,7 @@ use borrow.Author.Needs.{needs}
 use lib.ListN.{length}
 use Rattle.layout.specs.Octets.{octetsOf}
 use Rattle.layout.specs.BookRules.{word}
-use Rattle.number_types.proofs.Types.{is-width}
+use Rattle.layout.proofs.TypeLaws.{width-listed}
 use Rattle.prepared.specs.Positions.{fieldAt}
 use Rattle.prints.specs.Prints.{numbersOf}
 use Rattle.writer.specs.Parts.{numberOr}
@@ -17,25 +17,26 @@ use Rattle.writer.proofs.write_value.Tie as tie
 
 -- The record is there.
 there : (c : tie.Start) → c .args .i < length (c .args .listing .now) / 3
-there c = value-there _ _ _ _ _ (c .pre .1)
+there c = value-there _ _ _ _ _ _ (c .pre .1)
 
 -- The number's octets.
 number : (c : tie.After-number2)
     → let start = c .before .before .before .before .before .before .before .before .before in
     let a = start .args in
-    ValueOpen (a .listing .now) (a .pool .now) (fieldAt (a .p .now) (a .f)) (a .i) (length (a .room .now))
-    (start .pre .1) (octetsOf (c .number2 .result) (numberOr (a .listing .now) (a .i) (word (a .p .now) (a .t + 3))))
+    ValueOpen (a .big) (a .listing .now) (a .pool .now) (fieldAt (a .p .now) (a .f)) (a .i) (length (a .room .now))
+    (start .pre .1)
+    (octetsOf (a .big) (c .number2 .result) (numberOr (a .listing .now) (a .i) (word (a .p .now) (a .t + 3))))
     (c .number2 .result)
 number c =
     let short = c .before .before .before in
     let d = short .before .before .before .before .before .before .pre .0 .0 .derived in
-    number-open _ _ _ _ _ _ (rw (short .before .number .ensures) at (short .if1 .taken)) _ _
+    number-open _ _ _ _ _ _ _ (rw (short .before .number .ensures) at (short .if1 .taken)) _ _
     (c .number2 .ensures ∙ d .width) (d .null)
 
 store-requires : tie.Need-store-requires
 store-requires c κs =
     let d = c .before .before .before .before .before .before .before .before .before .pre .0 .0 .derived in
-    (rw (c .number2 .ensures, d .width) (is-width _), omega (arith, number c .fits))
+    (rw (c .number2 .ensures, d .width) (width-listed _), omega (arith, number c .fits))
 
 returns : tie.Need-returns
 unfolding numbersOf
@@ -47,9 +48,9 @@ returns c =
 array : (c : tie.Else1)
     → let start = c .before .before .before .before .before .before in
     let a = start .args in
-    ArrayOpen (a .listing .now) (a .pool .now) (fieldAt (a .p .now) (a .f)) (a .i) (length (a .room .now))
+    ArrayOpen (a .big) (a .listing .now) (a .pool .now) (fieldAt (a .p .now) (a .f)) (a .i) (length (a .room .now))
     (start .pre .1)
-array c = array-open _ _ _ _ _ _ (rw (c .before .number .ensures) at (c .if1 .left))
+array c = array-open _ _ _ _ _ _ _ (rw (c .before .number .ensures) at (c .if1 .left))
 
 put-octets-requires : tie.Need-put-octets-requires
 put-octets-requires c κs =

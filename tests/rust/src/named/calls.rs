@@ -1,6 +1,7 @@
 //! What the safe crate and the C calls have besides answers and messages: views of an answer, listings made record by
 //! record, words for refusals, null pointers, odd lengths.
 
+use super::byte_orders::{big, big_m};
 use super::writing::draft_of_m;
 use super::{books, messages};
 use crate::raw;
@@ -37,7 +38,9 @@ fn example() -> Result<(), String> {
     same("second entry", ask(&second, Element::Field(0)).map(|answer| answer.unsigned()), Ok(Some(3)))?;
     let data = ask(&[], Element::Data(0)).map(|answer| answer.octets(&message));
     same("data", data, Ok(Some(&b"ab"[..])))?;
-    same("list_all", siphonbard::list_all(&octets, &message).map(|all| all.len()), Ok(6))
+    same("list_all", siphonbard::list_all(&octets, &message).map(|all| all.len()), Ok(6))?;
+    let turned = siphonbard::list_all(&big(octets), &big_m());
+    same("list_all, big-endian", turned, book.list_all(&message))
 }
 
 fn records() -> Result<(), String> {

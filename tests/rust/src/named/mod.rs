@@ -1,8 +1,11 @@
 //! Cases with a name: those of the rules' own examples, and borders. Each is asked of the plain reader and writer, of
 //! the library, and of the library with the book prepared once.
 
+mod big_numbers;
+mod big_writing;
 mod books;
 mod borders;
+mod byte_orders;
 mod calls;
 mod counted;
 mod every_text;
@@ -24,7 +27,8 @@ mod writing;
 use crate::readers::{Free, Plain, Reader, Stream};
 use crate::report::{hex, same, Report};
 use crate::rooms::{self, Listing};
-use plain::{Draft, Place, Record, Refusal};
+use crate::turned;
+use plain::{Book, Draft, Place, Record, Refusal};
 
 /// A book, a message (empty where it is not asked about) and the right answer.
 pub struct Case {
@@ -34,6 +38,7 @@ pub struct Case {
     expected: Expected,
 }
 
+#[derive(Clone)]
 pub enum Expected {
     Book(Result<(), Refusal>),
     /// What is listed into a room of any size.
@@ -44,11 +49,8 @@ pub enum Expected {
 }
 
 pub fn run(report: &mut Report) {
-    let read = [books::cases(), borders::cases(), messages::cases(), readings::cases(), counted::cases()];
-    let written = [writing::cases(), unwritten::cases()];
-    let by_lists = [lists::cases(), named_lists::cases(), listed::cases(), listed_writing::cases()];
-    let of_texts = [texts::cases(), text_writing::cases()];
-    for case in read.iter().chain(&written).chain(&by_lists).chain(&of_texts).flatten() {
+    let all = all();
+    for case in &all {
         if case.run(report) {
             println!("ok {}", case.name);
         }
@@ -58,17 +60,31 @@ pub fn run(report: &mut Report) {
         ("texts of every length, read", every_text::read()),
         ("texts of every length, and with NUL at every position, written", every_text::written()),
     ];
-    for (name, cases) in many {
+    for (name, cases) in &many {
         let passed = cases.iter().filter(|case| case.run(report)).count();
         println!("{name}: {passed} of {}", cases.len());
     }
+    let turned: Vec<Case> = all.iter().chain(many.iter().flat_map(|(_, cases)| cases)).map(Case::turned).collect();
+    let passed = turned.iter().filter(|case| case.run(report)).count();
+    println!("all of these by the other byte order, with every number turned: {passed} of {}", turned.len());
     let calls = calls::calls().into_iter().chain(texts::calls()).chain(counted::calls()).chain(prepared::calls());
-    let calls = calls.chain(largest::calls()).chain(longest::calls());
+    let calls = calls.chain(big_writing::calls()).chain(largest::calls()).chain(longest::calls());
     for (name, call) in calls {
         if report.check(call(), || name.into()) {
             println!("ok {name}");
         }
     }
+}
+
+/// The cases whose names are told one by one.
+fn all() -> Vec<Case> {
+    let read = [books::cases(), borders::cases(), messages::cases(), readings::cases(), counted::cases()];
+    let written = [writing::cases(), unwritten::cases()];
+    let by_lists = [lists::cases(), named_lists::cases(), listed::cases(), listed_writing::cases()];
+    let of_texts = [texts::cases(), text_writing::cases()];
+    let big_endian = [byte_orders::cases(), big_numbers::cases(), big_writing::cases()];
+    let all = read.into_iter().chain(written).chain(by_lists).chain(of_texts).chain(big_endian);
+    all.flatten().collect()
 }
 
 /// In the octets of a room.
@@ -78,6 +94,17 @@ impl Case {
     fn run(&self, report: &mut Report) -> bool {
         let outcome = self.ask(&Plain).and_then(|()| self.ask(&Free)).and_then(|()| self.ask(&Stream));
         report.check(outcome, || format!("{}, book {}, message {}", self.name, hex(&self.book), hex(&self.message)))
+    }
+
+    /// By the book for the other byte order: whatever is asked has the same answer.
+    fn turned(&self) -> Case {
+        let tree = Book::read(&self.book);
+        let turned = |message: &[u8]| tree.as_ref().map_or(message.to_vec(), |tree| turned::message(tree, message));
+        let mut expected = self.expected.clone();
+        if let Expected::Written(_, _, Ok(message)) = &mut expected {
+            *message = turned(message);
+        }
+        Case { name: self.name, book: turned::book(&self.book), message: turned(&self.message), expected }
     }
 
     fn ask(&self, reader: &dyn Reader) -> Result<(), String> {

@@ -25,14 +25,12 @@ fn exact(name: &'static str, book: Vec<u8>, draft: Draft, message: Vec<u8>) -> C
 }
 
 pub fn cases() -> Vec<Case> {
-    let of_b_listing =
-        [&m_under_a()[..2], &[[0, 9, 0]], &m_under_a()[2..5], &[[4, 1, 0], [0, 42, 0], [2, 38, 2]]].concat();
     let no_entries = [[0, 1000, 0], [0, MINUS_5, 0], [4, 0, 0], [2, 30, 2]];
     let without = [&m()[..20], &octets("02 00 00 00 | 02 00 61 62")].concat();
     let mut cases = vec![
         exact("writing M under A: M", a(), draft_of_m(), m()),
         written("writing M under A, in more room", a(), draft_of_m(), 50, m()),
-        exact("writing B's message under B", b(), draft(&of_b_listing, &of_b()), of_b()),
+        exact("writing B's message under B", b(), draft(&of_b_listing(), &of_b()), of_b()),
         exact("writing a group without entries: its dimension", a(), draft(&no_entries, &m()), without),
         exact("writing a root without elements: the header", of(Block::default()), draft(&[], &[]), rooted("", 0, "")),
         written("writing zero padding", of(padded()), draft(&[[0, 7, 0], [1, 0, 0]], &[]), 30, padding()),
@@ -43,8 +41,13 @@ pub fn cases() -> Vec<Case> {
     cases
 }
 
+/// The listing of B's message under B.
+pub fn of_b_listing() -> Vec<Record> {
+    [&m_under_a()[..2], &[[0, 9, 0]], &m_under_a()[2..5], &[[4, 1, 0], [0, 42, 0], [2, 38, 2]]].concat()
+}
+
 /// Octets before, between and after the fields.
-fn padded() -> Block {
+pub fn padded() -> Block {
     fields(10, vec![field(OCTET, 1, 0), field(3, 5, 1)])
 }
 
@@ -100,7 +103,7 @@ fn data_cases() -> Vec<Case> {
 }
 
 /// A field of each type.
-fn nine_types() -> Vec<u8> {
+pub fn nine_types() -> Vec<u8> {
     let offsets = [0, 1, 2, 3, 5, 7, 11, 15, 23];
     of(fields(31, (0..9).map(|kind| field(kind, offsets[usize::from(kind)], 1)).collect()))
 }

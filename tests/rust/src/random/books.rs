@@ -1,13 +1,14 @@
 //! Random books that keep every rule, and random legal extensions of them.
 
 use super::lists;
+use plain::byte_order::{BIG, LITTLE};
 use plain::{types::TYPES, Block, Book, Data, Field, Group, NameList, Rng, Template};
 
 pub fn book(rng: &mut Rng) -> Book {
     let version = rng.pick(&[0, 0, 1, 1, 2, 3, 4, 6, 300, 65534]);
     let count = if rng.chance(2) { rng.between(8, 64) } else { rng.between(1, 3) };
-    let (schema, lists) = (rng.word(0, 9), lists::lists(rng));
-    let mut book = Book { schema, version, templates: Vec::new(), lists };
+    let (schema, byte_order, lists) = (rng.word(0, 9), rng.word(LITTLE, BIG), lists::lists(rng));
+    let mut book = Book { schema, version, byte_order, templates: Vec::new(), lists };
     for _ in 0..count {
         add_template(rng, &mut book);
     }

@@ -2,14 +2,15 @@
 
 use super::books::{add_field, data_of};
 use super::lists::{add_list, MOST};
-use plain::{lists::SET, types::TYPES, Block, Book, Field, Group, Rng, Template};
+use plain::{byte_order::BIG, lists::SET, types::TYPES, Block, Book, Field, Group, Rng, Template};
 
-/// The book with one count, depth, number, since or list at its limit or one beyond.
+/// The book with its byte order, one count, depth, number, since or list at its limit or one beyond.
 pub fn book(rng: &mut Rng, mut book: Book) -> Book {
     match rng.below(20) {
         0..=2 => templates(rng, &mut book),
         3..=4 => lists(rng, &mut book),
         5..=6 => names(rng, &mut book),
+        7 => book.byte_order = rng.word(BIG, BIG + 1),
         _ => one_block(rng, &mut book),
     }
     book

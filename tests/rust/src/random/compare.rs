@@ -60,6 +60,7 @@ pub fn message(rng: &mut Rng, seen: &mut Seen, book: &BothBooks, octets: &[u8]) 
     asked.places(rng, seen)?;
     match &asked.plain {
         Ok(message) => {
+            seen.accepted_by(message.book);
             texts::read(message).for_each(|text| seen.text(text));
             written::back(rng, seen, book, message)
         }

@@ -1,13 +1,14 @@
-//! Damage: words and octets altered, cut off and added.
+//! Damage: numbers and octets altered, cut off and added.
 
-use plain::Rng;
+use plain::{ByteOrder, Rng};
 
-/// One to three faults in a message. Its header and its words are hit more often than chance would.
-pub fn message(rng: &mut Rng, mut octets: Vec<u8>) -> Vec<u8> {
+/// One to three faults in a message of this byte order. Its header and its 16-bit numbers are hit more often than
+/// chance would.
+pub fn message(rng: &mut Rng, order: ByteOrder, mut octets: Vec<u8>) -> Vec<u8> {
     for _ in 0..rng.pick(&[1, 1, 2, 3]) {
         match rng.below(12) {
-            0..=2 => alter_word(rng, &mut octets, 12),
-            3..=6 => alter_word(rng, &mut octets, usize::MAX),
+            0..=2 => alter_number(rng, order, &mut octets, 12),
+            3..=6 => alter_number(rng, order, &mut octets, usize::MAX),
             7 => alter_octet(rng, &mut octets),
             8 | 9 => octets.truncate(rng.below(octets.len() + 1)),
             _ => add(rng, &mut octets),
@@ -23,7 +24,7 @@ pub fn message(rng: &mut Rng, mut octets: Vec<u8>) -> Vec<u8> {
 pub fn book(rng: &mut Rng, mut octets: Vec<u8>) -> Vec<u8> {
     for _ in 0..rng.pick(&[1, 1, 1, 2, 3]) {
         match rng.below(20) {
-            0..=15 => alter_aligned(rng, &mut octets),
+            0..=15 => alter_word(rng, &mut octets),
             16 => alter_octet(rng, &mut octets),
             17 => octets.truncate(rng.below(octets.len() + 1)),
             18 => add(rng, &mut octets),
@@ -49,23 +50,24 @@ fn alter_octet(rng: &mut Rng, octets: &mut [u8]) {
     }
 }
 
-fn alter_aligned(rng: &mut Rng, octets: &mut [u8]) {
+/// Alters a word of a book.
+fn alter_word(rng: &mut Rng, octets: &mut [u8]) {
     if octets.len() >= 2 {
         let at = 2 * rng.below(octets.len() / 2);
-        put_word(rng, &mut octets[at..at + 2]);
+        put_number(rng, ByteOrder::Little, &mut octets[at..at + 2]);
     }
 }
 
-/// Alters the word at any offset, below `bound`.
-fn alter_word(rng: &mut Rng, octets: &mut [u8], bound: usize) {
+/// Alters the number at any offset, below `bound`.
+fn alter_number(rng: &mut Rng, order: ByteOrder, octets: &mut [u8], bound: usize) {
     if octets.len() >= 2 {
         let at = rng.below((octets.len() - 1).min(bound));
-        put_word(rng, &mut octets[at..at + 2]);
+        put_number(rng, order, &mut octets[at..at + 2]);
     }
 }
 
-fn put_word(rng: &mut Rng, octets: &mut [u8]) {
-    let old = u16::from_le_bytes([octets[0], octets[1]]);
+fn put_number(rng: &mut Rng, order: ByteOrder, octets: &mut [u8]) {
+    let old = order.number16(octets, 0);
     let new = match rng.below(8) {
         0 | 1 => 65535,
         2 => 65534,
@@ -75,7 +77,7 @@ fn put_word(rng: &mut Rng, octets: &mut [u8]) {
         6 => rng.word(0, 20),
         _ => rng.draw() as u16,
     };
-    octets.copy_from_slice(&new.to_le_bytes());
+    octets.copy_from_slice(&order.octets16(new));
 }
 
 fn add(rng: &mut Rng, octets: &mut Vec<u8>) {

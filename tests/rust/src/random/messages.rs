@@ -44,7 +44,7 @@ struct Wire<'a> {
 
 impl Wire<'_> {
     fn put(&mut self, number: usize) {
-        self.message.extend((number as u16).to_le_bytes());
+        self.message.extend(self.book.byte_order().octets16(number as u16));
     }
 
     fn root(&mut self, template: &Template) {
@@ -137,5 +137,5 @@ fn value(rng: &mut Rng, book: &Book, field: &Field) -> Vec<u8> {
         5 => lists::beside(rng, kind, list),
         _ => lists::listed(rng, kind, list).unwrap_or(kind.null),
     };
-    kind.octets_of(value)
+    kind.octets_of(value, book.byte_order())
 }

@@ -12,35 +12,41 @@ pub mod places;
 mod seen;
 mod texts;
 mod two_books;
+mod two_orders;
 mod written;
 
 use crate::report::{hex, same, Report};
 use compare::BothBooks;
-use plain::{extension::extends, Book, Draft, Rng};
+use plain::{byte_order::BIG, extension::extends, Book, Draft, Rng};
 use seen::Seen;
 use two_books::{Agreed, Pair};
+use two_orders::{Alike, Orders};
 
 /// Messages for each pair of books.
 const MESSAGES: usize = 20;
 /// Listings for each of them.
 const LISTINGS: usize = 3;
+/// Messages that are turned, for each pair.
+const TURNED: usize = 4;
 /// With so many messages everything comes that can come. With fewer, what never came is no failure.
 const ENOUGH: u64 = 10_000;
 
 /// Compares so many messages, and a book or three and some listings for each twenty of them.
 pub fn run(report: &mut Report, seed: u64, messages: u64) {
-    let (seen, agreed) = (Seen::nothing(), Agreed::default());
-    let mut run = Run { rng: Rng::new(seed), seen, agreed, report, seed, compared: 0, drafts: 0 };
+    let (seen, agreed, alike) = (Seen::nothing(), Agreed::default(), Alike::default());
+    let mut run = Run { rng: Rng::new(seed), seen, agreed, alike, report, seed, compared: 0, drafts: 0 };
     while run.compared < messages {
         run.round();
     }
-    let Run { seen, agreed, compared, drafts, report, .. } = run;
+    let Run { seen, agreed, alike, compared, drafts, report, .. } = run;
     println!("random: seed {seed}, {compared} messages and {drafts} listings compared; the library answered");
     seen.print();
     println!("two books: {agreed}");
+    println!("two byte orders: {alike}");
     if messages >= ENOUGH {
         seen.report(report);
         report.check(same("all came", agreed.all_came(), true), || format!("two books: {agreed}"));
+        report.check(same("all came", alike.all_came(), true), || format!("two byte orders: {alike}"));
     } else {
         println!("fewer than {ENOUGH} messages: what never came is no failure");
     }
@@ -50,6 +56,7 @@ struct Run<'a> {
     rng: Rng,
     seen: Seen,
     agreed: Agreed,
+    alike: Alike,
     report: &'a mut Report,
     seed: u64,
     compared: u64,
@@ -57,7 +64,7 @@ struct Run<'a> {
 }
 
 impl Run<'_> {
-    /// A book, one that extends it, and one that is damaged, with messages for each.
+    /// A book, one that extends it, the same for the other byte order, and one that is damaged, with messages for each.
     fn round(&mut self) {
         let older = books::book(&mut self.rng);
         let newer = if older.version < 65534 { books::extension(&mut self.rng, &older) } else { older.clone() };
@@ -80,7 +87,31 @@ impl Run<'_> {
         }
         self.listings(&older, &old_both, LISTINGS);
         self.listings(&newer, &new_both, LISTINGS);
+        self.other_order(&older, &newer, &new_both);
         self.damaged(&newer);
+    }
+
+    /// The newer book for the other byte order, which extends the older no more: messages and a listing by both orders,
+    /// and a message that is not turned.
+    fn other_order(&mut self, older: &Book, newer: &Book, both: &BothBooks) {
+        let other = Book { byte_order: BIG - newer.byte_order, ..newer.clone() };
+        let legal = same("legal by another byte order", extends(&other, older), false);
+        self.report.check(legal, || format!("extension {other:?} of {older:?}"));
+        let other_octets = other.octets();
+        let other_both = self.book(&other_octets);
+        if let Some(orders) = Orders::of(both, &other_both) {
+            let (seed, book) = (self.seed, hex(both.octets));
+            for _ in 0..TURNED {
+                let octets = self.made(newer);
+                let outcome = orders.read_alike(&mut self.rng, &octets, &mut self.alike);
+                self.report.check(outcome, || format!("seed {seed}, book {book}, message {}", hex(&octets)));
+            }
+            let draft = listings::draft(&mut self.rng, newer);
+            let outcome = orders.written_alike(&draft, &mut self.alike);
+            self.report.check(outcome, || format!("seed {seed}, book {book}, {}", said(&draft)));
+        }
+        let octets = self.made(newer);
+        self.message(&other_both, &octets);
     }
 
     /// The book with some damage or at a border, and messages for what is left of it.
@@ -103,9 +134,8 @@ impl Run<'_> {
             self.drafts += 1;
             let draft = listings::draft(&mut self.rng, made_for);
             let outcome = written::draft(&mut self.rng, &mut self.seen, written_by, &draft);
-            let (seed, Draft { template, listing, pool }) = (self.seed, &draft);
-            let from = || format!("template {template}, listing {listing:?}, pool {}", hex(pool));
-            self.report.check(outcome, || format!("seed {seed}, book {}, {}", hex(written_by.octets), from()));
+            let (seed, book) = (self.seed, written_by.octets);
+            self.report.check(outcome, || format!("seed {seed}, book {}, {}", hex(book), said(&draft)));
         }
     }
 
@@ -113,7 +143,7 @@ impl Run<'_> {
     fn made(&mut self, book: &Book) -> Vec<u8> {
         let octets = messages::message(&mut self.rng, book);
         match self.rng.chance(45) {
-            true => damage::message(&mut self.rng, octets),
+            true => damage::message(&mut self.rng, book.byte_order(), octets),
             false => octets,
         }
     }
@@ -131,4 +161,8 @@ impl Run<'_> {
         let seed = self.seed;
         self.report.check(outcome, || format!("seed {seed}, book {}, message {}", hex(book.octets), hex(octets)));
     }
+}
+
+fn said(Draft { template, listing, pool }: &Draft) -> String {
+    format!("template {template}, listing {listing:?}, pool {}", hex(pool))
 }

@@ -2,7 +2,7 @@
 
 use super::texts::{self, Text};
 use crate::report::Report;
-use plain::Refusal;
+use plain::{Book, Refusal};
 
 const REFUSALS: [(&str, &[usize]); 5] = [
     ("books", &[1, 2, 3, 4, 5, 6]),
@@ -11,6 +11,7 @@ const REFUSALS: [(&str, &[usize]); 5] = [
     ("rooms", &[40]),
     ("writing", &[50, 51, 52, 53, 54, 55]),
 ];
+const BYTE_ORDERS: [&str; 2] = ["little-endian", "big-endian"];
 const KINDS: [&str; 7] = ["number", "null", "octets", "absent", "group", "out of range", "unlisted"];
 
 pub struct Seen {
@@ -20,6 +21,9 @@ pub struct Seen {
     kinds: [u64; 7],
     /// By `texts::NAMES`.
     texts: [u64; 9],
+    /// Messages that were accepted, and listings that were written, by byte order.
+    accepted: [u64; 2],
+    written: [u64; 2],
     /// Messages that were listed into every room from none to enough.
     pub every_room: u64,
     pub trips: Trips,
@@ -38,7 +42,16 @@ pub struct Trips {
 
 impl Seen {
     pub fn nothing() -> Seen {
-        Seen { refusals: [0; 56], lists: 0, kinds: [0; 7], texts: [0; 9], every_room: 0, trips: Trips::default() }
+        Seen {
+            refusals: [0; 56],
+            lists: 0,
+            kinds: [0; 7],
+            texts: [0; 9],
+            accepted: [0; 2],
+            written: [0; 2],
+            every_room: 0,
+            trips: Trips::default(),
+        }
     }
 
     /// Counts a refusal by its number.
@@ -54,6 +67,14 @@ impl Seen {
 
     pub fn text(&mut self, text: Text) {
         self.texts[text as usize] += 1;
+    }
+
+    pub fn accepted_by(&mut self, book: &Book) {
+        self.accepted[usize::from(book.byte_order)] += 1;
+    }
+
+    pub fn written_by(&mut self, book: &Book) {
+        self.written[usize::from(book.byte_order)] += 1;
     }
 
     /// Prints all counts.
@@ -80,25 +101,28 @@ impl Seen {
             let counts = numbers.iter().map(|&number| (number.to_string(), self.refusals[number]));
             (format!("refusals of {of}"), counts.collect())
         });
-        let kinds = KINDS.iter().zip(self.kinds).map(|(name, count)| (name.to_string(), count));
-        let texts = texts::NAMES.iter().zip(self.texts).map(|(name, count)| (name.to_string(), count));
-        let Trips { read_back, written_back, not_so, not_by_tail } = self.trips;
-        let trips = [
-            ("written and read back", read_back),
-            ("read and written back", written_back),
-            ("not so", not_so),
-            ("not so by a text's tail", not_by_tail),
-        ];
-        let trips = trips.iter().map(|&(name, count)| (name.to_string(), count));
-        let rooms = vec![("listed into every room".into(), self.every_room)];
-        let lists = vec![("4".into(), self.lists)];
         let others = [
-            ("refusals of lists", lists),
-            ("answers", kinds.collect()),
-            ("texts", texts.collect()),
-            ("messages", rooms),
-            ("round trips", trips.collect()),
+            ("refusals of lists", vec![("4".into(), self.lists)]),
+            ("answers", named(&KINDS, &self.kinds)),
+            ("texts", named(&texts::NAMES, &self.texts)),
+            ("messages accepted", named(&BYTE_ORDERS, &self.accepted)),
+            ("listings written", named(&BYTE_ORDERS, &self.written)),
+            ("messages", vec![("listed into every room".into(), self.every_room)]),
+            ("round trips", self.trips.counts()),
         ];
         refusals.chain(others.map(|(of, counts)| (of.into(), counts))).collect()
     }
+}
+
+impl Trips {
+    fn counts(&self) -> Vec<(String, u64)> {
+        let Trips { read_back, written_back, not_so, not_by_tail } = *self;
+        let names = ["written and read back", "read and written back", "not so", "not so by a text's tail"];
+        named(&names, &[read_back, written_back, not_so, not_by_tail])
+    }
+}
+
+/// Counts, each with its name.
+fn named(names: &[&str], counts: &[u64]) -> Vec<(String, u64)> {
+    names.iter().zip(counts).map(|(name, &count)| (name.to_string(), count)).collect()
 }

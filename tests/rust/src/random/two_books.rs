@@ -4,7 +4,7 @@
 use super::compare::BothBooks;
 use crate::readers::stream_place;
 use crate::report::same;
-use plain::{extension::extends, message::Part, word, Block, Book, Field, Message, Place, Record};
+use plain::{extension::extends, message::Part, Block, Book, Field, Message, Place, Record};
 use std::fmt;
 
 /// An older book and one that legally extends it, both accepted.
@@ -63,7 +63,7 @@ impl<'a> Pair<'a> {
     /// accept or both refuse, with the same number and place. Nothing is said of a message whose template is not in
     /// both.
     pub fn agree(&self, octets: &[u8], agreed: &mut Agreed) -> Option<Result<(), String>> {
-        let id = word(octets.get(..12)?, 2);
+        let id = self.old_tree.byte_order().number16(octets.get(..12)?, 2);
         let blocks = (&self.old_tree.template(id)?.block, &self.new_tree.template(id)?.block);
         agreed.messages += 1;
         Some(self.answers_agree(octets, blocks, agreed))
@@ -74,7 +74,7 @@ impl<'a> Pair<'a> {
             book.list_all(octets).map(|all| all.iter().map(|answer| answer.record()).collect::<Vec<Record>>())
         };
         let (old, new) = (records(self.old), records(self.new));
-        if word(octets, 6) <= self.old_tree.version {
+        if self.old_tree.byte_order().number16(octets, 6) <= self.old_tree.version {
             agreed.not_later += 1;
             same("verdict of two books", old.as_ref().err(), new.as_ref().err())?;
         }

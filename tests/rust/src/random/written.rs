@@ -5,7 +5,7 @@ use super::seen::Seen;
 use super::texts::{self, Text};
 use crate::readers::{lent, own, stream_write, Free, Reader};
 use crate::report::same;
-use plain::{refusal, word, writer, Draft, Message, Record, Refusal, Rng, LONGEST};
+use plain::{refusal, writer, Draft, Message, Record, Refusal, Rng, LONGEST};
 use siphonbard::Listing;
 
 /// One in so many is written by the calls that make the room themselves, too.
@@ -29,9 +29,10 @@ pub fn draft(rng: &mut Rng, seen: &mut Seen, book: &BothBooks, draft: &Draft) ->
         asked.makes_room()?;
     }
     match (&asked.plain, &book.library) {
-        (Ok(message), Ok(book)) => {
+        (Ok(message), Ok(library)) => {
             seen.trips.read_back += 1;
-            reads_back(book, draft, message)
+            book.plain.iter().for_each(|plain| seen.written_by(plain));
+            reads_back(library, draft, message)
         }
         (Err(refused), Ok(_)) => {
             asked.refused_text(refused).into_iter().for_each(|text| seen.text(text));
@@ -117,7 +118,7 @@ pub fn back(rng: &mut Rng, seen: &mut Seen, book: &BothBooks, message: &Message)
         return Ok(());
     }
     let octets = message.octets;
-    let draft = Draft { template: word(octets, 2), listing: message.list().concat(), pool: octets.to_vec() };
+    let draft = Draft { template: message.template, listing: message.list().concat(), pool: octets.to_vec() };
     let asked = Asked::of(book, &draft);
     asked.write_into(octets.len(), seen)?;
     same("as written", asked.plain.as_deref() == Ok(octets), as_written)?;
@@ -152,7 +153,7 @@ fn not_by_tail(rng: &mut Rng, seen: &mut Seen, book: &BothBooks, message: &Messa
         let listed = book.list(&octets, &mut room).map_err(own);
         same("Book::list, a tail altered", (listed, &room), (Ok(listing.len() / 3), &listing))?;
     }
-    let draft = Draft { template: word(&octets, 2), listing, pool: octets };
+    let draft = Draft { template: message.template, listing, pool: octets };
     let asked = Asked::of(book, &draft);
     asked.write_into(message.octets.len(), seen)?;
     seen.trips.not_by_tail += 1;

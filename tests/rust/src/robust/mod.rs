@@ -12,6 +12,7 @@ mod guarded;
 mod heap;
 mod made;
 mod memory;
+mod numbers;
 mod texts;
 
 use crate::report::Report;
@@ -40,10 +41,11 @@ pub fn on_the_heap(report: &mut Report, seed: u64, messages: u64) {
     all(report, &mut Desk::of(Heap::empty), "on the heap", seed, messages);
 }
 
-/// The recorded cases, random ones, and texts at the ends of what is lent.
+/// The recorded cases, random ones, and texts and numbers at the ends of what is lent.
 fn all<M: Memory>(report: &mut Report, desk: &mut Desk<M>, memory: &str, seed: u64, messages: u64) {
     let random = made::cases(seed, (messages / SHARE) as usize);
-    for (what, cases) in [("recorded", cases::recorded()), ("random", random), ("text", texts::cases())] {
+    let at_ends = [("text", texts::cases()), ("number", numbers::cases())];
+    for (what, cases) in [("recorded", cases::recorded()), ("random", random)].into_iter().chain(at_ends) {
         let mut passes = |case: &Case| report.check(desk.ask(case), || format!("{memory}, seed {seed}, {case}"));
         let passed = cases.iter().filter(|case| passes(case)).count();
         println!("{what} cases, buffers {memory}: {passed} of {}", cases.len());
