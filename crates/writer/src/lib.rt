@@ -169,10 +169,10 @@ fn write_block(
         (p .entry)) (a + 2)) 0 (shapeAt (now (p .entry)) a .fields) (c .record)) (c .at) (now (room .entry)) (r .record)
         (r .at) (now (room .exit)) ⌝ }
 {
-    if prepared::is_big(p) {
-        return write_fields(true, p, a, h, listing, pool, room, c);
+    if !prepared::is_big(p) {
+        return write_fields(false, p, a, h, listing, pool, room, c);
     }
-    write_fields(false, p, a, h, listing, pool, room, c)
+    write_fields(true, p, a, h, listing, pool, room, c)
 }
 
 // The data of record i: how many octets it has.
