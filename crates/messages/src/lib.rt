@@ -159,8 +159,8 @@ fn open_by(p: &[u64], a: usize, h: Header) -> Opened
 fn open_any(p: &[u64], m: &[u8], h: Header, place: Located) -> Opened
     requires { ⌜ HoldsBook (now p) × Lent (now m) 12 × IsHeader (isBig (now p)) (now m) h
         × (place ≡ locationOf (now p) (h .template)) ⌝ }
-    ensures { λ r. ⌜ r ≡ opened (isBig (now (p .entry))) (now (m .entry)) (openAt (now (p .entry)) (now (m
-        .entry))) ⌝ }
+    ensures { λ r. ⌜ r ≡ opened (isBig (now (p .entry))) (now (m .entry))
+        (openAt (now (p .entry)) (now (m .entry))) ⌝ }
 {
     let Walked::Refused(refusal) = wire::check_header(h, number(p, 0)) else {
         let Located::At(a) = place else {
@@ -187,8 +187,8 @@ fn is_own(p: &[u64], a: usize, h: Header) -> bool
 // those by itself.
 fn open_by_header(p: &[u64], m: &[u8], h: Header) -> Opened
     requires { ⌜ HoldsBook (now p) × Lent (now m) 12 × IsHeader (isBig (now p)) (now m) h ⌝ }
-    ensures { λ r. ⌜ r ≡ opened (isBig (now (p .entry))) (now (m .entry)) (openAt (now (p .entry)) (now (m
-        .entry))) ⌝ }
+    ensures { λ r. ⌜ r ≡ opened (isBig (now (p .entry))) (now (m .entry))
+        (openAt (now (p .entry)) (now (m .entry))) ⌝ }
 {
     let place = prepared::find(p, h.template);
     let Located::At(a) = place else {
@@ -209,8 +209,8 @@ fn open_by_header(p: &[u64], m: &[u8], h: Header) -> Opened
 // A message up to its root block.
 pub fn open(p: &[u64], m: &[u8]) -> Opened
     requires { ⌜ HoldsBook (now p) ⌝ }
-    ensures { λ r. ⌜ r ≡ opened (isBig (now (p .entry))) (now (m .entry)) (openAt (now (p .entry)) (now (m
-        .entry))) ⌝ }
+    ensures { λ r. ⌜ r ≡ opened (isBig (now (p .entry))) (now (m .entry))
+        (openAt (now (p .entry)) (now (m .entry))) ⌝ }
 {
     if m.len() < 12 {
         return refuse(10, 0);

@@ -1,16 +1,14 @@
 -- What the types have in common, in the code's terms.
-use mathlib.Core.Path.{_≡_, ap, refl, sym}
+use mathlib.Core.Path.{_≡_, refl}
 use mathlib.Core.Bool.{Bool, false, false≢true, true}
-use Prim.Native.Nat.{_%_, _*_, _+_, _-_, _/_, _<_, _^_, _≤_, suc, zero, ℕ}
+use Prim.Native.Nat.{_%_, _*_, _+_, _-_, _/_, _<_, _^_, _≤_, ℕ}
 use native.Mathlib.Omega.{arith}
 use lib.Dec.{eqb, leb}
-use borrow.Author.Tests.{eq-eqb, eqb-false, eqb-true, le-leb, leb-false, leb-true, lt-leb, ne-eqb}
+use borrow.Author.Tests.{eq-eqb, eqb-false, eqb-true, le-leb, leb-true, lt-leb, ne-eqb}
 use Rattle.layout.specs.Result.{_and_, _or_, if_then_else_}
-use Rattle.layout.specs.Types.{TypeRow, char, classify, inRange, int, isSigned, isWidth, rowOf, typeAt, valueOf}
-use Rattle.layout.specs.Types.{widthOf}
-use Rattle.layout.specs.declared.Answer.the-variants.{Number}
+use Rattle.layout.specs.Types.{TypeRow, char, int, isSigned, isWidth, rowOf, typeAt, valueOf, widthOf}
 use Rattle.layout.proofs.Results.{each-way, or-right}
-use Rattle.layout.proofs.TypeLaws.{Width, each-type, inside-not-null}
+use Rattle.layout.proofs.TypeLaws.{Width, each-type}
 use Rattle.number_types.specs.Value.{coded, isBigIn, typeIn}
 
 -- ---- widths

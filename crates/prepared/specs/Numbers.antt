@@ -9,7 +9,7 @@ use lib.ListN.{length, replicate, set}
 use Rattle.layout.specs.Result.{if_then_else_}
 use Rattle.layout.specs.Types.{TypeRow, typeAt}
 use Rattle.layout.specs.Lists.{NameList}
-use Rattle.layout.specs.Book.{Field, Data, Shape, Groups, none, more, Template, Book, end, groupSinces, need}
+use Rattle.layout.specs.Book.{Field, Data, Shape, Groups, none, more, Template, Book, groupSinces, need}
 use Rattle.number_types.specs.Value.{coded, orderOf}
 
 unfoldable pub fieldsOf : List Field → List ℕ

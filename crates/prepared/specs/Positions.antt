@@ -7,7 +7,7 @@ use Prim.Native.Nat.{ℕ, zero, suc, _+_, _-_, _*_, _≤_, _<_}
 use lib.Dec.{eqb}
 use lib.ListN.{length}
 use Rattle.layout.specs.Types.{typeAt}
-use Rattle.layout.specs.Book.{Field, Shape, Groups, none, more, dataSinces, end as endOf, need, present}
+use Rattle.layout.specs.Book.{Field, Shape, Groups, none, more, dataSinces, need, present}
 use Rattle.layout.specs.BookRules.{word, fieldAt as fieldBy, parseFields, parseDatas, shapeGood}
 use Rattle.number_types.specs.Value.{coded}
 use Rattle.prepared.specs.Names.{HasNames, listsAt}

@@ -7,7 +7,7 @@ use native.Mathlib.Omega.{arith}
 use lib.Dec.{leb}
 use Rattle.layout.specs.Result.{Result, done, if_then_else_, _>>=_}
 use Rattle.layout.specs.Book.{Data}
-use Rattle.layout.specs.BookRules.{parseDatas, word}
+use Rattle.layout.specs.BookRules.{parseDatas}
 use Rattle.layout.specs.Message.{readData, readDatas, skipDatas}
 use Rattle.layout.specs.declared.Answer.{Answer}
 use Rattle.layout.specs.declared.Answer.the-variants.{Absent}

@@ -123,17 +123,11 @@ header-told h schema r e big m lent is = e ∙ sym (rw (
   ← (is .schema .value),
 ) refl)
   where
+    last : AreAt big m 6 (h .version ∷ h .groups ∷ h .datas ∷ [])
+    last = unfold AreAt in (sym (is .version .value), (sym (is .groups .value), (sym (is .datas .value), tt)))
+
     are : AreAt big m 0 (numbersIn h)
-    are = unfold AreAt in (
-      sym (is .length .value),
-      (
-        sym (is .template .value),
-        (
-          sym (is .schema .value),
-          (sym (is .version .value), (sym (is .groups .value), (sym (is .datas .value), tt))),
-        ),
-      ),
-    )
+    are = unfold AreAt in (sym (is .length .value), (sym (is .template .value), (sym (is .schema .value), last)))
 
 -- 11 at number k, the first that is 65535.
 pub header-refused : (h : Header) (schema : ℕ) (r : Walked) (k : ℕ) → AllWhole (take k (numbersIn h))

@@ -1,6 +1,6 @@
 -- The last of the fields that are present decides.
 use mathlib.Core.Path.{_∙_, _≡_, sym}
-use Prim.Native.Nat.{_+_, _*_, _-_, _<_, _≤_}
+use Prim.Native.Nat.{_+_, _*_, _-_, _<_}
 use native.Mathlib.Omega.{arith}
 use borrow.Author.Needs.{needs}
 use borrow.Author.Tests.{ltb-true}
