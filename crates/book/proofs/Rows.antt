@@ -241,17 +241,6 @@ module _ (b : List ℕ) where
   lists-length zero w = refl
   lists-length (suc n) w = ap suc (lists-length n (w + 3))
 
-  list-among : (d : NameList) (n w i : ℕ) → i < n
-      → getD (map (nameListOf b) (parseContents b n w)) i d ≡ listAt b (w + 3 * i)
-  unfolding parseContents
-  list-among d zero w i h = absurd (omega arith)
-  list-among d (suc n) w zero h = rw (unshifted w) refl
-  list-among d (suc n) w (suc i) h = rw (shifted w i) (list-among d n (w + 3) i (omega arith))
-
-  -- List i of the book is that of its row.
-  pub list-at : (d : NameList) (i : ℕ) → i < word b 4 → getD (listsOf b) i d ≡ listAt b (listRow b i)
-  list-at d i h = rw (list-row (word b 2) i) (list-among d (word b 4) _ i h)
-
   module _ (id : ℕ) where
     -- The first of n rows from word w on that has the number.
     record Found (n w i : ℕ) : Type 0 where

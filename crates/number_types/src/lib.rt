@@ -86,7 +86,7 @@ fn raw(big: bool, s: &[u8], at: usize, w: usize) -> u64
 
 // The value of the number x that a type's octets are: of a signed type the numbers above its greatest are the
 // negatives, counted from the least, its null.
-pub fn value_of(t: usize, x: u64) -> u64
+fn value_of(t: usize, x: u64) -> u64
     requires { ⌜ x < 256 ^ (typeAt t .width) ⌝ }
     ensures { λ r. ⌜ r ≡ valueOf (typeAt t) x ⌝ }
 {

@@ -44,9 +44,6 @@ entryEnd (fs, gs, ds, x) = (x, length fs + (measure gs + length ds))
 abbrev pub valuesEnd : ℕ → Values × ℕ → ℕ × ℕ
 valuesEnd seen (r, x) = (x, seen + measure r)
 
-abbrev pub groupEnd : Answer × Values × ℕ → ℕ × ℕ
-groupEnd (a, es, x) = (x, 1 + measure es)
-
 -- ---- how far, and how many
 
 -- A message that is not too long, and a place in it.
