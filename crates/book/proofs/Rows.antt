@@ -5,11 +5,11 @@ use mathlib.Core.List.{List, [], _∷_, map}
 use Prim.Native.Nat.{_*_, _+_, _-_, _/_, _<_, _≤_, suc, zero, ℕ}
 use native.Mathlib.Omega.{arith}
 use lib.Dec.{eqb, leb, ltb}
-use lib.ListN.{getD, length}
+use lib.ListN.{length}
 use borrow.Author.Tests.{eq-eqb, eqb-true, leb-true, ne-eqb}
 use Rattle.layout.specs.Result.{Result, _>>=_, _and_, done, if_then_else_, must, refused}
 use Rattle.layout.specs.Octets.{wordsOf}
-use Rattle.layout.specs.Lists.{NameList, findNames, missing, namesOf}
+use Rattle.layout.specs.Lists.{findNames, missing, namesOf}
 use Rattle.layout.specs.BookRules.{ContentsRow, checkContents, contentsEnd, contentsSize, headGood, headSize, listRows}
 use Rattle.layout.specs.BookRules.{listsOf, nameListOf, parseContents, templateRows, word}
 use Rattle.layout.proofs.Results.{and-left, and-right, done-inj, inv-bind, inv-must}
