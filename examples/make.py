@@ -9,7 +9,8 @@ import sys
 
 from schema_book import block, book, data, enumeration, field, flags, group
 
-# ---- The books: a fill; one with a quantity where there was padding, and a condition more; the same, big-endian ----
+# ---- The books: a fill; one with a quantity where there was padding, and a condition more; the same, big-endian; the
+# same with counted dimensions, and one with the deliveries of each mill ----
 
 SCHEMA, FILL = 7, 1
 BLOCK = 28  # octets of a fill's block, in all books
@@ -24,10 +25,15 @@ FIELDS = [
 ]
 QUANTITY = field(32, "uint32", offset=24, since=1)  # the filled quantity, in tonnes
 
-MILLS = group(78, block(4, [
+MILL = [
     field(79, "uint16", offset=0),  # a mill
     field(80, "uint8", offset=2),  # its share of the fill, in percent
-]))
+]
+MILLS = group(78, block(4, MILL))
+DELIVERIES = group(81, block(4, [
+    field(82, "uint8", offset=0, since=2),  # a week of delivery
+    field(83, "uint16", offset=2, since=2),  # what comes in it, in tonnes
+]), since=2)
 NOTE = data(58)
 
 # Codes of the side, as FIX has them, and bits of the conditions. Only the newer book lists the last bit.
@@ -46,6 +52,11 @@ NEWER_LISTS = {
 NEWER = book(SCHEMA, 1, NEWER_TEMPLATES, NEWER_LISTS)
 BIG = book(SCHEMA, 1, NEWER_TEMPLATES, NEWER_LISTS, byte_order="big")
 
+COUNTED = book(SCHEMA, 1, NEWER_TEMPLATES, NEWER_LISTS, dimension=4)
+WITH_DELIVERIES = group(78, block(4, MILL, [DELIVERIES]))
+DELIVERED_TEMPLATES = {FILL: block(BLOCK, FIELDS + [QUANTITY], [WITH_DELIVERIES], [NOTE])}
+DELIVERED = book(SCHEMA, 2, DELIVERED_TEMPLATES, NEWER_LISTS, dimension=4)
+
 # ---- The messages: x is an octet of padding ----
 
 LEAST_FIRST, MOST_FIRST = "<", ">"  # the byte orders as struct has them
@@ -53,13 +64,18 @@ NO_WEEK = 255  # null for a uint8
 SELL_SHORT = b"5"  # a side that no book lists
 
 
-def message(version, root, mills, note, first=LEAST_FIRST):
-    """The header, with one group and one data; the root block; the group: its block length, its number of entries and
-    the entries; the data: its length and its octets."""
+def message(version, root, mills, note, first=LEAST_FIRST, counts=()):
+    """The header, with one group and one data; the root block; the group; the data: its length and its octets. Of a
+    mill there are its number, its share, and what follows its block."""
     header = struct.pack(first + "6H", BLOCK, FILL, SCHEMA, version, 1, 1)
-    entries = b"".join(struct.pack(first + "HBx", mill, share) for mill, share in mills)
-    group = struct.pack(first + "2H", 4, len(mills)) + entries
-    return header + root + group + struct.pack(first + "H", len(note)) + note
+    entries = [struct.pack(first + "HBx", mill, share) + b"".join(rest) for mill, share, *rest in mills]
+    return header + root + entries_of(4, entries, first, counts) + struct.pack(first + "H", len(note)) + note
+
+
+def entries_of(length, entries, first=LEAST_FIRST, counts=()):
+    """A group: its block length, its number of entries and, if dimensions are counted, the numbers of groups and data
+    in an entry; then the entries."""
+    return struct.pack(first + "%dH" % (2 + len(counts)), length, len(entries), *counts) + b"".join(entries)
 
 
 def root(order, price, week, side, conditions, quantity=0, first=LEAST_FIRST):
@@ -74,6 +90,19 @@ NEWER_FILL = message(1, root(b"C2-00917", 340, 23, BUY, [IN_PART], 500), [(12, 1
 BIG_ROOT = root(b"V9-55010", -45, NO_WEEK, SELL, [BY_WEIGHT_AT_MILL], 1200, MOST_FIRST)
 BIG_FILL = message(1, BIG_ROOT, [(7, 75), (300, 25)], b"rail", MOST_FIRST)
 
+NOTHING_INSIDE, DELIVERIES_INSIDE = (0, 0), (1, 0)  # counts of groups and data in each entry
+
+
+def deliveries(*weeks):
+    """A group: week and tonnes of each."""
+    return entries_of(4, [struct.pack("<BxH", week, tonnes) for week, tonnes in weeks], counts=NOTHING_INSIDE)
+
+
+COUNTED_ROOT = root(b"D4-20031", 15, 26, BUY, [BY_WEIGHT_AT_MILL], 900)
+COUNTED_FILL = message(1, COUNTED_ROOT, [(12, 60), (31, 40)], b"by barge", counts=NOTHING_INSIDE)
+BY_WEEK = [(12, 60, deliveries((26, 300), (27, 240))), (31, 40, deliveries((27, 360)))]
+DELIVERED_FILL = message(2, COUNTED_ROOT, BY_WEEK, b"by barge", counts=DELIVERIES_INSIDE)
+
 ALL_MILLS = [(mill, 2 + mill % 2) for mill in range(1, 41)]
 LONG_ORDER = b"C2-00918-40MILLS"  # as long as an order may be: no NUL behind it
 FORTY_MILLS = message(1, root(LONG_ORDER, 335, 24, BUY, [BY_WEIGHT_AT_MILL], 2000), ALL_MILLS, b"all mills")
@@ -85,11 +114,15 @@ FILES = {
     "books/older.book": OLDER,
     "books/newer.book": NEWER,
     "books/big.book": BIG,
+    "books/counted.book": COUNTED,
+    "books/delivered.book": DELIVERED,
     "messages/older_fill.sbe": OLDER_FILL,
     "messages/newer_fill.sbe": NEWER_FILL,
     "messages/forty_mills.sbe": FORTY_MILLS,
     "messages/unlisted_fill.sbe": UNLISTED_FILL,
     "messages/big_fill.sbe": BIG_FILL,
+    "messages/counted_fill.sbe": COUNTED_FILL,
+    "messages/delivered_fill.sbe": DELIVERED_FILL,
     "messages/cut_fill.sbe": NEWER_FILL[:-1],  # its last octet was lost on the way
 }
 

@@ -12,9 +12,9 @@
  * Every reply begins with a `number` and a `place`. After success both are 0. Else they are the refusal, and the call
  * has altered nothing that it was lent.
  *
- * A book says in its head whether its messages are little-endian or big-endian, and the calls read and write them so:
- * nothing else is to be done for it. A book's own words are little-endian whatever its messages are, and the numbers
- * that a call is lent and gives are those of the processor.
+ * A book says in its head whether its messages are little-endian or big-endian, and whether a group's dimension has two
+ * numbers or four, and the calls read and write them so: nothing else is to be done for it. A book's own words are
+ * little-endian whatever its messages are, and the numbers that a call is lent and gives are those of the processor.
  */
 #ifndef SIPHONBARD_H
 #define SIPHONBARD_H
@@ -29,7 +29,7 @@ extern "C" {
 /*
  * ---- Refusals: the `number` of a reply, when it is given, and what its `place` is ----
  *
- * Places of 10 to 20 are offsets in the message; templates, lists and records count from 0. The book is judged first,
+ * Places of 10 to 22 are offsets in the message; templates, lists and records count from 0. The book is judged first,
  * then the message in the order of the wire, then the call's own arguments; one refusal is given. Of a book's own, the
  * lowest number is, 4 of a template before 4 of a list. Of writing's own, 50 comes first, then 51 to 54 at the first
  * record at fault (51 first within it), then 51 for what is left over, and 55 last.
@@ -39,7 +39,8 @@ extern "C" {
 #define SIPHONBARD_REFUSED_BOOK_SIZE 1
 /*
  * When the book's head is cut short, its word count is wrong, its schema id or version is 65535, its byte order is
- * neither 0 nor 1, it has no template or over 64, or its contents don't fit. Place: 0.
+ * neither 0 nor 1, its numbers of a dimension are neither 2 nor 4, it has no template or over 64, or its contents don't
+ * fit. Place: 0.
  */
 #define SIPHONBARD_REFUSED_BOOK_HEAD 2
 /* When the book's contents break a rule, or a template or list id is 65535. Place: 0. */
@@ -80,6 +81,10 @@ extern "C" {
 #define SIPHONBARD_REFUSED_DATA_LENGTH_NULL 19
 /* When octets are left over. Place: the first of them. */
 #define SIPHONBARD_REFUSED_OCTETS_LEFT_OVER 20
+/* When a known group's number of groups is wrong, or its number of data. Place: the dimension's start. */
+#define SIPHONBARD_REFUSED_GROUP_COUNTS_WRONG 21
+/* When a group is below depth four. Place: the dimension's start. */
+#define SIPHONBARD_REFUSED_GROUP_TOO_DEEP 22
 
 /* When the place has over four steps, or a number that the book lacks. Place: 0. */
 #define SIPHONBARD_REFUSED_PLACE_UNKNOWN 30
@@ -171,7 +176,7 @@ typedef struct {
 /* Whether the octets are a schema book: accepted, or 1 to 6. */
 siphonbard_checked siphonbard_check_book(const uint8_t *book, size_t book_len);
 
-/* Whether the message is one of the book's: accepted, or 1 to 20. */
+/* Whether the message is one of the book's: accepted, or 1 to 22. */
 siphonbard_checked siphonbard_check(const uint8_t *book, size_t book_len, const uint8_t *message,
                                     size_t message_len);
 
@@ -208,9 +213,9 @@ siphonbard_found siphonbard_place(const uint8_t *book, size_t book_len, const ui
  * pool's first octet, and SIPHONBARD_IS_ABSENT, SIPHONBARD_IS_OUT_OF_RANGE and SIPHONBARD_IS_UNLISTED are answered 51.
  * The listing of a message is written back with that message as the pool.
  *
- * The message has the book's version, byte order, declared block lengths and counts, and zeros where a block has no
- * field. A text may have fewer octets than its field, which is filled with NUL; an optional one that would have none is
- * given as SIPHONBARD_IS_NULL.
+ * The message has the book's version, byte order, declared block lengths, dimensions and counts, and zeros where a
+ * block has no field. A text may have fewer octets than its field, which is filled with NUL; an optional one that would
+ * have none is given as SIPHONBARD_IS_NULL.
  *
  * Octets of the room past the message are left as they were; after a refusal all of them are. `listing_len` counts
  * numbers, not records; a `template_id` over 65535 is answered 50.
@@ -244,7 +249,7 @@ siphonbard_counted siphonbard_write(const uint8_t *book, size_t book_len, uint64
  */
 siphonbard_counted siphonbard_prepare(const uint8_t *book, size_t book_len, uint64_t *room, size_t room_len);
 
-/* Whether the message is one of the book's: accepted, or 10 to 20. */
+/* Whether the message is one of the book's: accepted, or 10 to 22. */
 siphonbard_checked siphonbard_stream_check(const uint64_t *prepared, size_t prepared_len, const uint8_t *message,
                                            size_t message_len);
 

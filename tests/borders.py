@@ -15,7 +15,7 @@ import schema_book
 from schema_book import block, octets
 
 FOLDER = ROOT / "crates" / "check_books"
-HEAD, ROW, FIELD = 6, 3, 7  # words of a book's head, of a row of its contents, of a field
+HEAD, ROW, FIELD = 7, 3, 7  # words of a book's head, of a row of its contents, of a field
 
 
 def field(type="uint8", length=1, offset=0, presence="required", since=0, list=None):
@@ -44,12 +44,12 @@ def bits(*numbers):
     return [1, *numbers]
 
 
-def book(*bodies, lists=(), schema=7, version=0, byte_order=0, ids=None, list_ids=None, shift=0, more=0):
+def book(*bodies, lists=(), schema=7, version=0, byte_order=0, dimension=2, ids=None, list_ids=None, shift=0, more=0):
     """A book of these bodies and lists, their ids from 1 and from 4 on. `shift` is added to the last row's first word,
     `more` to the number of words."""
     templates = [*zip(ids or range(1, len(bodies) + 1), bodies)]
     names = [*zip(list_ids or range(4, len(lists) + 4), lists)]
-    words = schema_book.words(schema, version, templates, names, byte_order)
+    words = schema_book.words(schema, version, templates, names, byte_order, dimension)
     words[HEAD + ROW * (len(bodies) + len(lists)) - 2] += shift
     words[3] += more
     return octets(words)
@@ -84,6 +84,16 @@ def naming(id):
     return book(block(8, [field(list=id)]), lists=[values(1), bits(1)], list_ids=[4, 9])
 
 
+def young(since, **more):
+    """A group of this since."""
+    return group([field(since=since)], since=since, **more)
+
+
+def inside(groups=(), datas=(), dimension=2):
+    """A book of version 2 with a group since 1, and in it these groups and data."""
+    return book(block(8, (), [young(1, groups=groups, datas=datas)]), version=2, dimension=dimension)
+
+
 def of_lists(*lists, **more):
     """A book of these lists, which nothing uses."""
     return book(ONE, lists=lists, **more)
@@ -99,9 +109,10 @@ MISSING = block(8, [field(list=0)])
 BORDERS = [
     ("6 octets", octets([7, 0, 1]), "refused 1 0"),
     ("8 octets, no template", octets([7, 0, 0, 4]), "refused 2 0"),
-    ("8 octets, the head without its last two words", octets([7, 0, 1, 4]), "refused 2 0"),
-    ("10 octets, the head without its last word", octets([7, 0, 1, 5, 0]), "refused 2 0"),
-    ("12 octets, the head and no contents", octets([7, 0, 1, 6, 0, 0]), "refused 2 0"),
+    ("8 octets, the head without its last three words", octets([7, 0, 1, 4]), "refused 2 0"),
+    ("10 octets, the head without its last two words", octets([7, 0, 1, 5, 0]), "refused 2 0"),
+    ("12 octets, the head without its last word", octets([7, 0, 1, 6, 0, 0]), "refused 2 0"),
+    ("14 octets, the head and no contents", octets([7, 0, 1, 7, 0, 0, 2]), "refused 2 0"),
     ("odd octets", book(ONE) + b"\0", "refused 1 0"),
     ("8,192 octets", sized(8192), "accepted"),
     ("8,194 octets", sized(8194), "refused 1 0"),
@@ -115,19 +126,27 @@ BORDERS = [
     ("byte order 256", book(ONE, byte_order=256), "refused 2 0"),
     ("byte order 65535", book(ONE, byte_order=65535), "refused 2 0"),
     ("byte order 2 hides a body one word on", book(ONE, byte_order=2, shift=1), "refused 2 0"),
+    ("dimensions of one number", book(ONE, dimension=1), "refused 2 0"),
+    ("dimensions of two numbers", book(ONE, dimension=2), "accepted"),
+    ("dimensions of three numbers", book(ONE, dimension=3), "refused 2 0"),
+    ("dimensions of four numbers", book(ONE, dimension=4), "accepted"),
+    ("dimensions of five numbers", book(ONE, dimension=5), "refused 2 0"),
+    ("dimensions of 1,024 numbers", book(ONE, dimension=1024), "refused 2 0"),
+    ("dimensions of 65,535 numbers", book(ONE, dimension=65535), "refused 2 0"),
+    ("dimensions of three numbers hide a body one word on", book(ONE, dimension=3, shift=1), "refused 2 0"),
     ("64 templates", book(*[EMPTY] * 64), "accepted"),
     ("65 templates", book(*[EMPTY] * 65), "refused 2 0"),
-    ("contents that just fit", octets([7, 0, 2, 12, 0, 0, 1, 12, 0, 2, 12, 0]), "refused 4 0"),
-    ("contents that do not fit", octets([7, 0, 2, 11, 0, 0, 1, 12, 0, 2, 12]), "refused 2 0"),
-    ("contents of a list that just fit", octets([7, 0, 1, 12, 1, 0, 1, 12, 0, 4, 12, 0]), "refused 4 0"),
-    ("contents of a list that do not fit", octets([7, 0, 1, 11, 1, 0, 1, 12, 0, 4, 12]), "refused 2 0"),
-    ("65,535 lists", octets([7, 0, 1, 13, 65535, 0, 1, 9, 4] + EMPTY), "refused 2 0"),
+    ("contents that just fit", octets([7, 0, 2, 13, 0, 0, 2, 1, 13, 0, 2, 13, 0]), "refused 4 0"),
+    ("contents that do not fit", octets([7, 0, 2, 12, 0, 0, 2, 1, 13, 0, 2, 13]), "refused 2 0"),
+    ("contents of a list that just fit", octets([7, 0, 1, 13, 1, 0, 2, 1, 13, 0, 4, 13, 0]), "refused 4 0"),
+    ("contents of a list that do not fit", octets([7, 0, 1, 12, 1, 0, 2, 1, 13, 0, 4, 13]), "refused 2 0"),
+    ("65,535 lists", octets([7, 0, 1, 14, 65535, 0, 2, 1, 10, 4] + EMPTY), "refused 2 0"),
     ("template id 65534", book(ONE, ids=[65534]), "accepted"),
     ("template id 65535", book(ONE, ids=[65535]), "refused 3 0"),
     ("ids that rise", book(ONE, ONE, ids=[4, 5]), "accepted"),
     ("ids that stay", book(ONE, ONE, ids=[4, 4]), "refused 3 0"),
     ("a body one word on", book(ONE, shift=1), "refused 3 0"),
-    ("a word after the last body", octets([7, 0, 1, 14, 0, 0, 1, 9, 4] + EMPTY + [0]), "refused 3 0"),
+    ("a word after the last body", octets([7, 0, 1, 15, 0, 0, 2, 1, 10, 4] + EMPTY + [0]), "refused 3 0"),
     ("list id 65534", of_lists(bits(1), list_ids=[65534]), "accepted"),
     ("list id 65535", of_lists(bits(1), list_ids=[65535]), "refused 3 0"),
     ("list ids that rise", of_lists(bits(1), bits(1), list_ids=[4, 5]), "accepted"),
@@ -135,10 +154,11 @@ BORDERS = [
     ("a list id that is a template's", of_lists(bits(1), list_ids=[1]), "accepted"),
     ("a list one word on", of_lists(bits(1), shift=1), "refused 3 0"),
     ("a list one word before", of_lists(bits(1), shift=-1), "refused 3 0"),
-    ("a list", octets([7, 0, 1, 18, 1, 0, 1, 12, 4, 4, 16, 2] + EMPTY + [0, 65]), "accepted"),
+    ("a list", octets([7, 0, 1, 19, 1, 0, 2, 1, 13, 4, 4, 17, 2] + EMPTY + [0, 65]), "accepted"),
     ("a word after the last list",
-     octets([7, 0, 1, 19, 1, 0, 1, 12, 4, 4, 16, 2] + EMPTY + [0, 65, 66]), "refused 3 0"),
-    ("a list before a template", octets([7, 0, 1, 18, 1, 0, 1, 14, 4, 4, 12, 2] + [0, 65] + EMPTY), "refused 3 0"),
+     octets([7, 0, 1, 20, 1, 0, 2, 1, 13, 4, 4, 17, 2] + EMPTY + [0, 65, 66]), "refused 3 0"),
+    ("a list before a template",
+     octets([7, 0, 1, 19, 1, 0, 2, 1, 15, 4, 4, 13, 2] + [0, 65] + EMPTY), "refused 3 0"),
     ("a body of no words", book(EMPTY, []), "refused 4 1"),
     ("a body of three words", book([0, 0, 0]), "refused 4 0"),
     ("a body of four words", book(EMPTY), "accepted"),
@@ -223,9 +243,17 @@ BORDERS = [
     ("a group's first field younger than it", book(block(8, (), [group([field(since=1)])]), version=1), "refused 6 0"),
     ("a group's second field younger than it",
      book(block(8, (), [group([field(), field(offset=1, since=1)])]), version=1), "accepted"),
-    ("data in a group younger than it", book(block(8, (), [group(datas=[data(1)])]), version=1), "refused 6 0"),
-    ("a group in a group older than it",
-     book(block(8, (), [group([field(since=1)], [group()], since=1)]), version=1), "refused 6 0"),
+    ("data in a group younger than it", inside(datas=[data(2)]), "refused 6 0"),
+    ("a group in a group younger than it", inside([young(2)]), "refused 6 0"),
+    ("a group in a group older than it", inside([young(0)]), "refused 6 0"),
+    ("data in a group younger than it, four numbers", inside(datas=[data(1), data(2)], dimension=4), "accepted"),
+    ("data in a group above the version, four numbers", inside(datas=[data(3)], dimension=4), "refused 6 0"),
+    ("data in a group older than it, four numbers", inside(datas=[data(0), data(1)], dimension=4), "refused 6 0"),
+    ("data in a group that falls, four numbers", inside(datas=[data(2), data(1)], dimension=4), "refused 6 0"),
+    ("a group in a group younger than it, four numbers", inside([young(1), young(2)], dimension=4), "accepted"),
+    ("a group in a group above the version, four numbers", inside([young(3)], dimension=4), "refused 6 0"),
+    ("a group in a group older than it, four numbers", inside([young(0)], dimension=4), "refused 6 0"),
+    ("groups in a group that fall, four numbers", inside([young(2), young(1)], dimension=4), "refused 6 0"),
     ("4 in the last template hides 5 in the first", book(FIVE, ONE, [0]), "refused 4 2"),
     ("4 in the last template hides 4 in a list", book(ONE, [0], lists=[values()]), "refused 4 1"),
     ("4 in the last list hides 5 in the first template", book(MISSING, ONE, lists=[bits(1), values()]), "refused 4 3"),

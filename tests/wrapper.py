@@ -1,7 +1,7 @@
 #!/usr/bin/env python3
 """wrapper.py: tries examples/python/siphonbard.py over the shared object that SIPHONBARD_SO names: listings of none to
-many records, a place, a message that is written back, a number that its list lacks, texts, big-endian messages, a book
-whose octets are gone, the largest book, and refusals with their words.
+many records, a place, a message that is written back, a number that its list lacks, texts, big-endian messages, groups
+that count what is in their entries, a book whose octets are gone, the largest book, and refusals with their words.
 
 Prints what is wrong. The last line is 'wrapper: N passed, 0 failed'."""
 import struct
@@ -149,6 +149,54 @@ def refuses_the_other_order():
     return [said[:2] for said in refused], [(12, 4), (12, 4), (2, 0)]
 
 
+OLDER_GROUP = [group(1, block(1, [field(2, "uint8", offset=0)]))]
+NEWER_GROUP = [group(1, block(1, [field(2, "uint8", offset=0)], [
+    group(3, block(1, [field(4, "uint8", offset=0, since=1)]), since=1),
+], [data(5, since=1)]))]
+
+
+def of_groups(version, groups, dimension=4):
+    return Book(book(7, version, {1: block(0, groups=groups)}, dimension=dimension))
+
+
+def of_entries(version, *rest):
+    """A message of one group of two entries; the rest is the dimension and what follows it."""
+    return struct.pack("<6H", 0, 1, 7, version, 1, 0) + b"".join(rest)
+
+
+FIRST_ENTRY = b"\x07" + struct.pack("<4H", 1, 1, 0, 0) + b"\x08" + b"\x02\0ab"
+SECOND_ENTRY = b"\x09" + struct.pack("<4H", 1, 0, 0, 0) + b"\0\0"
+WITH_MORE = of_entries(1, struct.pack("<4H", 1, 2, 1, 1), FIRST_ENTRY, SECOND_ENTRY)
+OF_OLDER = [(Kind.GROUP, 2, 0), (Kind.NUMBER, 7, 0), (Kind.NUMBER, 9, 0)]
+OF_NEWER = [
+    (Kind.GROUP, 2, 0), (Kind.NUMBER, 7, 0), (Kind.GROUP, 1, 0), (Kind.NUMBER, 8, 0), (Kind.OCTETS, 32, 2),
+    (Kind.NUMBER, 9, 0), (Kind.GROUP, 0, 0), (Kind.OCTETS, 45, 0),
+]
+
+
+def reads_more_inside():
+    """A group and a data inside a group, by the book that has them and by one that has not."""
+    books = of_groups(0, OLDER_GROUP), of_groups(1, NEWER_GROUP)
+    return [by.list(WITH_MORE) for by in books], [OF_OLDER, OF_NEWER]
+
+
+def writes_counts():
+    by = of_groups(1, NEWER_GROUP)
+    return by.write(1, OF_NEWER, WITH_MORE), WITH_MORE
+
+
+def refuses_counts():
+    """A count of the older version's that is not 0, a group below depth four, and a book of no such dimensions."""
+    older = of_groups(0, OLDER_GROUP)
+    deep = struct.pack("<4H", 0, 1, 1, 0) * 3 + bytes(8)
+    refused = [
+        refuses(older.list, of_entries(0, struct.pack("<4H", 1, 0, 0, 1))),
+        refuses(older.list, of_entries(1, struct.pack("<4H", 1, 1, 1, 0), b"\x07", deep)),
+        refuses(of_groups, 0, OLDER_GROUP, 3),
+    ]
+    return [said[:2] for said in refused], [(21, 12), (22, 45), (2, 0)]
+
+
 def outlives_its_octets():
     """The octets are altered once the book is there."""
     octets, (_, message, records) = bytearray(ENTRIES), of_records(9)
@@ -158,9 +206,9 @@ def outlives_its_octets():
 
 
 def prepares_the_largest():
-    """8,192 octets: eight templates of 64 fields, one of 61 and one of none, and a list of five numbers."""
+    """8,192 octets: eight templates of 64 fields, one of 61 and one of none, and a list of four numbers."""
     templates = {id: block(64, octet_fields(64)) for id in range(8)}
-    octets = book(7, 0, {**templates, 8: block(61, octet_fields(61)), 9: block(0)}, {4: enumeration(range(5))})
+    octets = book(7, 0, {**templates, 8: block(61, octet_fields(61)), 9: block(0)}, {4: enumeration(range(4))})
     message = struct.pack("<6H", 61, 8, 7, 0, 0, 0) + bytes(range(61))
     return (len(octets), Book(octets).list(message)), (8192, [(Kind.NUMBER, value, 0) for value in range(61)])
 
@@ -207,7 +255,8 @@ COUNTS = [0, 1, FIRST - 1, FIRST, FIRST + 1, 2 * FIRST, 5000]
 TESTS = [(lists, count) for count in COUNTS] + [
     (places,), (writes_back,), (tells_unlisted,), (writes_listed,), (refuses_unlisted,), (reads_texts,),
     (tells_what_is_no_text,), (writes_texts,), (refuses_texts,), (reads_either_order,), (places_in_big_endian,),
-    (writes_either_order,), (refuses_the_other_order,), (outlives_its_octets,), (prepares_the_largest,),
+    (writes_either_order,), (refuses_the_other_order,), (reads_more_inside,), (writes_counts,), (refuses_counts,),
+    (outlives_its_octets,), (prepares_the_largest,),
     (refuses_a_book,), (refuses_a_template,), (refuses_a_list,), (refuses_a_message,), (refuses_a_room,),
 ]
 

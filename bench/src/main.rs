@@ -17,7 +17,7 @@ use plain::ByteOrder;
 use rivals::Rival;
 use tables::Compared;
 use timing::{medians, Contender};
-use workloads::{Entry, Workload, ALL, SIZED, SIZES};
+use workloads::{Entry, Workload, ALL, SIZED, SIZES, WORST};
 
 const ROUNDS: usize = 151;
 /// A round of a stream is long by itself: it has one of so many rounds, but five at least.
@@ -45,6 +45,9 @@ pub enum Operation {
 const OPERATIONS: [Operation; 5] =
     [Operation::Check, Operation::List, Operation::ListAll, Operation::Place, Operation::Write];
 
+/// Those of the worst messages, which are not written.
+const READING: [Operation; 3] = [Operation::Check, Operation::List, Operation::Place];
+
 impl Operation {
     pub fn name(self) -> &'static str {
         match self {
@@ -66,14 +69,19 @@ fn main() {
     let only = words.next();
     let chosen = |name: &str| only.as_deref().map_or(true, |only| only == name);
     let entries: Vec<&Entry> = ALL.iter().filter(|(name, ..)| chosen(name)).collect();
+    let worst: Vec<&Entry> = WORST.iter().filter(|(name, ..)| chosen(name)).collect();
     let pairs: Vec<&[Entry; 2]> = SIZED.iter().filter(|[_, (name, ..)]| chosen(name)).collect();
     let others = [GROWTH, BYTE_ORDER, PREPARE].iter().any(|name| chosen(name));
-    assert!(!entries.is_empty() || !pairs.is_empty() || others, "no such workload");
+    assert!(!entries.is_empty() || !worst.is_empty() || !pairs.is_empty() || others, "no such workload");
     tables::head(rounds, fewer(rounds));
     if !entries.is_empty() {
-        let compared: Vec<Compared> = entries.into_iter().map(|entry| compare(entry, rounds)).collect();
+        let compared: Vec<Compared> = entries.into_iter().map(|entry| compare(entry, &OPERATIONS, rounds)).collect();
         tables::workloads(&compared);
         tables::times(&compared);
+    }
+    if !worst.is_empty() {
+        let compared = worst.into_iter().map(|entry| compare(entry, &READING, fewer(rounds)));
+        tables::worst(&compared.collect::<Vec<_>>());
     }
     if chosen(GROWTH) {
         growth(rounds);
@@ -94,20 +102,27 @@ fn fewer(rounds: usize) -> usize {
     (rounds / FEWER).max(FEWEST)
 }
 
-fn compare(&(name, what, make): &Entry, rounds: usize) -> Compared {
+fn compare(&(name, what, make): &Entry, operations: &[Operation], rounds: usize) -> Compared {
     let workload = &make();
     let plain = plain::Book::read(&workload.book).expect("a book");
-    let times = match plain.byte_order() {
-        ByteOrder::Little => times::<false>(workload, &plain, rounds),
-        ByteOrder::Big => times::<true>(workload, &plain, rounds),
+    let times = match (plain.byte_order(), plain.is_counted()) {
+        (ByteOrder::Little, false) => times::<false, false>(workload, &plain, operations, rounds),
+        (ByteOrder::Little, true) => times::<false, true>(workload, &plain, operations, rounds),
+        (ByteOrder::Big, false) => times::<true, false>(workload, &plain, operations, rounds),
+        (ByteOrder::Big, true) => times::<true, true>(workload, &plain, operations, rounds),
     };
     Compared { name, what, counts: workload.counts(), drafted: workload.drafted(), times }
 }
 
-/// Times every operation, once the rivals agree, by a book of this byte order.
-fn times<const BIG: bool>(workload: &Workload, plain: &plain::Book, rounds: usize) -> Vec<(Operation, Vec<f64>)> {
+/// Times each operation, once the rivals agree, by a book of this byte order and with such dimensions.
+fn times<const BIG: bool, const COUNTED: bool>(
+    workload: &Workload,
+    plain: &plain::Book,
+    operations: &[Operation],
+    rounds: usize,
+) -> Vec<(Operation, Vec<f64>)> {
     let library = siphonbard::Book::checked(&workload.book).expect("a book");
-    let lean = lean::Book::<BIG>::compiled(plain);
+    let lean = lean::Book::<BIG, COUNTED>::compiled(plain);
     agree::agree(&library, plain, workload);
     agree::agree(&library, &lean, workload);
     let rounds = if workload.is_stream() { fewer(rounds) } else { rounds };
@@ -121,7 +136,7 @@ fn times<const BIG: bool>(workload: &Workload, plain: &plain::Book, rounds: usiz
         ];
         (operation, medians(&mut contenders, &mut rooms, rounds))
     };
-    OPERATIONS.iter().copied().map(time).collect()
+    operations.iter().copied().map(time).collect()
 }
 
 fn contender<'a, R: Rival>(rival: &'a R, workload: &'a Workload, operation: Operation) -> Contender<'a> {

@@ -45,6 +45,9 @@ fn book(workload: &Workload) -> Book {
     let book = Book::checked(&workload.book).expect("a book");
     let plain = plain::Book::read(&workload.book).expect("a book");
     agree::agree(&book, &plain, workload);
-    agree::agree(&book, &lean::Book::<false>::compiled(&plain), workload);
+    match plain.is_counted() {
+        false => agree::agree(&book, &lean::Book::<false, false>::compiled(&plain), workload),
+        true => agree::agree(&book, &lean::Book::<false, true>::compiled(&plain), workload),
+    }
     book
 }

@@ -37,13 +37,30 @@ pub fn workloads(all: &[Compared]) {
 pub fn times(all: &[Compared]) {
     println!("Nanoseconds per message, and per record in brackets.");
     println!();
+    beside(all, |compared, operation| {
+        let counts = if operation == Operation::Write { compared.drafted } else { compared.counts };
+        counts.records as f64 / counts.messages as f64
+    });
+}
+
+/// What the worst messages are, and nanoseconds per message and per octet.
+pub fn worst(all: &[Compared]) {
+    println!("The worst messages: as long as they may be, and nearly nothing in them is to be answered.");
+    println!();
+    workloads(all);
+    println!("Nanoseconds per message, and per octet in brackets.");
+    println!();
+    beside(all, |compared, _| compared.counts.octets as f64);
+}
+
+/// The times of the library and its rivals, and those of each of so many parts.
+fn beside(all: &[Compared], parts: impl Fn(&Compared, Operation) -> f64) {
     println!("| Workload | Operation | library | plain | lean | copy | plain / library | lean / library |");
     println!("|---|---|--:|--:|--:|--:|--:|--:|");
     for compared in all {
         for (operation, times) in &compared.times {
-            let counts = if *operation == Operation::Write { compared.drafted } else { compared.counts };
-            let records = counts.records as f64 / counts.messages as f64;
-            let cells: Vec<String> = times.iter().map(|&time| cell(time, records)).collect();
+            let parts = parts(compared, *operation);
+            let cells: Vec<String> = times.iter().map(|&time| cell(time, parts)).collect();
             let (plain, lean) = (digits(times[1] / times[0]), digits(times[2] / times[0]));
             println!("| {} | {} | {} | {plain} | {lean} |", compared.name, operation.name(), cells.join(" | "));
         }

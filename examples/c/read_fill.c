@@ -10,13 +10,19 @@
 
 #include "siphonbard.h"
 
-/* The template of a fill, and its elements in the order of a listing: fields, the group of mills, a note. */
+/* The template of a fill, and its elements in the order of a listing: fields, the group of mills, a note. In a mill's
+ * entry there may be a group of deliveries. */
 #define FILL 1
 static const char *const FIELDS[] = {"order", "price", "delivery week", "side", "conditions", "filled quantity"};
 static const char *const MILL[] = {"  mill", "  share"};
+static const char *const DELIVERY[] = {"    week", "    tonnes"};
 
-/* The filled quantity is this field of the root block. Only the newer book has it. */
+/* The filled quantity is this field of the root block. The oldest book lacks it. */
 #define QUANTITY 5
+
+/* The deliveries are this group of a mill. Only the newest book has them. */
+static const uint64_t FIRST_MILL[] = {0, 0};
+#define DELIVERIES 0
 
 /* One octet more than a message may have, so that the library sees one that is too long. A book has fewer. */
 #define LONGEST 65536
@@ -40,7 +46,8 @@ static const char *const MEANING[] = {
     [SIPHONBARD_REFUSED_BOOK_SIZE] = "the book's octets are odd, under 8 or over 8,192",
     [SIPHONBARD_REFUSED_BOOK_HEAD] =
         "the book's head is cut short, its word count is wrong, its schema id or version is 65535, its byte order is "
-        "neither 0 nor 1, it has no template or over 64, or its contents don't fit",
+        "neither 0 nor 1, its numbers of a dimension are neither 2 nor 4, it has no template or over 64, or its "
+        "contents don't fit",
     [SIPHONBARD_REFUSED_BOOK_CONTENTS] = "the book's contents break a rule, or a template or list id is 65535",
     [SIPHONBARD_REFUSED_BOOK_BLOCK] =
         "a block runs past its body, body words are left over, a count or the depth is too high, a group has no field, "
@@ -59,6 +66,8 @@ static const char *const MEANING[] = {
     [SIPHONBARD_REFUSED_GROUP_BLOCK_SHORT] = "a known group's block length is under the need",
     [SIPHONBARD_REFUSED_DATA_LENGTH_NULL] = "a data length is 65535",
     [SIPHONBARD_REFUSED_OCTETS_LEFT_OVER] = "octets are left over",
+    [SIPHONBARD_REFUSED_GROUP_COUNTS_WRONG] = "a known group's number of groups is wrong, or its number of data",
+    [SIPHONBARD_REFUSED_GROUP_TOO_DEEP] = "a group is below depth four",
     [SIPHONBARD_REFUSED_PLACE_UNKNOWN] = "the place has over four steps, or a number that the book lacks",
     [SIPHONBARD_REFUSED_ENTRY_MISSING] = "an entry is not below its group's count",
     [SIPHONBARD_REFUSED_ROOM_TOO_SMALL] =
@@ -82,7 +91,7 @@ static void show_place(uint64_t number, uint64_t place)
         printf(" in body %" PRIu64, place);
     if (number >= SIPHONBARD_REFUSED_BOOK_LAYOUT && number <= SIPHONBARD_REFUSED_BOOK_SINCE)
         printf(" in template %" PRIu64, place);
-    if (number >= SIPHONBARD_REFUSED_MESSAGE_SIZE && number <= SIPHONBARD_REFUSED_OCTETS_LEFT_OVER)
+    if (number >= SIPHONBARD_REFUSED_MESSAGE_SIZE && number <= SIPHONBARD_REFUSED_GROUP_TOO_DEEP)
         printf(" at octet %" PRIu64, place);
     if (number == SIPHONBARD_REFUSED_ROOM_TOO_SMALL)
         printf(" for %" PRIu64 " records", place);
@@ -120,25 +129,42 @@ static void show_answer(uint64_t first, uint64_t second, uint64_t third, const f
     }
 }
 
-/* The name of a record's element. */
-static const char *name(size_t record, size_t fields, size_t mills)
+/* The records of a listing that are still to be shown, and their message. */
+typedef struct {
+    const uint64_t *next;
+    size_t left;
+    const file *message;
+} unshown;
+
+/* A line for the next record, with its element's name. How many entries there are, if it is a group. */
+static uint64_t show_next(unshown *rest, const char *name)
 {
-    if (record < fields)
-        return FIELDS[record];
-    if (record == fields)
-        return "mills";
-    return record <= fields + 2 * mills ? MILL[(record - fields - 1) % 2] : "note";
+    const uint64_t *record = rest->next;
+    if (rest->left == 0)
+        return 0;
+    printf("%-17s", name);
+    show_answer(record[0], record[1], record[2], rest->message);
+    rest->next += 3;
+    rest->left--;
+    return record[0] == SIPHONBARD_IS_GROUP ? record[1] : 0;
 }
 
-/* A line for each record of the listing, with its element's name. */
-static void show(size_t fields, const uint64_t *listing, size_t count, const file *message)
+static void show_each(unshown *rest, const char *const *names, size_t count)
 {
-    size_t mills = fields < count ? listing[3 * fields + 1] : 0;
-    for (size_t i = 0; i < count && i < fields + 2 * mills + 2; i++) {
-        const uint64_t *record = listing + 3 * i;
-        printf("%-17s", name(i, fields, mills));
-        show_answer(record[0], record[1], record[2], message);
+    for (size_t i = 0; i < count; i++)
+        show_next(rest, names[i]);
+}
+
+/* A line for each record. So many fields of the root are known, and the deliveries or not. */
+static void show(size_t fields, int deliveries, unshown rest)
+{
+    show_each(&rest, FIELDS, fields);
+    for (uint64_t mills = show_next(&rest, "mills"); mills > 0; mills--) {
+        show_each(&rest, MILL, 2);
+        for (uint64_t weeks = deliveries ? show_next(&rest, "  deliveries") : 0; weeks > 0; weeks--)
+            show_each(&rest, DELIVERY, 2);
     }
+    show_next(&rest, "note");
 }
 
 /* Writes a message of the book's own version from the listing: is it the message that was read? */
@@ -156,14 +182,22 @@ static void write_back(const prepared *book, const uint64_t *listing, size_t cou
     printf("%" PRIu64 " octets, %s\n", written.count, same ? "the same" : "not the same");
 }
 
+/* Whether the book has the element that was asked for, whatever the message has. */
+static int is_known(siphonbard_found asked)
+{
+    return asked.number != SIPHONBARD_REFUSED_PLACE_UNKNOWN;
+}
+
 /* What the fill says, by the listing that it was read into. */
 static void show_fill(const prepared *book, const uint64_t *listing, size_t count, const file *message)
 {
     siphonbard_found quantity = siphonbard_stream_place(book->numbers, book->len, message->octets, message->len, NULL,
                                                         0, SIPHONBARD_ASK_FIELD, QUANTITY);
-    int known = quantity.number != SIPHONBARD_REFUSED_PLACE_UNKNOWN;
+    siphonbard_found deliveries = siphonbard_stream_place(book->numbers, book->len, message->octets, message->len,
+                                                          FIRST_MILL, 2, SIPHONBARD_ASK_GROUP, DELIVERIES);
+    unshown rest = {listing, count, message};
 
-    show(known ? QUANTITY + 1 : QUANTITY, listing, count, message);
+    show(is_known(quantity) ? QUANTITY + 1 : QUANTITY, is_known(deliveries), rest);
     printf("filled quantity, asked alone: ");
     if (quantity.number)
         show_refusal(quantity.number, quantity.place);

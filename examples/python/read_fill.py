@@ -6,13 +6,18 @@ import sys
 
 from siphonbard import Book, Element, Kind, Refusal, Refused
 
-# The template of a fill, and its elements in the order of a listing: fields, the group of mills, a note.
+# The template of a fill, and its elements in the order of a listing: fields, the group of mills, a note. In a mill's
+# entry there may be a group of deliveries.
 FILL = 1
 FIELDS = ["order", "price", "delivery week", "side", "conditions", "filled quantity"]
 MILL = ["  mill", "  share"]
+DELIVERY = ["    week", "    tonnes"]
 
-# The filled quantity is this field of the root block. Only the newer book has it.
+# The filled quantity is this field of the root block. The oldest book lacks it.
 QUANTITY = 5
+
+# The deliveries are this group of a mill. Only the newest book has them.
+MILLS, DELIVERIES = 0, 0
 
 
 def main():
@@ -35,16 +40,37 @@ def read_fill(octets, message):
             raise
         # The book has no such field.
         alone, fields = refusal, FIELDS[:QUANTITY]
-    show(fields, records, message)
+    show(fields, has_deliveries(book, message), records, message)
     print("filled quantity, asked alone: %s" % alone)
     print("written back: %s" % written_back(book, records, message))
 
 
-def show(fields, records, message):
+def has_deliveries(book, message):
+    """Whether the book has them, whatever the message has."""
+    try:
+        book.place(message, [(MILLS, 0)], Element.GROUP, DELIVERIES)
+    except Refused as refusal:
+        return refusal.number != Refusal.PLACE_UNKNOWN
+    return True
+
+
+def show(fields, deliveries, records, message):
     """A line for each record of the listing, with its element's name."""
-    mills = records[len(fields)][1] if len(fields) < len(records) else 0
-    for name, record in zip([*fields, "mills", *MILL * mills, "note"], records):
-        print("%-17s%s" % (name, words(record, message)))
+    rest = iter(records)
+
+    def lines(*names):
+        """A line for each name, and how many entries the last one has, if it is a group."""
+        entries = 0
+        for name, record in zip(names, rest):
+            print("%-17s%s" % (name, words(record, message)))
+            entries = record[1] if record[0] == Kind.GROUP else 0
+        return range(entries)
+
+    for _ in lines(*fields, "mills"):
+        lines(*MILL)
+        for _ in lines("  deliveries") if deliveries else ():
+            lines(*DELIVERY)
+    lines("note")
 
 
 def words(record, message):

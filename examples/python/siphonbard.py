@@ -34,8 +34,8 @@ class Element(enum.IntEnum):
 class Book:
     """A book that is checked and prepared once, for many messages. It owns the prepared numbers, which nothing here
     alters: so the calls for streams get what was stored for them. Message and pool are bytes. A record is a tuple of
-    three numbers, of which the first is a Kind. Whether messages are little-endian or big-endian is said by the book:
-    the calls are the same."""
+    three numbers, of which the first is a Kind. Whether messages are little-endian or big-endian, and how many numbers
+    a group's dimension has, is said by the book: the calls are the same."""
 
     def __init__(self, octets):
         room = (Number * PREPARED_MOST)()
@@ -107,7 +107,8 @@ class Refusal(enum.IntEnum):
     BOOK_HEAD = (
         2,
         "the book's head is cut short, its word count is wrong, its schema id or version is 65535, its byte order is "
-        "neither 0 nor 1, it has no template or over 64, or its contents don't fit",
+        "neither 0 nor 1, its numbers of a dimension are neither 2 nor 4, it has no template or over 64, or its "
+        "contents don't fit",
         "0",
     )
     BOOK_CONTENTS = 3, "the book's contents break a rule, or a template or list id is 65535", "0"
@@ -134,6 +135,12 @@ class Refusal(enum.IntEnum):
     GROUP_BLOCK_SHORT = 18, "a known group's block length is under the need", "the dimension's start"
     DATA_LENGTH_NULL = 19, "a data length is 65535", "the data's start"
     OCTETS_LEFT_OVER = 20, "octets are left over", "the first of them"
+    GROUP_COUNTS_WRONG = (
+        21,
+        "a known group's number of groups is wrong, or its number of data",
+        "the dimension's start",
+    )
+    GROUP_TOO_DEEP = 22, "a group is below depth four", "the dimension's start"
     PLACE_UNKNOWN = 30, "the place has over four steps, or a number that the book lacks", "0"
     ENTRY_MISSING = 31, "an entry is not below its group's count", "0"
     ROOM_TOO_SMALL = (
@@ -167,7 +174,7 @@ class Refusal(enum.IntEnum):
 COUNTED = [
     (Refusal.BOOK_BLOCK, Refusal.BOOK_BLOCK, " in body %d"),
     (Refusal.BOOK_LAYOUT, Refusal.BOOK_SINCE, " in template %d"),
-    (Refusal.MESSAGE_SIZE, Refusal.OCTETS_LEFT_OVER, " at octet %d"),
+    (Refusal.MESSAGE_SIZE, Refusal.GROUP_TOO_DEEP, " at octet %d"),
     (Refusal.ROOM_TOO_SMALL, Refusal.ROOM_TOO_SMALL, " for %d records"),
     (Refusal.RECORD_WRONG, Refusal.ENTRIES_TOO_MANY, " at record %d"),
 ]

@@ -1,9 +1,15 @@
 //! The book in flat tables, and what a message's version has of a block.
 
 use super::numbers::Field;
+use super::NULL16;
 
-/// For big-endian messages or for little-endian ones.
-pub struct Book<const BIG: bool> {
+/// For big-endian messages or for little-endian ones, with counted dimensions or without.
+pub struct Book<const BIG: bool, const COUNTED: bool> {
+    pub tables: Tables,
+}
+
+/// What is the same for all of these.
+pub struct Tables {
     pub schema: u16,
     pub version: u16,
     /// The templates' ids. They rise.
@@ -18,8 +24,9 @@ pub struct Book<const BIG: bool> {
 #[derive(Clone, Copy, Default)]
 pub struct Block {
     pub length: usize,
-    /// That of the group whose block it is.
+    /// That of the group whose block it is, and that group's depth.
     pub since: u16,
+    pub depth: u8,
     /// Has neither groups nor data, so that entries follow each other at the block's length.
     pub leaf: bool,
     /// The need at the book's own version.
@@ -40,22 +47,32 @@ impl Span {
     fn of<T>(self, table: &[T]) -> &[T] {
         &table[self.first..self.end]
     }
+
+    fn len(self) -> usize {
+        self.end - self.first
+    }
 }
 
-impl<const BIG: bool> Book<BIG> {
-    /// Of a book that was accepted, and has this byte order.
-    pub fn compiled(tree: &plain::Book) -> Book<BIG> {
+impl<const BIG: bool, const COUNTED: bool> Book<BIG, COUNTED> {
+    /// Of a book that was accepted, and has this byte order and such dimensions.
+    pub fn compiled(tree: &plain::Book) -> Book<BIG, COUNTED> {
+        Book { tables: Tables::compiled(tree) }
+    }
+}
+
+impl Tables {
+    fn compiled(tree: &plain::Book) -> Tables {
         let ids: Vec<u16> = tree.templates.iter().map(|template| template.id).collect();
         let blocks = vec![Block::default(); ids.len()];
-        let mut book =
-            Book { schema: tree.schema, version: tree.version, ids, blocks, fields: Vec::new(), data: Vec::new() };
+        let mut tables =
+            Tables { schema: tree.schema, version: tree.version, ids, blocks, fields: Vec::new(), data: Vec::new() };
         for (number, template) in tree.templates.iter().enumerate() {
-            book.compile(tree, number, &template.block, 0);
+            tables.compile(tree, number, &template.block, (0, 0));
         }
-        book
+        tables
     }
 
-    fn compile(&mut self, tree: &plain::Book, number: usize, block: &plain::Block, since: u16) {
+    fn compile(&mut self, tree: &plain::Book, number: usize, block: &plain::Block, (since, depth): (u16, u8)) {
         let (fields, data, groups) = (self.fields.len(), self.data.len(), self.blocks.len());
         self.fields.extend(block.fields.iter().map(|field| Field::compiled(field, tree.list_of(field))));
         self.data.extend(block.data.iter().map(|data| data.since));
@@ -63,6 +80,7 @@ impl<const BIG: bool> Book<BIG> {
         self.blocks[number] = Block {
             length: block.length.into(),
             since,
+            depth,
             leaf: block.groups.is_empty() && block.data.is_empty(),
             need: block.fields.last().map_or(0, plain::Field::end),
             fields: Span { first: fields, end: self.fields.len() },
@@ -70,7 +88,7 @@ impl<const BIG: bool> Book<BIG> {
             data: Span { first: data, end: self.data.len() },
         };
         for (at, group) in block.groups.iter().enumerate() {
-            self.compile(tree, groups + at, &group.block, group.since);
+            self.compile(tree, groups + at, &group.block, (group.since, depth + 1));
         }
     }
 
@@ -93,15 +111,15 @@ impl<const BIG: bool> Book<BIG> {
 
 /// A book as a version has it. Sinces never fall, so that what is present comes first.
 #[derive(Clone, Copy)]
-pub struct View<'a, const BIG: bool> {
-    pub book: &'a Book<BIG>,
+pub struct View<'a> {
+    pub book: &'a Tables,
     version: u16,
     /// Nothing in the book is younger.
     whole: bool,
 }
 
-impl<'a, const BIG: bool> View<'a, BIG> {
-    pub fn new(book: &'a Book<BIG>, version: u16) -> View<'a, BIG> {
+impl<'a> View<'a> {
+    pub fn new(book: &'a Tables, version: u16) -> View<'a> {
         View { book, version, whole: version >= book.version }
     }
 
@@ -128,6 +146,28 @@ impl<'a, const BIG: bool> View<'a, BIG> {
             return data.len();
         }
         data.partition_point(|&since| since <= self.version)
+    }
+
+    /// How many groups and data are present.
+    #[inline(always)]
+    pub fn counts(&self, block: &Block) -> (usize, usize) {
+        if self.whole {
+            return (block.groups.len(), block.data.len());
+        }
+        self.older_counts(block)
+    }
+
+    #[inline(never)]
+    fn older_counts(&self, block: &Block) -> (usize, usize) {
+        (self.groups(block).len(), self.data(block))
+    }
+
+    /// How many of the wire's groups or data are none of the known ones, which only a later version has. Nothing where
+    /// their number is wrong.
+    #[inline(always)]
+    pub fn surplus(&self, count: usize, known: usize) -> Option<usize> {
+        let most = if self.version > self.book.version { usize::from(NULL16) } else { 0 };
+        count.checked_sub(known).filter(|&surplus| surplus <= most)
     }
 
     pub fn need(&self, block: &Block) -> usize {

@@ -1,13 +1,13 @@
 //! The listing of a message that was checked and counted.
 
 use super::book::{Block, Book, View};
-use super::check::Root;
+use super::check::{Dimension, Root, Surplus, Walk};
 use super::numbers::Field;
 use super::order::number16;
-use super::{refusal, Record, Refusal, ABSENT, GROUP, HEADER, OCTETS};
+use super::{dimension_octets, refusal, Record, Refusal, ABSENT, GROUP, HEADER, OCTETS};
 use std::mem;
 
-impl<const BIG: bool> Book<BIG> {
+impl<const BIG: bool, const COUNTED: bool> Book<BIG, COUNTED> {
     /// Lists the message into the room, three numbers a record, and gives how many records there are.
     pub fn list(&self, message: &[u8], room: &mut [u64]) -> Result<usize, Refusal> {
         let root = Root::read(self, message)?;
@@ -26,30 +26,27 @@ impl<const BIG: bool> Book<BIG> {
     }
 }
 
-impl<const BIG: bool> Root<'_, BIG> {
+impl<const BIG: bool, const COUNTED: bool> Root<'_, BIG, COUNTED> {
     /// The records, into as much room as they have.
     #[inline(always)]
     fn store(&self, message: &[u8], room: &mut [u64]) {
-        let mut store = Store { view: self.view, message, at: HEADER, room };
+        let mut store = Store::<BIG, COUNTED> { view: self.view, message, at: HEADER, room };
         store.block(self.block, self.length);
         store.groups(self.block);
-        for _ in 0..self.surplus_groups {
-            let (length, entries) = store.dimension();
-            store.at += length * entries;
-        }
+        store.surplus_groups(self.surplus.groups);
         store.data(self.block);
     }
 }
 
-struct Store<'a, const BIG: bool> {
-    view: View<'a, BIG>,
+struct Store<'a, const BIG: bool, const COUNTED: bool> {
+    view: View<'a>,
     message: &'a [u8],
     at: usize,
     /// For the records that are still to come.
     room: &'a mut [u64],
 }
 
-impl<'a, const BIG: bool> Store<'a, BIG> {
+impl<'a, const BIG: bool, const COUNTED: bool> Store<'a, BIG, COUNTED> {
     fn take(&mut self, records: usize) -> &'a mut [u64] {
         let (taken, left) = mem::take(&mut self.room).split_at_mut(3 * records);
         self.room = left;
@@ -77,18 +74,57 @@ impl<'a, const BIG: bool> Store<'a, BIG> {
     }
 
     fn group(&mut self, block: &Block) {
-        let (length, entries) = self.dimension();
+        let dimension = self.dimension();
+        let (length, entries, surplus) = (dimension.length, dimension.entries, self.surplus(block, dimension));
         self.put([GROUP, entries as u64, 0]);
-        if block.leaf {
+        if Walk::<BIG, COUNTED>::in_one_step(block, surplus) {
             return self.leaves(block, length, entries);
         }
         for _ in 0..entries {
             self.block(block, length);
             self.groups(block);
+            if COUNTED && surplus.groups > 0 {
+                self.surplus_groups(surplus.groups);
+            }
             self.data(block);
+            if COUNTED {
+                self.surplus_data(surplus.data);
+            }
         }
     }
 
+    /// What each entry of a known group has that the book does not know.
+    #[inline(always)]
+    fn surplus(&self, block: &Block, Dimension { groups, data, .. }: Dimension) -> Surplus {
+        if !COUNTED {
+            return Surplus::NONE;
+        }
+        let known = self.view.counts(block);
+        Surplus { groups: groups - known.0, data: data - known.1 }
+    }
+
+    fn surplus_groups(&mut self, count: usize) {
+        for _ in 0..count {
+            let Dimension { length, entries, groups, data } = self.dimension();
+            if !COUNTED || groups + data == 0 {
+                self.at += length * entries;
+                continue;
+            }
+            for _ in 0..entries {
+                self.at += length;
+                self.surplus_groups(groups);
+                self.surplus_data(data);
+            }
+        }
+    }
+
+    fn surplus_data(&mut self, count: usize) {
+        for _ in 0..count {
+            self.at += 2 + self.number(self.at);
+        }
+    }
+
+    #[inline(never)]
     fn leaves(&mut self, block: &Block, length: usize, entries: usize) {
         let count = self.view.book.fields(block).len();
         let present = self.view.fields(block);
@@ -110,10 +146,12 @@ impl<'a, const BIG: bool> Store<'a, BIG> {
         }
     }
 
-    fn dimension(&mut self) -> (usize, usize) {
+    #[inline]
+    fn dimension(&mut self) -> Dimension {
         let at = self.at;
-        self.at += 4;
-        (self.number(at), self.number(at + 2))
+        self.at += dimension_octets(COUNTED);
+        let (groups, data) = if COUNTED { (self.number(at + 4), self.number(at + 6)) } else { (0, 0) };
+        Dimension { length: self.number(at), entries: self.number(at + 2), groups, data }
     }
 
     fn number(&self, at: usize) -> usize {

@@ -1,7 +1,7 @@
 //! The answer for one place, found in the same walk that checks the message.
 
-use super::book::{Block, Book};
-use super::check::{Root, Walk};
+use super::book::{Block, Book, Tables};
+use super::check::{Entries, Root, Surplus, Walk};
 use super::{refusal, Record, Refusal, ABSENT, GROUP, OCTETS};
 use plain::Place;
 
@@ -12,19 +12,21 @@ const A_DATA: u64 = 2;
 
 const STEPS: usize = 4;
 
-impl<const BIG: bool> Book<BIG> {
+impl<const BIG: bool, const COUNTED: bool> Book<BIG, COUNTED> {
     /// What stands at the place.
     pub fn place(&self, message: &[u8], place: &Place) -> Result<Record, Refusal> {
         let root = Root::read(self, message)?;
-        let mut seek = Seek { walk: Walk::new(root.view, message), place, found: None };
-        seek.part(root.block, root.length, 0, (root.surplus_groups, root.surplus_data))?;
+        let mut seek = Seek::<BIG, COUNTED> { walk: Walk::new(root.view, message), place, found: None };
+        seek.part(root.block, root.length, 0, root.surplus)?;
         seek.walk.end()?;
-        if !self.has(root.block, place) {
+        if !self.tables.has(root.block, place) {
             return Err(refusal(30, 0));
         }
         seek.found.ok_or_else(|| refusal(31, 0))
     }
+}
 
+impl Tables {
     fn has(&self, root: &Block, place: &Place) -> bool {
         let down = |block, &(group, _): &(u64, u64)| self.groups(block).get(usize::try_from(group).ok()?);
         let block = match place.steps.iter().try_fold(root, down) {
@@ -41,24 +43,24 @@ impl<const BIG: bool> Book<BIG> {
     }
 }
 
-struct Seek<'a, const BIG: bool> {
-    walk: Walk<'a, BIG>,
+struct Seek<'a, const BIG: bool, const COUNTED: bool> {
+    walk: Walk<'a, BIG, COUNTED>,
     place: &'a Place,
     found: Option<Record>,
 }
 
-impl<const BIG: bool> Seek<'_, BIG> {
+impl<const BIG: bool, const COUNTED: bool> Seek<'_, BIG, COUNTED> {
     /// A block with what follows it, where `depth` of the place's steps lead.
-    fn part(&mut self, block: &Block, length: usize, depth: usize, surplus: (usize, usize)) -> Result<(), Refusal> {
+    fn part(&mut self, block: &Block, length: usize, depth: usize, surplus: Surplus) -> Result<(), Refusal> {
         let start = self.walk.at;
         self.walk.block(block, length)?;
         if self.asks(A_FIELD, depth) {
             self.field(block, start);
         }
         self.groups(block, depth)?;
-        self.walk.surplus_groups(surplus.0)?;
+        self.walk.surplus_groups(surplus.groups, depth + 1)?;
         self.data(block, depth)?;
-        for _ in 0..surplus.1 {
+        for _ in 0..surplus.data {
             self.walk.data()?;
         }
         Ok(())
@@ -87,40 +89,34 @@ impl<const BIG: bool> Seek<'_, BIG> {
             self.absent();
         }
         for (number, group) in self.walk.view.groups(block).iter().enumerate() {
-            let (length, entries) = self.walk.known_dimension(group)?;
+            let entries = self.walk.known_dimension(group)?;
             if asked && self.place.element == number as u64 {
-                self.found = Some([GROUP, entries as u64, 0]);
+                self.found = Some([GROUP, entries.count as u64, 0]);
             }
             match self.place.steps.get(depth) {
-                Some(&(step, entry)) if step == number as u64 && entry < entries as u64 => {
-                    self.entries(group, length, entries, entry as usize, depth + 1)?;
+                Some(&(step, entry)) if step == number as u64 && entry < entries.count as u64 => {
+                    self.entries(group, entries, entry as usize, depth + 1)?;
                 }
-                _ => self.walk.entries(group, length, entries)?,
+                _ => self.walk.entries(group, entries)?,
             }
         }
         Ok(())
     }
 
     /// The entries of a group, with a step into one of them.
-    fn entries(
-        &mut self,
-        block: &Block,
-        length: usize,
-        entries: usize,
-        entry: usize,
-        depth: usize,
-    ) -> Result<(), Refusal> {
-        if block.leaf {
+    fn entries(&mut self, block: &Block, entries: Entries, entry: usize, depth: usize) -> Result<(), Refusal> {
+        let Entries { length, count, surplus } = entries;
+        if Walk::<BIG, COUNTED>::in_one_step(block, surplus) {
             let start = self.walk.at + entry * length;
-            self.walk.entries(block, length, entries)?;
+            self.walk.entries(block, entries)?;
             if self.asks(A_FIELD, depth) {
                 self.field(block, start);
             }
             return Ok(());
         }
-        self.walk.entries(block, length, entry)?;
-        self.part(block, length, depth, (0, 0))?;
-        self.walk.entries(block, length, entries - entry - 1)
+        self.walk.entries(block, Entries { count: entry, ..entries })?;
+        self.part(block, length, depth, surplus)?;
+        self.walk.entries(block, Entries { count: count - entry - 1, ..entries })
     }
 
     fn data(&mut self, block: &Block, depth: usize) -> Result<(), Refusal> {

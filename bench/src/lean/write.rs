@@ -1,19 +1,20 @@
 //! A message from a listing: refusals 50 to 55 and the message's length, and then its octets.
 
-use super::book::{Block, Book};
+use super::book::{Block, Book, Tables};
 use super::numbers::Field;
 use super::order::octets16;
-use super::{refusal, Refusal, GROUP, HEADER, LONGEST, OCTETS};
+use super::{dimension_octets, refusal, Refusal, GROUP, HEADER, LONGEST, OCTETS};
 use std::slice::ChunksExact;
 
 /// The most entries of a group, and octets of a data.
 const MOST: u64 = 65534;
 
-impl<const BIG: bool> Book<BIG> {
+impl<const BIG: bool, const COUNTED: bool> Book<BIG, COUNTED> {
     /// Writes a message of the template at the room's start and gives its length.
     pub fn write(&self, id: u16, listing: &[u64], pool: &[u8], room: &mut [u8]) -> Result<usize, Refusal> {
-        let block = self.template(id).ok_or_else(|| refusal(50, 0))?;
-        let mut judge = Judge { book: self, pool, listing, left: listing, length: HEADER };
+        let book = &self.tables;
+        let block = book.template(id).ok_or_else(|| refusal(50, 0))?;
+        let mut judge = Judge::<COUNTED> { book, pool, listing, left: listing, length: HEADER };
         judge.block(block)?;
         if !judge.left.is_empty() {
             return Err(judge.fault(51));
@@ -24,9 +25,9 @@ impl<const BIG: bool> Book<BIG> {
         }
         let room = &mut room[..length];
         room.fill(0);
-        let (groups, data) = (self.groups(block).len() as u16, self.data(block).len() as u16);
-        let mut store = Store { book: self, pool, records: listing.chunks_exact(3), room, at: 0 };
-        for number in [block.length as u16, id, self.schema, self.version, groups, data] {
+        let (groups, data) = (book.groups(block).len() as u16, book.data(block).len() as u16);
+        let mut store = Store::<BIG> { book, counted: COUNTED, pool, records: listing.chunks_exact(3), room, at: 0 };
+        for number in [block.length as u16, id, book.schema, book.version, groups, data] {
             store.number(number);
         }
         store.block(block);
@@ -35,8 +36,8 @@ impl<const BIG: bool> Book<BIG> {
 }
 
 /// Judges the records in order, and counts the message's octets.
-struct Judge<'a, const BIG: bool> {
-    book: &'a Book<BIG>,
+struct Judge<'a, const COUNTED: bool> {
+    book: &'a Tables,
     pool: &'a [u8],
     listing: &'a [u64],
     /// The listing's part that is still to be judged.
@@ -44,7 +45,7 @@ struct Judge<'a, const BIG: bool> {
     length: usize,
 }
 
-impl<'a, const BIG: bool> Judge<'a, BIG> {
+impl<'a, const COUNTED: bool> Judge<'a, COUNTED> {
     /// At the first record of those that are left.
     #[cold]
     fn fault(&self, number: u32) -> Refusal {
@@ -56,7 +57,7 @@ impl<'a, const BIG: bool> Judge<'a, BIG> {
         self.length += block.length;
         for group in self.book.groups(block) {
             let entries = self.entries()?;
-            self.length += 4;
+            self.length += dimension_octets(COUNTED);
             if group.leaf {
                 self.fields(self.book.fields(group), entries)?;
                 self.length += group.length * entries;
@@ -128,7 +129,8 @@ impl<'a, const BIG: bool> Judge<'a, BIG> {
 
 /// Stores a message whose records were judged, in a room of its length that is zero all over.
 struct Store<'a, const BIG: bool> {
-    book: &'a Book<BIG>,
+    book: &'a Tables,
+    counted: bool,
     pool: &'a [u8],
     records: ChunksExact<'a, u64>,
     room: &'a mut [u8],
@@ -151,6 +153,10 @@ impl<'a, const BIG: bool> Store<'a, BIG> {
             let entries = self.record()[1] as usize;
             self.number(group.length as u16);
             self.number(entries as u16);
+            if self.counted {
+                self.number(self.book.groups(group).len() as u16);
+                self.number(self.book.data(group).len() as u16);
+            }
             if group.leaf {
                 self.fields(group, entries);
                 continue;

@@ -1,6 +1,7 @@
 //! The books of the workloads.
 
 use plain::byte_order::{BIG, LITTLE};
+use plain::dimension::{FOUR, TWO};
 use plain::lists::{ENUMERATION, SET};
 use plain::{Block, Book, Data, Field, Group, NameList, Template};
 
@@ -66,7 +67,7 @@ const DATA: Data = Data { id: 3, since: 0 };
 fn book(blocks: Vec<Block>) -> Book {
     let template = |(number, block)| Template { id: number as u16 + 1, block };
     let templates = blocks.into_iter().enumerate().map(template).collect();
-    Book { schema: SCHEMA, version: VERSION, byte_order: LITTLE, templates, lists: Vec::new() }
+    Book { schema: SCHEMA, version: VERSION, byte_order: LITTLE, dimension: TWO, templates, lists: Vec::new() }
 }
 
 /// Book A of the rules: a uint32, an optional int16, a group with a uint8, and a data.
@@ -172,6 +173,36 @@ pub fn wide() -> Book {
 pub fn younger(versions: u16) -> Book {
     let fields: Vec<Field> = (0..=versions).map(|since| Field { since, ..one(UINT8) }).collect();
     two_deep(versions, block(&fields, 0))
+}
+
+/// The book with dimensions of four numbers, as those have that follow.
+pub fn counted(book: Book) -> Book {
+    Book { dimension: FOUR, ..book }
+}
+
+/// Two groups, one in the other, which has got a group and a data at each of 16 versions.
+pub fn aged() -> Book {
+    counted(two_deep(AGES, aged_octet()))
+}
+
+/// A uint8, and a group whose entries have got a group and a data at each of 16 versions.
+pub fn absent() -> Book {
+    let root = Block { groups: vec![group(aged_octet())], ..octet() };
+    counted(Book { version: AGES, ..book(vec![root]) })
+}
+
+const AGES: u16 = 16;
+
+/// Of one uint8, and of a group and a data since each of the versions after the first.
+fn aged_octet() -> Block {
+    let aged = |since| Group { id: 2, since, block: block(&[Field { since, ..one(UINT8) }], 0) };
+    let data = (1..=AGES).map(|since| Data { since, ..DATA }).collect();
+    Block { groups: (1..=AGES).map(aged).collect(), data, ..octet() }
+}
+
+/// A uint8 alone.
+pub fn groupless() -> Book {
+    counted(Book { version: 0, ..book(vec![octet()]) })
 }
 
 /// Eight templates, as a session of trading has them.

@@ -6,6 +6,7 @@ mod listed;
 mod sized;
 mod stream;
 mod texts;
+mod worst;
 
 use crate::rivals::Asked;
 use crate::timing::{Rooms, LAP_MESSAGES};
@@ -15,16 +16,18 @@ use siphonbard::Element;
 
 pub use sized::SIZED;
 pub use stream::{big_stream, stream};
+pub use worst::WORST;
 
 /// A workload's name, what it is, and how it is made.
 pub type Entry = (&'static str, &'static str, fn() -> Workload);
 
-/// All but those of the growth and of the book's size.
-pub const ALL: [Entry; 11] = [
+/// All but those of the growth and of the book's size, and the worst.
+pub const ALL: [Entry; 12] = [
     ("m", "message M under book A", m),
     ("flat", "an order of ten fields", flat),
     ("entries", "M's shape with 400 entries", || m_with(400)),
-    ("deep", "groups in groups, to depth four", deep),
+    ("deep", "groups in groups, to depth four", || deep(&books::deep())),
+    ("deep_four", "the same with dimensions of four numbers", || deep(&books::counted(books::deep()))),
     ("long", "M's shape, as long as it may be", || of_size(64)),
     ("market", "price levels of eight fields, as many as fit", market),
     ("lists", "40 fills, of whose eight fields five have lists; and the same with some unlisted codes", listed::fills),
@@ -35,7 +38,7 @@ pub const ALL: [Entry; 11] = [
 ];
 
 /// The same, the streams by their first messages, and the large books: what is called once to be counted.
-pub const COUNTED: [Entry; 13] = [
+pub const COUNTED: [Entry; 15] = [
     ALL[0],
     ALL[1],
     ALL[2],
@@ -45,10 +48,12 @@ pub const COUNTED: [Entry; 13] = [
     ALL[6],
     ALL[7],
     ALL[8],
+    ALL[9],
     ("stream", "its first messages", || stream::first(STREAM_START)),
     ("stream_big", "the same, big-endian", || stream::big_first(STREAM_START)),
     SIZED[0][1],
     SIZED[1][1],
+    SIZED[2][1],
 ];
 
 /// As many as have each template, an older version and damage among them.
@@ -124,8 +129,8 @@ fn flat() -> Workload {
     filled(&books::flat(), 0, Asked::new(vec![], Element::Field(9)))
 }
 
-fn deep() -> Workload {
-    filled(&books::deep(), 3, Asked::new(vec![(0, 2); 4], Element::Field(1)))
+fn deep(book: &Book) -> Workload {
+    filled(book, 3, Asked::new(vec![(0, 2); 4], Element::Field(1)))
 }
 
 fn market() -> Workload {

@@ -14,9 +14,9 @@ const FIRST: usize = 64;
 /// ```
 /// use siphonbard::Book;
 ///
-/// # let words: [u16; 42] = [
-/// #     7, 0, 1, 42, 0, 0, 1, 9, 33, 8, 2, 1, 1, 38, 6, 1, 0, 0, 0, 0, 44, 3, 1, 4, 1, 0, 0, 58, 0, 453, 0, 2, 1, 0,
-/// #     0, 452, 2, 1, 0, 0, 0, 0,
+/// # let words: [u16; 43] = [
+/// #     7, 0, 1, 43, 0, 0, 2, 1, 10, 33, 8, 2, 1, 1, 38, 6, 1, 0, 0, 0, 0, 44, 3, 1, 4, 1, 0, 0, 58, 0, 453, 0, 2, 1,
+/// #     0, 0, 452, 2, 1, 0, 0, 0, 0,
 /// # ];
 /// # let octets: Vec<u8> = words.iter().flat_map(|word| word.to_le_bytes()).collect();
 /// # let message = b"\x08\0\x01\0\x07\0\0\0\x01\0\x01\0\xe8\x03\0\0\xfb\xff\0\0\x02\0\x02\0\x01\0\x03\0\x02\0ab";
@@ -54,7 +54,7 @@ impl Book {
         &self.numbers
     }
 
-    /// Whether the message is one of the book's; else 10 to 20.
+    /// Whether the message is one of the book's; else 10 to 22.
     pub fn check(&self, message: &[u8]) -> Result<(), Refusal> {
         ffi::stream_check(self, message)
     }
@@ -64,7 +64,7 @@ impl Book {
         ffi::stream_list(self, message, room)
     }
 
-    /// All answers of the message, in the order of its listing, or 10 to 20. One call of the library lists a message of
+    /// All answers of the message, in the order of its listing, or 10 to 22. One call of the library lists a message of
     /// up to 64 records; of a longer one the first call tells how many there are, and a second one lists them.
     pub fn list_all(&self, message: &[u8]) -> Result<Vec<Answer>, Refusal> {
         let mut first = [0; 3 * FIRST];

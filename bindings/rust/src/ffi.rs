@@ -60,7 +60,7 @@ pub struct Found {
 extern "C" {
     /// Whether the octets are a schema book: accepted, or 1 to 6.
     pub fn siphonbard_check_book(book: *const u8, book_len: usize) -> Checked;
-    /// Whether the message is one of the book's: accepted, or 1 to 20.
+    /// Whether the message is one of the book's: accepted, or 1 to 22.
     pub fn siphonbard_check(book: *const u8, book_len: usize, message: *const u8, message_len: usize) -> Checked;
     /// Lists the message into the room, or 1 to 40; the place of 40 is the number of records. `room_len` counts
     /// numbers, three a record.
@@ -100,7 +100,7 @@ extern "C" {
     /// Checks the book and stores its prepared numbers in the room, or 1 to 6 or 40; the place of 40 is how many they
     /// are.
     pub fn siphonbard_prepare(book: *const u8, book_len: usize, room: *mut u64, room_len: usize) -> Counted;
-    /// [`siphonbard_check`] by a prepared book: accepted, or 10 to 20.
+    /// [`siphonbard_check`] by a prepared book: accepted, or 10 to 22.
     pub fn siphonbard_stream_check(
         prepared: *const u64,
         prepared_len: usize,

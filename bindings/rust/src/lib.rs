@@ -3,16 +3,16 @@
 //!
 //! An element is present by the message's version and by nothing else. A field that is younger than the message is
 //! [`Answer::Absent`], also where the message's block has zeros for it. A code that the book does not list is
-//! [`Answer::Unlisted`]. Whether messages are little-endian or big-endian is said by the book, and by nothing else: the
-//! calls are the same.
+//! [`Answer::Unlisted`]. Whether messages are little-endian or big-endian, and how many numbers a group's dimension
+//! has, is said by the book, and by nothing else: the calls are the same.
 //!
 //! ```
 //! use siphonbard::{Answer, Book, Element, Step};
 //!
 //! // One template: a uint32, an optional int16, a group with a uint8, and a data.
-//! let words: [u16; 42] = [
-//!     7, 0, 1, 42, 0, 0, 1, 9, 33, 8, 2, 1, 1, 38, 6, 1, 0, 0, 0, 0, 44, 3, 1, 4, 1, 0, 0, 58, 0, 453, 0, 2, 1, 0,
-//!     0, 452, 2, 1, 0, 0, 0, 0,
+//! let words: [u16; 43] = [
+//!     7, 0, 1, 43, 0, 0, 2, 1, 10, 33, 8, 2, 1, 1, 38, 6, 1, 0, 0, 0, 0, 44, 3, 1, 4, 1, 0, 0, 58, 0, 453, 0, 2, 1,
+//!     0, 0, 452, 2, 1, 0, 0, 0, 0,
 //! ];
 //! let octets: Vec<u8> = words.iter().flat_map(|word| word.to_le_bytes()).collect();
 //! let book = Book::checked(&octets)?;
@@ -31,6 +31,13 @@
 //! let big_endian = Book::checked(&big_endian)?;
 //! let turned = b"\0\x08\0\x01\0\x07\0\0\0\x01\0\x01\0\0\x03\xe8\xff\xfb\0\0\0\x02\0\x02\x01\0\x03\0\0\x02ab";
 //! assert_eq!(big_endian.list_all(turned)?, book.list_all(message)?);
+//!
+//! // The seventh word is how many numbers a group's dimension has: with 4, those of groups and data are among them.
+//! let mut counted = octets.clone();
+//! counted[12] = 4;
+//! let counted = Book::checked(&counted)?;
+//! let with_counts = [&message[..24], &[0, 0, 0, 0], &message[24..]].concat();
+//! assert_eq!(counted.list_all(&with_counts)?[..5], book.list_all(message)?[..5]);
 //! # Ok::<(), siphonbard::Refusal>(())
 //! ```
 //!
@@ -60,7 +67,7 @@ pub fn check_book(book: &[u8]) -> Result<(), Refusal> {
     ffi::check_book(book)
 }
 
-/// Whether the message is one of the book's; else 1 to 20.
+/// Whether the message is one of the book's; else 1 to 22.
 pub fn check(book: &[u8], message: &[u8]) -> Result<(), Refusal> {
     ffi::check(book, message)
 }
@@ -75,9 +82,9 @@ pub fn check(book: &[u8], message: &[u8]) -> Result<(), Refusal> {
 /// ```
 /// use siphonbard::{list, Refusal};
 ///
-/// # let words: [u16; 42] = [
-/// #     7, 0, 1, 42, 0, 0, 1, 9, 33, 8, 2, 1, 1, 38, 6, 1, 0, 0, 0, 0, 44, 3, 1, 4, 1, 0, 0, 58, 0, 453, 0, 2, 1, 0,
-/// #     0, 452, 2, 1, 0, 0, 0, 0,
+/// # let words: [u16; 43] = [
+/// #     7, 0, 1, 43, 0, 0, 2, 1, 10, 33, 8, 2, 1, 1, 38, 6, 1, 0, 0, 0, 0, 44, 3, 1, 4, 1, 0, 0, 58, 0, 453, 0, 2, 1,
+/// #     0, 0, 452, 2, 1, 0, 0, 0, 0,
 /// # ];
 /// # let book: Vec<u8> = words.iter().flat_map(|word| word.to_le_bytes()).collect();
 /// # let message = b"\x08\0\x01\0\x07\0\0\0\x01\0\x01\0\xe8\x03\0\0\xfb\xff\0\0\x02\0\x02\0\x01\0\x03\0\x02\0ab";
@@ -93,7 +100,7 @@ pub fn list(book: &[u8], message: &[u8], room: &mut [u64]) -> Result<usize, Refu
     ffi::list(book, message, room)
 }
 
-/// All answers of the message, in the order of its listing, or 1 to 20. See [`Book::list_all`].
+/// All answers of the message, in the order of its listing, or 1 to 22. See [`Book::list_all`].
 pub fn list_all(book: &[u8], message: &[u8]) -> Result<Vec<Answer>, Refusal> {
     Book::checked(book)?.list_all(message)
 }

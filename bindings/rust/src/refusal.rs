@@ -4,7 +4,7 @@ use std::fmt;
 /// A call said no: the number of the rule that is broken, and where.
 ///
 /// 1 to 6 are the book's (the place is 0, or a template's number from 4 on; of 4 the lists count on behind the
-/// templates), 10 to 20 the message's (the place is an offset in it), 30 and 31 those of a place asked for, 40 that of
+/// templates), 10 to 22 the message's (the place is an offset in it), 30 and 31 those of a place asked for, 40 that of
 /// a listing's room (the place is the number of records), 50 to 55 those of writing (the place is 0, or a record's
 /// number from 51 to 54). A refused call altered nothing. A [`Book`](crate::Book) makes its own room, so that 40 is
 /// never that of preparing.
@@ -60,7 +60,8 @@ macro_rules! refusals {
 refusals! {
     BOOK_SIZE = 1, "the book's octets are odd, under 8 or over 8,192", "0";
     BOOK_HEAD = 2, "the book's head is cut short, its word count is wrong, its schema id or version is 65535, \
-        its byte order is neither 0 nor 1, it has no template or over 64, or its contents don't fit", "0";
+        its byte order is neither 0 nor 1, its numbers of a dimension are neither 2 nor 4, it has no template or \
+        over 64, or its contents don't fit", "0";
     BOOK_CONTENTS = 3, "the book's contents break a rule, or a template or list id is 65535", "0";
     BOOK_BLOCK = 4, "a block runs past its body, body words are left over, a count or the depth is too high, \
         a group has no field, or a list is empty, too long, not rising or of no known kind",
@@ -79,6 +80,9 @@ refusals! {
     GROUP_BLOCK_SHORT = 18, "a known group's block length is under the need", "the dimension's start";
     DATA_LENGTH_NULL = 19, "a data length is 65535", "the data's start";
     OCTETS_LEFT_OVER = 20, "octets are left over", "the first of them";
+    GROUP_COUNTS_WRONG = 21, "a known group's number of groups is wrong, or its number of data",
+        "the dimension's start";
+    GROUP_TOO_DEEP = 22, "a group is below depth four", "the dimension's start";
     PLACE_UNKNOWN = 30, "the place has over four steps, or a number that the book lacks", "0";
     ENTRY_MISSING = 31, "an entry is not below its group's count", "0";
     ROOM_TOO_SMALL = 40, "the room is below three numbers per record, or below a prepared book's numbers",
@@ -101,7 +105,7 @@ impl fmt::Display for Refusal {
         match self.number {
             Refusal::BOOK_BLOCK => write!(f, " in body {}", self.place)?,
             Refusal::BOOK_LAYOUT..=Refusal::BOOK_SINCE => write!(f, " in template {}", self.place)?,
-            Refusal::MESSAGE_SIZE..=Refusal::OCTETS_LEFT_OVER => write!(f, " at octet {}", self.place)?,
+            Refusal::MESSAGE_SIZE..=Refusal::GROUP_TOO_DEEP => write!(f, " at octet {}", self.place)?,
             Refusal::ROOM_TOO_SMALL => write!(f, " for {} records", self.place)?,
             Refusal::RECORD_WRONG..=Refusal::ENTRIES_TOO_MANY => write!(f, " at record {}", self.place)?,
             _ => {}

@@ -14,7 +14,7 @@ use Rattle.book.specs.Answers.{allRules, blockOf, fieldsRules, rulesAre}
 use Rattle.book.proofs.RuleLaws.{and-true}
 use Rattle.book.specs.declared.Block.the-variants as Block
 
-module _ (ls : List NameList) (b : List ℕ) (few w version low high : ℕ) where
+module _ (ls : List NameList) (b : List ℕ) (few w version low high top : ℕ) where
   abbrev f : ℕ
   f = word b (w + 1)
 
@@ -30,24 +30,24 @@ module _ (ls : List NameList) (b : List ℕ) (few w version low high : ℕ) wher
   abbrev answer : Result (Shape × ℕ × ℕ)
   answer = parseShape ls b few w
 
-  pub block-short : length b < w + 4 → blockOf version low high answer ≡ Block.Broken
+  pub block-short : length b < w + 4 → blockOf version low high top answer ≡ Block.Broken
   unfolding parseShape blockOf must _>>=_
   block-short h = rw (lt-leb (w + 4) (length b) h) refl
 
-  pub block-counts : w + 4 ≤ length b → countsGood ≡ false → blockOf version low high answer ≡ Block.Broken
+  pub block-counts : w + 4 ≤ length b → countsGood ≡ false → blockOf version low high top answer ≡ Block.Broken
   unfolding parseShape blockOf must _>>=_
   block-counts h c = rw (le-leb (w + 4) (length b) h, c) refl
 
   pub block-long : w + 4 ≤ length b → countsGood ≡ true → length b < w + 4 + 7 * f + 2 * d
-      → blockOf version low high answer ≡ Block.Broken
+      → blockOf version low high top answer ≡ Block.Broken
   unfolding parseShape blockOf must _>>=_
   block-long h c l = rw (le-leb (w + 4) (length b) h, c, lt-leb (w + 4 + 7 * f + 2 * d) (length b) l) refl
 
   pub block-whole : w + 4 ≤ length b → countsGood ≡ true → w + 4 + 7 * f + 2 * d ≤ length b
-      → blockOf version low high answer
+      → blockOf version low high top answer
       ≡ Block.Whole g (w + 4 + 7 * f + 2 * d) (allRules (rulesAre (ltb (word b w) 65535) true)
       (allRules (fieldsRules version low high (word b w) 0 (parseFields ls b f (w + 4)))
-      (rulesAre true (rising high low (dataSinces (parseDatas b d (w + 4 + 7 * f)))))))
+      (rulesAre true (rising top low (dataSinces (parseDatas b d (w + 4 + 7 * f)))))))
   unfolding parseShape blockOf must _>>=_ allRules
   block-whole h c l =
       rw (

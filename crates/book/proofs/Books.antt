@@ -83,7 +83,7 @@ module _ (s : List ℕ) where
           rw (size, head, bind-done, bind-done)
           (goes-on (checkContents b) _ e
           ∙ all-checked (parseBodies (listsOf b) b 0 (templateRows b)) (eachMust listGood 4 (word b 2) (listsOf b))
-          (eachMust layoutGood 5 0) (eachMust (sinceGood (word b 1)) 6 0) (tree b))
+          (eachMust layoutGood 5 0) (eachMust (sinceGood (formatOf b .inGroups) (word b 1)) 6 0) (tree b))
         where
           tree : List ℕ → List Template → Book
           tree b ts =

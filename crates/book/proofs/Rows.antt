@@ -161,7 +161,7 @@ head-says s h =
     let g = and-right _ _ (and-right _ _ (and-right _ _ (and-right _ _ (h .good)))) in
     record {
       few = leb-true _ _ (and-left _ _ g);
-      fits = rw (← (length-words s)) (leb-true _ _ (and-right _ _ (and-right _ _ g)));
+      fits = rw (← (length-words s)) (leb-true _ _ (and-left _ _ (and-right _ _ (and-right _ _ g))));
     }
 
 -- A book that is too short for a head has none that is good.
@@ -170,9 +170,8 @@ head-short b h = go (headGood b) refl
   where
     go : (t : Bool) → headGood b ≡ t → headGood b ≡ false
     go true e =
-        let g : leb (headSize + contentsSize b) (length b) ≡ true =
-        and-right _ _ (and-right _ _ (and-right _ _ (and-right _ _ (and-right _ _ (and-right _ _ e))))) in
-        absurd (omega (arith, leb-true (headSize + contentsSize b) (length b) g))
+        let g = and-right _ _ (and-right _ _ (and-right _ _ (and-right _ _ (and-right _ _ (and-right _ _ e))))) in
+        absurd (omega (arith, leb-true (headSize + contentsSize b) (length b) (and-left _ _ g)))
     go false e = e
 
 -- Where the row of list i stands.

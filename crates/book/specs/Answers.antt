@@ -7,8 +7,9 @@ use lib.Dec.{leb, ltb}
 use Rattle.layout.specs.Result.{Result, _>>=_, _and_, done, if_then_else_, refused}
 use Rattle.layout.specs.Octets.{wordsOf}
 use Rattle.layout.specs.Book.{Field, Groups, Shape, Template, end, fieldSinces}
-use Rattle.layout.specs.BookRules.{eachMust, fieldGood, fieldsGood, fieldsSince, groupsGood, groupsSince, layoutGood}
-use Rattle.layout.specs.BookRules.{listGood, listsOf, parseBodies, shapeGood, shapeSince, sinceGood, templateRows, word}
+use Rattle.layout.specs.BookRules.{eachMust, fieldGood, fieldsGood, fieldsSince, formatOf, groupsGood, groupsSince}
+use Rattle.layout.specs.BookRules.{layoutGood, listGood, listsOf, parseBodies, shapeGood, shapeSince, sinceGood}
+use Rattle.layout.specs.BookRules.{templateRows, word}
 use Rattle.layout.specs.Contracts.{checked}
 use Rattle.layout.specs.declared.Checked.{Checked}
 use Rattle.book.specs.declared.Rules.{Rules}
@@ -46,31 +47,35 @@ fieldOf l e low high f =
 abbrev pub fieldsRules : ℕ → ℕ → ℕ → ℕ → ℕ → List Field → Rules
 fieldsRules version low high l e fs = rulesAre (fieldsGood l e fs) (fieldsSince version low high (fieldSinces fs))
 
-abbrev pub shapeRules : ℕ → ℕ → ℕ → Shape → Rules
-shapeRules version low high s = rulesAre (shapeGood s) (shapeSince version low high s)
+abbrev pub shapeRules : ℕ → ℕ → ℕ → ℕ → Shape → Rules
+shapeRules version low high top s = rulesAre (shapeGood s) (shapeSince version low high top s)
 
 -- A group with this since, after one with the since `low`: its own rule, its block's and its inner groups'.
 abbrev pub groupRules : ℕ → ℕ → ℕ → Rules → Rules → Rules
 groupRules low since high block inner = allRules (rulesAre true (leb low since and leb since high))
     (allRules block inner)
 
-abbrev pub groupsRules : ℕ → ℕ → ℕ → Groups → Rules
-groupsRules version low high gs = rulesAre (groupsGood gs) (groupsSince version low high gs)
+abbrev pub groupsRules : Bool → ℕ → ℕ → ℕ → Groups → Rules
+groupsRules counted version low high gs = rulesAre (groupsGood gs) (groupsSince counted version low high gs)
 
 -- ---- a block, a row of groups, a body: not whole (4), or whole, where it ends and what rules hold
 
-unfoldable pub blockOf : ℕ → ℕ → ℕ → Result (Shape × ℕ × ℕ) → Block
-blockOf version low high (done r) = Block.the-variants.Whole (r .1) (r .2) (shapeRules version low high (r .0))
-blockOf version low high (refused n p) = Block.the-variants.Broken
+unfoldable pub blockOf : ℕ → ℕ → ℕ → ℕ → Result (Shape × ℕ × ℕ) → Block
+blockOf version low high top (done r) =
+    Block.the-variants.Whole (r .1) (r .2) (shapeRules version low high top (r .0))
+blockOf version low high top (refused n p) = Block.the-variants.Broken
 
-unfoldable pub rowOf : ℕ → ℕ → ℕ → Result (Groups × ℕ) → Row
-rowOf version low high (done r) = Row.the-variants.Whole (r .1) (groupsRules version low high (r .0))
-rowOf version low high (refused n p) = Row.the-variants.Broken
+unfoldable pub rowOf : Bool → ℕ → ℕ → ℕ → Result (Groups × ℕ) → Row
+rowOf counted version low high (done r) = Row.the-variants.Whole (r .1) (groupsRules counted version low high (r .0))
+rowOf counted version low high (refused n p) = Row.the-variants.Broken
 
-unfoldable pub bodyOf : ℕ → Result (Shape × Groups) → Body
-bodyOf version (done r) =
-    Body.the-variants.Whole (allRules (shapeRules version 0 version (r .0)) (groupsRules version 0 version (r .1)))
-bodyOf version (refused n p) = Body.the-variants.Broken
+abbrev pub bodyRules : Bool → ℕ → Shape × Groups → Rules
+bodyRules counted version r =
+    allRules (shapeRules version 0 version version (r .0)) (groupsRules counted version 0 version (r .1))
+
+unfoldable pub bodyOf : Bool → ℕ → Result (Shape × Groups) → Body
+bodyOf counted version (done r) = Body.the-variants.Whole (bodyRules counted version r)
+bodyOf counted version (refused n p) = Body.the-variants.Broken
 
 -- ---- all bodies: "lowest number found in any template, then the first template that has it"
 
@@ -88,12 +93,12 @@ seenOr seen n x = if ltb seen noTemplate then refused n seen else x
 
 -- 4 of the lists, and 5 and 6 for the templates x from number t on, `five` and `six` being the first that broke a rule
 -- before them.
-unfoldable pub ruled : Result (Unit {0}) → ℕ → ℕ → ℕ → ℕ → Result (List Template) → Result (Unit {0})
-ruled lists version t five six x = do
+unfoldable pub ruled : Result (Unit {0}) → Bool → ℕ → ℕ → ℕ → ℕ → Result (List Template) → Result (Unit {0})
+ruled lists counted version t five six x = do
   ts ← x
   _ ← lists
   _ ← seenOr five 5 (eachMust layoutGood 5 t ts)
-  seenOr six 6 (eachMust (sinceGood version) 6 t ts)
+  seenOr six 6 (eachMust (sinceGood counted version) 6 t ts)
 
 unfoldable pub verdictOf : ℕ → ℕ → Checked
 verdictOf five six = checked (seenOr five 5 (done tt) >>= λ _. seenOr six 6 (done tt))
@@ -101,5 +106,5 @@ verdictOf five six = checked (seenOr five 5 (done tt) >>= λ _. seenOr six 6 (do
 -- 4 to 6, over the words of a book.
 abbrev pub bodiesOf : List ℕ → Result (Unit {0})
 bodiesOf b =
-    ruled (eachMust listGood 4 (word b 2) (listsOf b)) (word b 1) 0 noTemplate noTemplate
+    ruled (eachMust listGood 4 (word b 2) (listsOf b)) (formatOf b .inGroups) (word b 1) 0 noTemplate noTemplate
     (parseBodies (listsOf b) b 0 (templateRows b))

@@ -9,7 +9,7 @@ use Rattle.layout.specs.Result.{Result, _and_, done, if_then_else_, refused}
 use Rattle.layout.specs.Octets.{wordsOf}
 use Rattle.layout.specs.Types.{typeAt}
 use Rattle.layout.specs.Lists.{NameList, isOneOf}
-use Rattle.layout.specs.BookRules.{ContentsRow, checkContents, greatest, headGood, listRows, nameListOf, word}
+use Rattle.layout.specs.BookRules.{ContentsRow, checkContents, formatOf, greatest, headGood, listRows, nameListOf, word}
 use Rattle.book.specs.declared.Contents as Contents
 use Rattle.book.specs.declared.Contents.{Contents}
 use Rattle.book.specs.declared.Listed as Listed
@@ -23,6 +23,10 @@ pub record BookHead (s : List ℕ) : Type 0 where
 pub record HasLists (s : List ℕ) : Type 0 where
   pub head : BookHead s
   pub kept : checkContents (wordsOf s) ≡ done tt
+
+-- Whether dimensions have counts.
+abbrev pub countedIn : List ℕ → Bool
+countedIn s = formatOf (wordsOf s) .inGroups
 
 -- Where the bodies of rows end.
 unfoldable pub endOf : Result ℕ → Contents

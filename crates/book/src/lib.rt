@@ -16,10 +16,12 @@ ghost use Rattle.layout.specs.Book.{dataSinces};
 ghost use Rattle.layout.specs.BookRules.{checkContents, climbing, contentsEnd, eachMust, fieldAt, greatest, headGood};
 ghost use Rattle.layout.specs.BookRules.{listGood, listsOf, namesGood, parseBody, parseContents, parseDatas};
 ghost use Rattle.layout.specs.BookRules.{parseFields, parseGroups, parseShape, rising, sizeGood, word as wordOf};
+ghost use Rattle.layout.specs.BookRules.{youngest as youngestOf};
 ghost use Rattle.layout.specs.Contracts.{checked, refusal, ChecksBook};
 ghost use Rattle.book.specs.Answers.{IsWord, allRules, groupRules, fieldOf, fieldsRules, blockOf, rowOf, bodyOf};
 ghost use Rattle.book.specs.Answers.{firstOf, verdictOf, bodiesOf};
-ghost use Rattle.book.specs.Rows.{BookHead, EndsLow, HasLists, IsListRow, endOf, listAt, listFits, listedOf};
+ghost use Rattle.book.specs.Rows.{BookHead, EndsLow, HasLists, IsListRow, countedIn, endOf, listAt, listFits};
+ghost use Rattle.book.specs.Rows.{listedOf};
 
 // Whether the rules of 5 and of 6 hold.
 pub struct Rules {
@@ -68,7 +70,7 @@ pub enum Listed {
 }
 
 // How many words are the head, and a row of the contents.
-const HEAD: usize = 6;
+const HEAD: usize = 7;
 
 const ROW: usize = 3;
 
@@ -383,7 +385,7 @@ fn counts_good(few: usize, f: usize, g: usize, d: usize) -> bool
     both(few <= f, both(f <= 64, others))
 }
 
-// The block at word w up to its groups. It has at least `few` fields.
+// The block at word w up to its groups. It has at least `few` fields, and data with sinces up to `top`.
 fn check_block(
     book: &[u8],
     body: &[u8],
@@ -392,9 +394,10 @@ fn check_block(
     version: usize,
     low: usize,
     high: usize,
+    top: usize,
 ) -> Block
     requires { ⌜ HasLists (now book) × (w ≤ length (now body) / 2) ⌝ }
-    ensures { λ r. ⌜ r ≡ blockOf version low high (parseShape (listsOf (wordsOf (now (book .entry)))) (wordsOf (now
+    ensures { λ r. ⌜ r ≡ blockOf version low high top (parseShape (listsOf (wordsOf (now (book .entry)))) (wordsOf (now
         (body .entry))) few w) ⌝ }
 {
     let size = body.len() / 2;
@@ -418,7 +421,7 @@ fn check_block(
         };
         let others = Rules {
             layout: true,
-            since: check_datas(body, datas, d, low, high),
+            since: check_datas(body, datas, d, low, top),
         };
         let rules = all_rules(whole, all_rules(fields, others));
         return Block::Whole {
@@ -448,6 +451,15 @@ fn more_rules(
     all_rules(before, all_rules(own, all_rules(block, inner)))
 }
 
+// The greatest since that data and groups inside a group with this since may have: its own, or the version where
+// dimensions have counts.
+fn youngest(book: &[u8], version: usize, since: usize) -> usize
+    requires { ⌜ HasLists (now book) ⌝ }
+    ensures { λ r. ⌜ r ≡ youngestOf (countedIn (now (book .entry))) version since ⌝ }
+{
+    if word(book, 6) == 4 { version } else { since }
+}
+
 // The n groups in a row at word `from`, `depth` more levels being left.
 fn check_groups(
     book: &[u8],
@@ -460,8 +472,8 @@ fn check_groups(
     high: usize,
 ) -> Row
     requires { ⌜ HasLists (now book) × (from ≤ length (now body) / 2) ⌝ }
-    ensures { λ r. ⌜ r ≡ rowOf version low high (parseGroups (listsOf (wordsOf (now (book .entry)))) (wordsOf (now
-        (body .entry))) depth n from) ⌝ }
+    ensures { λ r. ⌜ r ≡ rowOf (countedIn (now (book .entry))) version low high (parseGroups (listsOf (wordsOf (now
+        (book .entry)))) (wordsOf (now (body .entry))) depth n from) ⌝ }
 {
     let mut w = from;
     let mut left = n;
@@ -478,7 +490,8 @@ fn check_groups(
             return Row::Broken;
         }
         let since = word(body, w + 1);
-        let block = check_block(book, body, 1, w + 2, version, since, since);
+        let top = youngest(book, version, since);
+        let block = check_block(book, body, 1, w + 2, version, since, since, top);
         let Block::Whole {
             groups,
             next: inside,
@@ -487,7 +500,7 @@ fn check_groups(
         else {
             return Row::Broken;
         };
-        let inner = check_groups(book, body, inside, groups, depth - 1, version, since, since);
+        let inner = check_groups(book, body, inside, groups, depth - 1, version, since, top);
         let Row::Whole { next, rules: below } = inner else {
             return Row::Broken;
         };
@@ -502,10 +515,10 @@ fn check_groups(
 // A body is one block, and nothing after it.
 fn check_body(book: &[u8], body: &[u8], version: usize) -> Body
     requires { ⌜ HasLists (now book) ⌝ }
-    ensures { λ r. ⌜ r ≡ bodyOf version (parseBody (listsOf (wordsOf (now (book .entry)))) (wordsOf (now
-        (body .entry)))) ⌝ }
+    ensures { λ r. ⌜ r ≡ bodyOf (countedIn (now (book .entry))) version (parseBody (listsOf (wordsOf (now
+        (book .entry)))) (wordsOf (now (body .entry)))) ⌝ }
 {
-    let block = check_block(book, body, 0, 0, version, 0, version);
+    let block = check_block(book, body, 0, 0, version, 0, version, version);
     let Block::Whole {
         groups,
         next: inside,
@@ -588,6 +601,13 @@ fn size_good(book: &[u8]) -> bool
     both(n % 2 == 0, between(8, n, 8192))
 }
 
+// Whether a dimension may have n numbers.
+fn dimension_good(n: usize) -> bool
+    ensures { λ r. ⌜ r ≡ (eqb n 2 or eqb n 4) ⌝ }
+{
+    either(n == 2, n == 4)
+}
+
 fn head_good(book: &[u8]) -> bool
     requires { ⌜ 8 ≤ length (now book) ⌝ }
     ensures { λ r. ⌜ r ≡ headGood (wordsOf (now (book .entry))) ⌝ }
@@ -598,10 +618,8 @@ fn head_good(book: &[u8]) -> bool
     }
     let n = word(book, 2);
     let contents = HEAD + ROW * (n + word(book, 4));
-    let room = both(
-        1 <= n,
-        both(n <= 64, both(word(book, 5) <= 1, contents <= size)),
-    );
+    let rest = both(contents <= size, dimension_good(word(book, 6)));
+    let room = both(1 <= n, both(n <= 64, both(word(book, 5) <= 1, rest)));
     let whole = both(word(book, 0) < 65535, both(word(book, 1) < 65535, room));
     both(word(book, 3) == size, whole)
 }

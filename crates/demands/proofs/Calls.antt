@@ -3,7 +3,7 @@
 -- `Lists`, `AnswersPlace` and `Writes` are those of checking, listing, asking for a place and writing.
 -- A room is `before` at the call and `after` at the return; r and r′ are what is returned.
 use mathlib.Core.Path.{_∙_, _≡_, ap, refl, subst, sym}
-use mathlib.Core.Bool.{Bool, false, true}
+use mathlib.Core.Bool.{Bool, false, false≢true, true}
 use mathlib.Core.List.{List, _++_}
 use mathlib.Core.Option.{some}
 use Prim.Native.Nat.{_*_, _<_, _≤_, ℕ}
@@ -23,8 +23,8 @@ use Rattle.layout.specs.Writing.{judgeListing, messageOctets, writeOf, writtenL
 use Rattle.layout.specs.Extension.{Extends}
 use Rattle.layout.specs.Contracts.{AnswersPlace, Checks, ChecksBook, Lists, Writes, checked, counted, found, refusal}
 use Rattle.layout.specs.Contracts.{roomAfter}
-use Rattle.layout.specs.Demands.{AlikeOrUnlisted, AsWritten, CallsAlike, OtherWay, Runs, contents, foundBeside}
-use Rattle.layout.specs.Demands.{namesAt, otherOrder, reordered}
+use Rattle.layout.specs.Demands.{AlikeOrUnlisted, AsWritten, CallsAlike, OtherWay, Runs, contents, foundBeside, namesAt}
+use Rattle.layout.specs.Demands.{otherOrder, reordered}
 use Rattle.demands.proofs.Kept.{found-says, found-seen, seen, seen-by-none}
 use Rattle.demands.proofs.Numbers.{book-refuses, check-refuses, forty-lacks-room, place-refuses, refuses-with}
 use Rattle.demands.proofs.Numbers.{write-refuses}
@@ -87,10 +87,21 @@ book-is-refused-with book z c = refuses-with 1 6 _ _ _ (book-refuses book) (refu
 
 pub message-is-refused-with : (book m : List ℕ) (z : Refusal) → ChecksBook book Checked.Accepted
     → Checks book m (Checked.Refused z)
-    → (10 ≤ z .number) × (z .number ≤ 20)
+    → (10 ≤ z .number) × (z .number ≤ 22)
 message-is-refused-with book m z a c =
     let b = accepted-of (bookOf book) a in
-    refuses-with 10 20 _ _ _ (check-refuses book m (b .0) (b .1)) (refused-of (checkOf book m) z c)
+    refuses-with 10 22 _ _ _ (check-refuses 22 book m (b .0) (b .1) (omega arith) λ _. omega arith)
+    (refused-of (checkOf book m) z c)
+
+-- 21 and 22 are of books whose dimensions have four numbers.
+pub two-number-message-is-refused-with : (book m : List ℕ) (b : Book) (z : Refusal) → bookOf book ≡ done b
+    → b .format .inGroups ≡ false
+    → Checks book m (Checked.Refused z)
+    → (10 ≤ z .number) × (z .number ≤ 20)
+two-number-message-is-refused-with book m b z isBook two c =
+    refuses-with 10 20 _ _ _
+    (check-refuses 20 book m b isBook (omega arith) λ four. absurd (false≢true (sym two ∙ four)))
+    (refused-of (checkOf book m) z c)
 
 pub place-is-refused-with : (book m steps : List ℕ) (x : Element) (z : Refusal) → Checks book m Checked.Accepted
     → AnswersPlace book m steps x (Found.Refused z)
@@ -241,7 +252,7 @@ module _ (book : List ℕ) (id : ℕ) (l pool before after : List ℕ) where
   pub writing-writes : (n : ℕ) → Writes book id l pool before (Counted.Count n) after
       → (b : Book) × (t : Template) × (v : Values) × (bookOf book ≡ done b) × (findTemplate id (b .templates) ≡ some t)
       × (judgeListing l pool t ≡ done v)
-      × (n ≡ writtenLength t v)
+      × (n ≡ writtenLength b t v)
       × (take n after ≡ messageOctets b t pool v)
   writing-writes n c =
       let k = counted-writing book id l pool before after n c in
@@ -262,24 +273,24 @@ module _ (book : List ℕ) (id : ℕ) (l pool before after : List ℕ) where
       (known : findTemplate id (b .templates) ≡ some t)
       (good : judgeListing l pool t ≡ done v)
       (r : Counted) (writes : Writes book id l pool before r after) where
-    pub writing-has-room : writtenLength t v ≤ length before → writtenLength t v ≤ 65535
-        → r ≡ Counted.Count (writtenLength t v)
+    pub writing-has-room : writtenLength b t v ≤ length before → writtenLength b t v ≤ 65535
+        → r ≡ Counted.Count (writtenLength b t v)
     unfolding counted must _and_ _>>=_
     writing-has-room h few =
         let e = writes-on book id l pool (length before) b t v isBook known good true
         (rw (le-leb _ _ h, le-leb _ _ few) refl) in
         writes .answer ∙ rw (e, written-length book id l pool b t v isBook known good) refl
 
-    pub writing-lacks-room : (writtenLength t v ≤ length before → 65535 < writtenLength t v)
+    pub writing-lacks-room : (writtenLength b t v ≤ length before → 65535 < writtenLength b t v)
         → r ≡ Counted.Refused (refusal 55 0)
     unfolding counted must _>>=_
-    writing-lacks-room short = go (leb (writtenLength t v) (length before) and leb (writtenLength t v) 65535) refl
+    writing-lacks-room short = go (leb (writtenLength b t v) (length before) and leb (writtenLength b t v) 65535) refl
       where
-        go : (fits : Bool) → (leb (writtenLength t v) (length before) and leb (writtenLength t v) 65535) ≡ fits
+        go : (fits : Bool) → (leb (writtenLength b t v) (length before) and leb (writtenLength b t v) 65535) ≡ fits
             → r ≡ Counted.Refused (refusal 55 0)
         go true e =
-            let fits = short (leb-true (writtenLength t v) (length before) (and-left _ _ e)) in
-            absurd (omega (arith, leb-true (writtenLength t v) 65535 (and-right _ _ e)))
+            let fits = short (leb-true (writtenLength b t v) (length before) (and-left _ _ e)) in
+            absurd (omega (arith, leb-true (writtenLength b t v) 65535 (and-right _ _ e)))
         go false e =
             writes .answer ∙ rw (writes-on book id l pool (length before) b t v isBook known good false e) refl
 

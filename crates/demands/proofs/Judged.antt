@@ -16,14 +16,14 @@ use Rattle.layout.specs.Book.{Data, Field, Groups, Shape, Template, dataSinces,
 use Rattle.layout.specs.Book.{isOptional, more, need, needAfter, none}
 use Rattle.layout.specs.BookRules.{fieldsGood, lengthGood}
 use Rattle.layout.specs.Values.{Values, entry, group, listing, nil, recordOf, recordsOf}
-use Rattle.layout.specs.Message.{Entry, arrayAt, dimensionSize, readBlock, readData, readDatas, readEntries, readField}
-use Rattle.layout.specs.Message.{readGroups}
+use Rattle.layout.specs.Message.{Entry, arrayAt, dimensionSize, inside, readBlock, readData, readDatas, readEntries}
+use Rattle.layout.specs.Message.{readField, readGroups}
 use Rattle.layout.specs.Writing.{first, isThere, judgeArray, judgeBlock, judgeData, judgeDatas, judgeEntries}
 use Rattle.layout.specs.Writing.{judgeField, judgeFields, judgeGroups, judgeListing, judgeNull, judgeNumber}
 use Rattle.layout.specs.Writing.{judgeOctets, judgeText, second, textFits, third}
 use Rattle.layout.specs.Demands.{AllSound, Sound}
 use Rattle.demands.proofs.Needs.{need-grows}
-use Rattle.demands.proofs.Read.{data-read, datas-read, dimension-read, group-read}
+use Rattle.demands.proofs.Read.{data-read, datas-read, group-read}
 use Rattle.demands.proofs.Reread.{no-datas, no-groups}
 use Rattle.layout.proofs.ListLaws.{beside-listed, sound-listed}
 use Rattle.layout.proofs.Fields.{field-good, size-array}
@@ -333,45 +333,46 @@ module _ (big : Bool) (l m : List ℕ) (v : ℕ) where
   unfolding judgeGroups
   groups-stop i = refl
 
-  groups-judged : (gs : Groups) → GoodGroups v gs → Agree (readGroups big m v gs 0) (judgeGroups l m gs)
+  groups-judged : (counted : Bool) (gs : Groups) (levels : ℕ) → GoodGroups v levels gs
+      → Agree (readGroups counted v big m v gs levels 0) (judgeGroups l m gs)
   unfolding GoodGroups AllSound listing recordOf
-  groups-judged none good at i to r e sound st =
+  groups-judged counted none levels good at i to r e sound st =
       subst (λ (x : Values × ℕ). Stands l (3 * i) (listing (x .0)) to
-      → Judges (judgeGroups l m none) i to (x .0)) (done-inj (sym (no-groups big m v at) ∙ e))
+      → Judges (judgeGroups l m none) i to (x .0)) (done-inj (sym (no-groups big m v counted levels at) ∙ e))
       (λ o. (i, omega (arith, o .ends), groups-stop i)) st
-  groups-judged (more id since s inner rest) good at i to r e sound st =
-      let w = group-read big m v id since s inner rest at r (good .0) e in
-      let k = w .sizes .1 in
+  groups-judged counted (more id since s inner rest) levels good at i to r e sound st =
+      let w = group-read counted big m v id since s inner rest levels at r (good .0 .isIn) e in
+      let k = w .sizes .entries in
       let es = w .entries .0 in
       let gs = w .others .0 in
-      let d = dimension-read big m v (need v s) at (w .sizes) (w .dimension) in
       subst (λ (x : Values × ℕ). AllSound (x .0) → Stands l (3 * i) (listing (x .0)) to
       → Judges (judgeGroups l m (more id since s inner rest)) i to (x .0)) (w .is)
       (λ sound′ o.
       let o₁ = split-to (4 ∷ k ∷ 0 ∷ []) (listing es ++ listing gs) (3 * suc i) (omega arith) o in
       let o₂ = split-to (listing es) (listing gs) _ refl (o₁ .1) in
-      let a = entries-judged s (readGroups big m v inner 0) (judgeGroups l m inner) (w .sizes .0) (good .1)
-      (d .enough) (groups-judged inner (good .2)) k
-      (at + dimensionSize) (suc i) _ (w .entries) (w .reads) (sound′ .0) (o₂ .0) in
-      let c = groups-judged rest (good .3) (w .entries .1) (a .0) to (w .others) (w .after) (sound′ .1)
+      let a = entries-judged s (readGroups counted v big m v inner (inside levels) 0) (judgeGroups l m inner)
+      (w .sizes .length) (good .0 .shape) (w .enough) (groups-judged counted inner (inside levels) (good .1)) k
+      (at + dimensionSize counted) (suc i) _ (w .entries) (w .reads) (sound′ .0) (o₂ .0) in
+      let c = groups-judged counted rest levels (good .2) (w .entries .1) (a .0) to (w .others) (w .after) (sound′ .1)
       (subst (λ (y : ℕ). Stands l y (listing gs) to) (a .1) (o₂ .1)) in (
         c .0,
         c .1,
         groups-next id since s inner rest i (a .0) k (c .0) es gs (record-is i 4 k 0 (3 * suc i) (o₁ .0))
-            (d .whole) (a .2) (c .2),
+            (w .dimension .whole) (a .2) (c .2),
       )) sound st
 
   -- The whole listing.
-  pub listing-judged : (t : Template) (n at : ℕ) (b : Entry) → GoodShape v (t .shape) → GoodGroups v (t .groups)
+  pub listing-judged : (counted : Bool) (t : Template) (levels n at : ℕ) (b : Entry) → GoodShape v (t .shape)
+      → GoodGroups v levels (t .groups)
       → need v (t .shape) ≤ n
       → AllSound (entry (b .0) (b .1) (b .2) nil)
-      → readBlock big m v (t .shape) (readGroups big m v (t .groups) 0) 0 n at ≡ done b
+      → readBlock big m v (t .shape) (readGroups counted v big m v (t .groups) levels 0) 0 n at ≡ done b
       → listing (entry (b .0) (b .1) (b .2) nil) ≡ l
       → judgeListing l m t ≡ done (entry (b .0) (b .1) (b .2) nil)
   unfolding judgeListing must _>>=_ AllSound listing
-  listing-judged t n at b good gg enough sound e is =
-      let w = block-judged (t .shape) (readGroups big m v (t .groups) 0)
-      (judgeGroups l m (t .groups)) n good enough (groups-judged (t .groups) gg)
+  listing-judged counted t levels n at b good gg enough sound e is =
+      let w = block-judged (t .shape) (readGroups counted v big m v (t .groups) levels 0)
+      (judgeGroups l m (t .groups)) n good enough (groups-judged counted (t .groups) levels gg)
       0 at b [] (length l) (sound .0) (sound .1) e
       (subst (λ (x : List ℕ). Stands l 0 x (length l)) (sym is) (all-stands l)) in
       let q : 3 * w .0 ≡ length l = omega (arith, w .2 .ends) in

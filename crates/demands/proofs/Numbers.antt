@@ -7,20 +7,22 @@ use Prim.Native.Nat.{_*_, _+_, _<_, _≤_, suc, zero, ℕ}
 use native.Mathlib.Omega.{arith}
 use lib.Dec.{leb}
 use borrow.Author.Tests.{leb-false, leb-true}
-use Rattle.layout.specs.Result.{Result, _>>=_, asRefusal, done, must, orRefuse, refused}
+use Rattle.layout.specs.Result.{Result, _>>=_, _and_, asRefusal, done, must, orRefuse, refused}
 use Rattle.layout.specs.Lists.{NameList}
-use Rattle.layout.specs.Book.{Book, Data, Field, Groups, Shape, Template, more, none}
+use Rattle.layout.specs.Book.{Book, Data, Field, Format, Groups, Shape, Template, more, none}
 use Rattle.layout.specs.BookRules.{ContentsRow, bookOf, checkContents, contentsEnd, eachMust, parseBodies}
 use Rattle.layout.specs.Values.{Step, Values, answerAt, elementIn, entry, group, measure, nil}
-use Rattle.layout.specs.Message.{Entry, checkHeader, headerNumbers, headerWhole, readBlock, readData, readDatas}
-use Rattle.layout.specs.Message.{readDimension, readEntries, readGroup, readGroups, readMessage, readRoot, skipDatas}
-use Rattle.layout.specs.Message.{readWhole, skipGroups, surplusOf}
+use Rattle.layout.specs.Message.{Dimension, Entry, checkHeader, countAt, countGood, depthLimit, headerNumbers}
+use Rattle.layout.specs.Message.{headerWhole, inRow, readBlock, readData, readDatas, readDimension, readEntries}
+use Rattle.layout.specs.Message.{readGroup, readGroups, readMessage, readRoot, readWhole, skipDatas, skipEntry}
+use Rattle.layout.specs.Message.{skipGroup, surplusOf}
 use Rattle.layout.specs.Reading.{checkOf, listOf, placeAsked, placeBy, stepsOf}
 use Rattle.layout.specs.Writing.{judgeArray, judgeBlock, judgeDatas, judgeEntries, judgeFields, judgeGroups}
 use Rattle.layout.specs.Writing.{judgeListing, judgeNull, judgeNumber, judgeOctets, writeOf}
 use Rattle.layout.specs.Contracts.{checked}
 use Rattle.demands.proofs.Outcomes.{Reads, goes-on, not-listed, stops, was-accepted}
 use Rattle.demands.proofs.Written.{lists-within}
+use Rattle.demands.proofs.Read.{dimension-read}
 use Rattle.layout.proofs.Results.{bind-done, either, inv-bind}
 use Rattle.layout.specs.declared.Element.{Element}
 
@@ -43,6 +45,13 @@ module _ (low high : ℕ) where
   unfolding Refuses _>>=_
   refuses-bind (done a) k h q = q a
   refuses-bind (refused n p) k h q = h
+
+  -- The same, where what follows may use what is done.
+  refuses-then : {A B : Type 0} (x : Result A) (k : A → Result B) → Refuses x
+      → ((a : A) → x ≡ done a → Refuses (k a)) → Refuses (x >>= k)
+  unfolding Refuses _>>=_
+  refuses-then (done a) k h q = q a refl
+  refuses-then (refused n p) k h q = h
 
   refuses-must : (t : Bool) (n p : ℕ) → (low ≤ n) × (n ≤ high) → Refuses (must t n p)
   unfolding Refuses must
@@ -102,95 +111,150 @@ book-refuses octets =
     refuses-bind 1 6 _ _ (each-refuses _ 5 0 _ (omega arith)) λ _.
     refuses-bind 1 6 _ _ (each-refuses _ 6 0 _ (omega arith)) λ _. refuses-done 1 6 _
 
--- ---- 10 to 20
+-- ---- 10 to 20, and 21 and 22 where dimensions have counts
 
-module _ (big : Bool) (m : List ℕ) where
-  data-refuses : (at : ℕ) → Refuses 10 20 (readData big m at)
+-- A dimension without counts passes their test ..
+counts-refuse : (counted : Bool) (high version v : ℕ) (groups datas : List ℕ) (g d at : ℕ)
+    → (counted ≡ true → 22 ≤ high)
+    → Refuses 10 high (must (countGood counted version v groups g and countGood counted version v datas d) 21 at)
+unfolding Refuses must countGood _and_
+counts-refuse true high version v groups datas g d at deep =
+    refuses-must 10 high (countGood true version v groups g and countGood true version v datas d) 21 at
+    (omega (arith, deep refl))
+counts-refuse false high version v groups datas g d at deep = tt
+
+-- .. and counts no groups.
+counts-groups : (counted big : Bool) (m : List ℕ) (at : ℕ) (d : Dimension) → d .groups ≡ countAt counted big m (at + 4)
+    → 0 < d .groups → counted ≡ true
+counts-groups true big m at d e h = refl
+counts-groups false big m at d e h = absurd (omega arith)
+
+module _ (counted : Bool) (high : ℕ) (known : 20 ≤ high) (deep : counted ≡ true → 22 ≤ high) (big : Bool)
+    (m : List ℕ) where
+  data-refuses : (at : ℕ) → Refuses 10 high (readData big m at)
   unfolding readData
   data-refuses at =
-      refuses-unless 10 20 _ 16 at _ (omega arith) λ _.
-      refuses-unless 10 20 _ 19 at _ (omega arith) λ _.
-      refuses-unless 10 20 _ 16 at _ (omega arith) λ _. refuses-done 10 20 _
+      refuses-unless 10 high _ 16 at _ (omega arith) λ _.
+      refuses-unless 10 high _ 19 at _ (omega arith) λ _.
+      refuses-unless 10 high _ 16 at _ (omega arith) λ _. refuses-done 10 high _
 
-  skipped-datas-refuse : (n at : ℕ) → Refuses 10 20 (skipDatas big m n at)
-  unfolding skipDatas
-  skipped-datas-refuse zero at = refuses-done 10 20 at
-  skipped-datas-refuse (suc n) at = refuses-bind 10 20 _ _ (data-refuses at) λ x. skipped-datas-refuse n (x .1)
+  row-refuses : (n : ℕ) (f : ℕ → Result ℕ) (at : ℕ) → (0 < n → (x : ℕ) → Refuses 10 high (f x))
+      → Refuses 10 high (inRow n f at)
+  unfolding inRow
+  row-refuses zero f at h = refuses-done 10 high at
+  row-refuses (suc n) f at h =
+      refuses-bind 10 high _ _ (h (omega arith) at) λ x. row-refuses n f x (λ _. h (omega arith))
 
-  dimension-refuses : (least at : ℕ) → Refuses 10 20 (readDimension big m least at)
+  skipped-datas-refuse : (n at : ℕ) → Refuses 10 high (skipDatas big m n at)
+  skipped-datas-refuse n at =
+      row-refuses n _ at λ _ x. refuses-bind 10 high _ _ (data-refuses x) λ r. refuses-done 10 high _
+
+  skipped-entry-refuses : (f : ℕ → Result ℕ) (d : Dimension) (place at : ℕ)
+      → (0 < d .groups → (x : ℕ) → Refuses 10 high (f x))
+      → Refuses 10 high (skipEntry big m f d place at)
+  unfolding skipEntry
+  skipped-entry-refuses f d place at h =
+      refuses-unless 10 high _ 16 place _ (omega arith) λ _.
+      refuses-bind 10 high _ _ (row-refuses (d .groups) f _ h) λ x. skipped-datas-refuse (d .datas) x
+
+  dimension-refuses : (at : ℕ) → Refuses 10 high (readDimension counted big m at)
   unfolding readDimension
-  dimension-refuses least at =
-      refuses-unless 10 20 _ 16 at _ (omega arith) λ _.
-      refuses-unless 10 20 _ 17 at _ (omega arith) λ _.
-      refuses-unless 10 20 _ 18 at _ (omega arith) λ _. refuses-done 10 20 _
+  dimension-refuses at =
+      refuses-unless 10 high _ 16 at _ (omega arith) λ _.
+      refuses-unless 10 high _ 17 at _ (omega arith) λ _. refuses-done 10 high _
 
-  skipped-groups-refuse : (n at : ℕ) → Refuses 10 20 (skipGroups big m n at)
-  unfolding skipGroups
-  skipped-groups-refuse zero at = refuses-done 10 20 at
-  skipped-groups-refuse (suc n) at =
-      refuses-bind 10 20 _ _ (dimension-refuses 0 at) λ x.
-      refuses-unless 10 20 _ 16 at _ (omega arith) λ _. skipped-groups-refuse n _
+  -- What follows a dimension, in which there are groups only if they are counted.
+  dimension-then : {A : Type 0} (at : ℕ) (k : Dimension → Result A)
+      → ((d : Dimension) → (0 < d .groups → counted ≡ true) → Refuses 10 high (k d))
+      → Refuses 10 high (readDimension counted big m at >>= k)
+  dimension-then at k h =
+      refuses-then 10 high _ k (dimension-refuses at) λ d e.
+      h d (counts-groups counted big m at d (dimension-read counted big m at d e .groupsIs))
 
-  header-refuses : (n at : ℕ) → Refuses 10 20 (headerWhole big m n at)
+  skipped-group-refuses : (levels at : ℕ) → (levels ≡ 0 → counted ≡ true)
+      → Refuses 10 high (skipGroup counted big m levels at)
+  unfolding skipGroup Refuses
+  skipped-group-refuses zero at h = dimension-then at _ λ d _. omega (arith, deep (h refl))
+  skipped-group-refuses (suc levels) at h =
+      dimension-then at _ λ d some.
+      row-refuses _ _ _ λ _ x.
+      skipped-entry-refuses _ d at x λ g y. skipped-group-refuses levels y (λ _. some g)
+
+  header-refuses : (n at : ℕ) → Refuses 10 high (headerWhole big m n at)
   unfolding headerWhole
-  header-refuses zero at = refuses-done 10 20 tt
-  header-refuses (suc n) at = refuses-unless 10 20 _ 11 at _ (omega arith) λ _. header-refuses n (at + 2)
+  header-refuses zero at = refuses-done 10 high tt
+  header-refuses (suc n) at = refuses-unless 10 high _ 11 at _ (omega arith) λ _. header-refuses n (at + 2)
 
   module _ (v : ℕ) where
-    datas-refuse : (ds : List Data) (n at : ℕ) → Refuses 10 20 (readDatas big m v ds n at)
+    datas-refuse : (ds : List Data) (n at : ℕ) → Refuses 10 high (readDatas big m v ds n at)
     unfolding readDatas
-    datas-refuse [] n at = refuses-bind 10 20 _ _ (skipped-datas-refuse n at) λ x. refuses-done 10 20 _
+    datas-refuse [] n at = refuses-bind 10 high _ _ (skipped-datas-refuse n at) λ x. refuses-done 10 high _
     datas-refuse (d ∷ ds) n at =
-        refuses-bind 10 20 _ _ (either (Refuses 10 20) _ _ _ (data-refuses at) (refuses-done 10 20 _)) λ x.
-        refuses-bind 10 20 _ _ (datas-refuse ds n (x .1)) λ y. refuses-done 10 20 _
+        refuses-bind 10 high _ _ (either (Refuses 10 high) _ _ _ (data-refuses at) (refuses-done 10 high _)) λ x.
+        refuses-bind 10 high _ _ (datas-refuse ds n (x .1)) λ y. refuses-done 10 high _
 
-    block-refuses : (s : Shape) (f : ℕ → Result (Values × ℕ)) (n l at : ℕ) → ((x : ℕ) → Refuses 10 20 (f x))
-        → Refuses 10 20 (readBlock big m v s f n l at)
+    block-refuses : (s : Shape) (f : ℕ → Result (Values × ℕ)) (n l at : ℕ) → ((x : ℕ) → Refuses 10 high (f x))
+        → Refuses 10 high (readBlock big m v s f n l at)
     unfolding readBlock
     block-refuses s f n l at h =
-        refuses-unless 10 20 _ 16 at _ (omega arith) λ _.
-        refuses-bind 10 20 _ _ (h (at + l)) λ x.
-        refuses-bind 10 20 _ _ (datas-refuse (s .datas) n (x .1)) λ y. refuses-done 10 20 _
+        refuses-unless 10 high _ 16 at _ (omega arith) λ _.
+        refuses-bind 10 high _ _ (h (at + l)) λ x.
+        refuses-bind 10 high _ _ (datas-refuse (s .datas) n (x .1)) λ y. refuses-done 10 high _
 
-    entries-refuse : (n : ℕ) (f : ℕ → Result Entry) (at : ℕ) → ((x : ℕ) → Refuses 10 20 (f x))
-        → Refuses 10 20 (readEntries n f at)
+    entries-refuse : (n : ℕ) (f : ℕ → Result Entry) (at : ℕ) → ((x : ℕ) → Refuses 10 high (f x))
+        → Refuses 10 high (readEntries n f at)
     unfolding readEntries
-    entries-refuse zero f at h = refuses-done 10 20 _
+    entries-refuse zero f at h = refuses-done 10 high _
     entries-refuse (suc n) f at h =
-        refuses-bind 10 20 _ _ (h at) λ x.
-        refuses-bind 10 20 _ _ (entries-refuse n f (x .3) h) λ y. refuses-done 10 20 _
+        refuses-bind 10 high _ _ (h at) λ x.
+        refuses-bind 10 high _ _ (entries-refuse n f (x .3) h) λ y. refuses-done 10 high _
 
-    group-refuses : (s : Shape) (f : ℕ → Result (Values × ℕ)) (at : ℕ) → ((x : ℕ) → Refuses 10 20 (f x))
-        → Refuses 10 20 (readGroup big m v s f at)
-    unfolding readGroup
-    group-refuses s f at h =
-        refuses-bind 10 20 _ _ (dimension-refuses _ at) λ x.
-        refuses-bind 10 20 _ _ (entries-refuse _ _ _ λ y. block-refuses s f 0 _ y h) λ y. refuses-done 10 20 _
+    module _ (version : ℕ) where
+      group-refuses : (s : Shape) (groups : List ℕ) (f : ℕ → ℕ → Result (Values × ℕ)) (at : ℕ)
+          → ((n x : ℕ) → (0 < n → counted ≡ true) → Refuses 10 high (f n x))
+          → Refuses 10 high (readGroup counted version big m v s groups f at)
+      unfolding readGroup
+      group-refuses s groups f at h =
+          dimension-then at _ λ d some.
+          refuses-unless 10 high _ 18 at _ (omega arith) λ _.
+          refuses-bind 10 high _ _ (counts-refuse counted high version v groups _ _ _ at deep) λ _.
+          refuses-bind 10 high _ _ (entries-refuse _ _ _ λ y. block-refuses s _ _ _ y λ x.
+          h _ x (λ g. some (omega arith))) λ y. refuses-done 10 high _
 
-    groups-refuse : (gs : Groups) (n at : ℕ) → Refuses 10 20 (readGroups big m v gs n at)
-    unfolding readGroups
-    groups-refuse none n at = refuses-bind 10 20 _ _ (skipped-groups-refuse n at) λ x. refuses-done 10 20 _
-    groups-refuse (more i since s inner rest) n at =
-        refuses-bind 10 20 _ _ (either (Refuses 10 20) _ _ _ (group-refuses s _ at (groups-refuse inner 0))
-        (refuses-done 10 20 _)) λ x.
-        refuses-bind 10 20 _ _ (groups-refuse rest n (x .2)) λ y. refuses-done 10 20 _
+      groups-refuse : (gs : Groups) (levels n at : ℕ) → (0 < n → levels ≡ 0 → counted ≡ true)
+          → Refuses 10 high (readGroups counted version big m v gs levels n at)
+      unfolding readGroups
+      groups-refuse none levels n at h =
+          refuses-bind 10 high _ _ (row-refuses n _ at λ g x. skipped-group-refuses levels x (h g)) λ x.
+          refuses-done 10 high _
+      groups-refuse (more i since s inner rest) levels n at h =
+          refuses-bind 10 high _ _
+          (either (Refuses 10 high) _ _ _
+          (group-refuses s _ _ at λ k x some. groups-refuse inner _ k x (λ g _. some g)) (refuses-done 10 high _)) λ x.
+          refuses-bind 10 high _ _ (groups-refuse rest levels n (x .2) h) λ y. refuses-done 10 high _
 
-  root-refuses : (version : ℕ) (t : Template) → Refuses 10 20 (readRoot big version t m)
+module _ (high : ℕ) (known : 20 ≤ high) (m : List ℕ) where
+  root-refuses : (format : Format) (version : ℕ) (t : Template) → (format .inGroups ≡ true → 22 ≤ high)
+      → Refuses 10 high (readRoot format version t m)
   unfolding readRoot surplusOf readWhole
-  root-refuses version t =
-      refuses-bind 10 20 _ _ (refuses-unless 10 20 _ 14 0 _ (omega arith) λ _.
-      refuses-unless 10 20 _ 15 8 _ (omega arith) λ _.
-      refuses-unless 10 20 _ 15 10 _ (omega arith) λ _. refuses-done 10 20 _) λ _.
-      refuses-bind 10 20 _ _ (block-refuses _ (t .shape) _ _ _ _ (groups-refuse _ (t .groups) _)) λ x.
-      refuses-unless 10 20 _ 20 _ _ (omega arith) λ _. refuses-done 10 20 _
+  root-refuses format version t deep =
+      let counted = format .inGroups in
+      let big = format .big in
+      refuses-bind 10 high _ _ (refuses-unless 10 high _ 14 0 _ (omega arith) λ _.
+      refuses-unless 10 high _ 15 8 _ (omega arith) λ _.
+      refuses-unless 10 high _ 15 10 _ (omega arith) λ _. refuses-done 10 high _) λ _.
+      refuses-bind 10 high _ _ (block-refuses counted high known deep big m _ (t .shape) _ _ _ _ λ x.
+      groups-refuse counted high known deep big m _ version (t .groups) depthLimit _ x λ _ z. absurd (omega arith)) λ x.
+      refuses-unless 10 high _ 20 _ _ (omega arith) λ _. refuses-done 10 high _
 
-message-refuses : (m : List ℕ) (b : Book) → Refuses 10 20 (readMessage b m)
-unfolding readMessage checkHeader
-message-refuses m b =
-    let big = b .format .big in
-    refuses-bind 10 20 _ _ (refuses-unless 10 20 _ 10 0 _ (omega arith) λ _.
-    refuses-bind 10 20 _ _ (header-refuses big m headerNumbers 0) λ _. refuses-must 10 20 _ 12 4 (omega arith)) λ _.
-    refuses-bind 10 20 _ _ (refuses-found 10 20 _ 13 2 (omega arith)) λ t. root-refuses big m (b .version) t
+  message-refuses : (b : Book) → (b .format .inGroups ≡ true → 22 ≤ high) → Refuses 10 high (readMessage b m)
+  unfolding readMessage checkHeader
+  message-refuses b deep =
+      let header = header-refuses (b .format .inGroups) high known deep (b .format .big) m headerNumbers 0 in
+      refuses-bind 10 high _ _ (refuses-unless 10 high _ 10 0 _ (omega arith) λ _.
+      refuses-bind 10 high _ _ header λ _. refuses-must 10 high _ 12 4 (omega arith)) λ _.
+      refuses-bind 10 high _ _ (refuses-found 10 high _ 13 2 (omega arith)) λ t.
+      root-refuses (b .format) (b .version) t deep
 
 -- ---- 30 and 31
 
@@ -280,20 +344,25 @@ module _ (l pool : List ℕ) where
 
 -- ---- the operations, each after what it checks first
 
-wider : {A : Type 0} (low high : ℕ) (x : Result A) → 1 ≤ low → high ≤ 20 → Refuses low high x → Refuses 1 20 x
+wider : {A : Type 0} (low high : ℕ) (x : Result A) → 1 ≤ low → high ≤ 22 → Refuses low high x → Refuses 1 22 x
 unfolding Refuses
 wider low high (done a) l h q = tt
 wider low high (refused n p) l h q = omega arith
 
-check-refuses-any : (book m : List ℕ) → Refuses 1 20 (checkOf book m)
+check-refuses-any : (book m : List ℕ) → Refuses 1 22 (checkOf book m)
 unfolding checkOf
 check-refuses-any book m =
-    refuses-bind 1 20 _ _ (wider 1 6 _ (omega arith) (omega arith) (book-refuses book)) λ b.
-    refuses-bind 1 20 _ _ (wider 10 20 _ (omega arith) (omega arith) (message-refuses m b)) λ r. refuses-done 1 20 _
+    refuses-bind 1 22 _ _ (wider 1 6 _ (omega arith) (omega arith) (book-refuses book)) λ b.
+    refuses-bind 1 22 _ _
+    (wider 10 22 _ (omega arith) (omega arith) (message-refuses 22 (omega arith) m b λ _. omega arith)) λ r.
+    refuses-done 1 22 _
 
-pub check-refuses : (book m : List ℕ) (b : Book) → bookOf book ≡ done b → Refuses 10 20 (checkOf book m)
+pub check-refuses : (high : ℕ) (book m : List ℕ) (b : Book) → bookOf book ≡ done b → 20 ≤ high
+    → (b .format .inGroups ≡ true → 22 ≤ high)
+    → Refuses 10 high (checkOf book m)
 unfolding checkOf
-check-refuses book m b e = rw (e, bind-done) (refuses-bind 10 20 _ _ (message-refuses m b) λ r. refuses-done 10 20 _)
+check-refuses high book m b e known deep =
+    rw (e, bind-done) (refuses-bind 10 high _ _ (message-refuses high known m b deep) λ r. refuses-done 10 high _)
 
 -- 40 is for want of room, of a message that was read.
 pub forty-lacks-room : (book m : List ℕ) (room n p : ℕ) → listOf book m room ≡ refused n p → n ≡ 40
@@ -320,7 +389,7 @@ forty-lacks-room book m room n p e is = go (checkOf book m) refl
     go (refused i j) q =
         let l : listOf book m room ≡ refused i j = stops book m _ i j q in
         let same : i ≡ n = cc in
-        absurd (omega (arith, refuses-with 1 20 _ i j (check-refuses-any book m) q))
+        absurd (omega (arith, refuses-with 1 22 _ i j (check-refuses-any book m) q))
 
 pub place-refuses : (book m : List ℕ) (r : Values) → Reads book m r → (steps : List ℕ) (x : Element)
     → Refuses 30 31 (placeBy book m steps x)

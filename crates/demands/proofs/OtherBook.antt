@@ -33,7 +33,8 @@ words-set (a ∷ b ∷ s) (suc i) x h =
 head-order : (b : List ℕ) → headGood b ≡ true → (leb (word b 5) 1 ≡ true) × (5 < length b)
 head-order b g =
     let rest = and-right _ _ (and-right _ _ (and-right _ _ (and-right _ _ (and-right _ _ g)))) in
-    (and-left _ _ rest, omega (arith, leb-true (headSize + contentsSize b) (length b) (and-right _ _ rest)))
+    let whole = and-left _ _ (and-right _ _ rest) in
+    (and-left _ _ rest, omega (arith, leb-true (headSize + contentsSize b) (length b) whole))
 
 -- ---- words b with x as word 5, beside b
 
@@ -55,6 +56,7 @@ module _ (b : List ℕ) (x : ℕ) where
         other-word 1 refl,
         other-word 2 refl,
         other-word 4 refl,
+        other-word 6 refl,
         order,
         length-set b 5 x,
       ) refl
@@ -144,10 +146,11 @@ book-same s s′ is long head =
     (same-then _ _ _ _ (after-contents w x u c .1) λ ts _.
     same-then _ _ _ _ (rw (other-word w x 2 refl) refl) λ _ _.
     same-then _ _ _ _ refl λ _ _.
-    same-then _ _ _ _ (rw (other-word w x 1 refl) refl) λ _ _.
+    same-then _ _ _ _ (rw (other-word w x 1 refl, other-word w x 6 refl) refl) λ _ _.
     rw (
       other-word w x 0 refl,
       other-word w x 1 refl,
+      other-word w x 6 refl,
       getD-set-same w 5 x 0 (h .1),
       exchanged (word w 5) (leb-true (word w 5) 1 (h .0)),
     ) (sym (bind-done _ _))))

@@ -10,18 +10,19 @@ use lib.Dec.{eqb, leb}
 use lib.ListN.{drop, length, take}
 use lib.Seq.{take-take}
 use borrow.Author.Tests.{eqb-true, leb-true}
-use Rattle.layout.specs.Result.{Result, _>>=_, _or_, done, if_then_else_, must}
+use Rattle.layout.specs.Result.{Result, _>>=_, _and_, _or_, done, if_then_else_, must}
 use Rattle.layout.specs.Octets.{number16}
 use Rattle.layout.specs.Types.{classify, typeAt}
 use Rattle.layout.specs.Lists.{beside}
-use Rattle.layout.specs.Book.{Book, Data, Field, Groups, Shape, Template, end, isArray, isOptional, more, need}
-use Rattle.layout.specs.Book.{needAfter, none}
+use Rattle.layout.specs.Book.{Book, Data, Field, Groups, Shape, Template, dataSinces, end, groupSinces, isArray}
+use Rattle.layout.specs.Book.{isOptional, more, need, needAfter, none}
 use Rattle.layout.specs.BookRules.{bookOf, fieldsGood, groupsGood, layoutGood, lengthGood}
 use Rattle.layout.specs.Values.{Values, entry, nil}
-use Rattle.layout.specs.Message.{arrayAt, blockLength, checkHeader, dimensionSize, headerSize, headerWhole}
-use Rattle.layout.specs.Message.{readBlock, readData, readDatas, readDimension, readEntries, readField, readGroup}
-use Rattle.layout.specs.Message.{readGroups, readMessage, readRoot, readWhole, skipDatas, skipGroups, surplusOf}
-use Rattle.layout.specs.Message.{templateId, templateOf, versionOf}
+use Rattle.layout.specs.Message.{Dimension, arrayAt, blockLength, checkHeader, countAt, countGood, countNumbers}
+use Rattle.layout.specs.Message.{depthLimit, dimensionSize, headerSize, headerWhole, inRow, inside, readBlock, readData}
+use Rattle.layout.specs.Message.{readDatas, readDimension, readEntries, readField, readGroup, readGroups, readMessage}
+use Rattle.layout.specs.Message.{readRoot, readWhole, skipDatas, skipEntry, skipGroup, surplus, surplusOf, templateId}
+use Rattle.layout.specs.Message.{templateOf, versionOf}
 use Rattle.layout.specs.Writing.{writeIn}
 use Rattle.layout.specs.Demands.{OtherWay, otherOrder}
 use Rattle.demands.proofs.Contents.{contentOf, contentsOf, listing-says, treeContents}
@@ -64,9 +65,16 @@ module _ (big : Bool) (m : List ℕ) where
   unfolding _or_
   turn16 at e h = turn big at 2 refl e h
 
+  -- The counts of a dimension, where there are any.
+  turned-counts : (counted : Bool) (at : ℕ) {to : ℕ} → at + 2 * countNumbers counted ≡ to → to ≤ length m
+      → Turned m at to (λ m′. (countAt counted (not big) m′ at ≡ countAt counted big m at)
+      × (countAt counted (not big) m′ (at + 2) ≡ countAt counted big m (at + 2)))
+  turned-counts true at e h = both (turn16 at refl (omega arith)) (turn16 (at + 2) (omega arith) h)
+  turned-counts false at e h = so (keep at 0 (omega arith) h) λ m′ _ _. (refl, refl)
+
   -- "Let v be the message's version."
   module _ (v : ℕ) where
-    -- ---- data and dimensions
+    -- ---- data, and what is surplus
 
     turned-data : (at : ℕ) → ReadAlike at (λ a. a .1) (λ a m′. SameAnswer m′ (a .0)) (λ o s. readData o s at)
     unfolding readData contentOf
@@ -77,10 +85,19 @@ module _ (big : Bool) (m : List ℕ) where
         (so (both (turn16 at refl (r .head)) (keep (at + 2) (number16 big m at) refl (r .fits))) λ m′ l p _.
         (rw (p .0, l) (e ∙ ap done (sym (r .is))), ap (λ (s : List ℕ). 2 ∷ s) (p .1)))
 
-    turned-skipped-datas : (n at : ℕ) → ReadAlike at (λ x. x) (λ x m′. Unit {0}) (λ o s. skipDatas o s n at)
-    unfolding skipDatas
-    turned-skipped-datas zero at = turns-done _ _ _ refl λ m′ _. (refl, tt)
-    turned-skipped-datas (suc n) at = turns-then (turned-data at) λ a _. turns-on (turned-skipped-datas n (a .1))
+    -- What only leads on.
+    abbrev PassedAlike : (Bool → List ℕ → ℕ → Result ℕ) → Type 0
+    PassedAlike f = (at : ℕ) → ReadAlike at (λ x. x) (λ x m′. Unit {0}) (λ o s. f o s at)
+
+    turned-row : (n : ℕ) (f : Bool → List ℕ → ℕ → Result ℕ) → PassedAlike f → PassedAlike (λ o s. inRow n (f o s))
+    unfolding inRow
+    turned-row zero f h at = turns-done _ _ _ refl λ m′ _. (refl, tt)
+    turned-row (suc n) f h at = turns-then (h at) λ x _. turns-on (turned-row n f h x)
+
+    turned-skipped-datas : (n : ℕ) → PassedAlike (λ o s. skipDatas o s n)
+    turned-skipped-datas n =
+        turned-row n (λ o s x. readData o s x >>= λ r. done (r .1)) λ x.
+        turns-then (turned-data x) λ r _. turns-done _ _ _ refl λ m′ _. (refl, tt)
 
     turned-datas : (ds : List Data) (n at : ℕ)
         → ReadAlike at (λ r. r .1) (λ r m′. SameAnswers m′ (r .0)) (λ o s. readDatas o s v ds n at)
@@ -91,23 +108,14 @@ module _ (big : Bool) (m : List ℕ) where
         turns-then (turned-datas ds n (a .1)) λ r _.
         turns-done _ _ _ refl λ m′ h. (refl, rw (h .0 .1, h .1) refl)
 
-    turned-dimension : (least at : ℕ)
-        → ReadAlike at (λ d. at + dimensionSize) (λ d m′. Unit {0}) (λ o s. readDimension o s least at)
-    unfolding readDimension
-    turned-dimension least at h d e =
-        let r = dimension-read big m v least at d e in
-        so (both (turn16 at refl (omega (arith, r .fits))) (turn16 (at + 2) (omega arith) (r .fits))) λ m′ l p _.
-        (rw (p .0, p .1, l) e, tt)
-
-    turned-skipped-groups : (n at : ℕ) → ReadAlike at (λ x. x) (λ x m′. Unit {0}) (λ o s. skipGroups o s n at)
-    unfolding skipGroups
-    turned-skipped-groups zero at = turns-done _ _ _ refl λ m′ _. (refl, tt)
-    turned-skipped-groups (suc n) at =
-        turns-then (turned-dimension 0 at) λ d _.
-        let to = at + dimensionSize + d .0 * d .1 in
-        turns-test (leb to) 16 at λ e.
-        turns-past (keep (at + dimensionSize) (d .0 * d .1) refl (leb-true to (length m) e))
-        (turns-on (turned-skipped-groups n to))
+    turned-skipped-entry : (f : Bool → List ℕ → ℕ → Result ℕ) (d : Dimension) (place : ℕ) → PassedAlike f
+        → PassedAlike (λ o s. skipEntry o s (f o s) d place)
+    unfolding skipEntry
+    turned-skipped-entry f d place h at =
+        let to = at + d .length in
+        turns-test (leb to) 16 place λ e.
+        turns-past (keep at (d .length) refl (leb-true to (length m) e))
+        (turns-then (turned-row (d .groups) f h to) λ x _. turns-on (turned-skipped-datas (d .datas) x))
 
     -- ---- fields
 
@@ -195,7 +203,7 @@ module _ (big : Bool) (m : List ℕ) where
     RowAlike f = (at : ℕ) → ReadAlike at (λ r. r .1) (λ r m′. SameTree m′ (r .0)) (λ o s. f o s at)
 
     module _ (s : Shape) (f : Bool → List ℕ → ℕ → Result (Values × ℕ))
-        (good : fieldsGood (s .length) 0 (s .fields) ≡ true) (turned-row : RowAlike f) where
+        (good : fieldsGood (s .length) 0 (s .fields) ≡ true) (turned-inner : RowAlike f) where
       turned-block : (n l at : ℕ) → need v s ≤ l
           → ReadAlike at (λ b. b .3) (λ b m′. SameAnswers m′ (b .0) × SameTree m′ (b .1) × SameAnswers m′ (b .2))
           (λ o m. readBlock o m v s (f o m) n l at)
@@ -206,39 +214,72 @@ module _ (big : Bool) (m : List ℕ) where
           let fits = leb-true (at + l) (length m) e in
           turns-past (subst (λ (x : ℕ). Turned m x (at + l) (SameFields at (s .fields))) start
           (turned-fields (s .fields) at (s .length) 0 0 l good (le-refl 0) h fits))
-          (turns-then (turned-row (at + l)) λ g _.
+          (turns-then (turned-inner (at + l)) λ g _.
           turns-then (turned-datas (s .datas) n (g .1)) λ d _.
           turns-done _ _ _ refl λ m′ o. (rw (o .0 .0 .1 .0) refl, (o .0 .0 .1 .1, o .0 .1, o .1)))
 
-      turned-entries : (k l : ℕ) → need v s ≤ l → RowAlike (λ o m. readEntries k (readBlock o m v s (f o m) 0 l))
+      turned-entries : (k n l : ℕ) → need v s ≤ l → RowAlike (λ o m. readEntries k (readBlock o m v s (f o m) n l))
       unfolding readEntries treeContents
-      turned-entries zero l h at = turns-done _ _ _ refl λ m′ _. (refl, refl)
-      turned-entries (suc k) l h at =
-          turns-then (turned-block 0 l at h) λ b _.
-          turns-then (turned-entries k l h (b .3)) λ r _.
+      turned-entries zero n l h at = turns-done _ _ _ refl λ m′ _. (refl, refl)
+      turned-entries (suc k) n l h at =
+          turns-then (turned-block n l at h) λ b _.
+          turns-then (turned-entries k n l h (b .3)) λ r _.
           turns-done _ _ _ refl λ m′ o. (refl, four-same (o .0 .1 .0) (o .0 .1 .1) (o .0 .1 .2) (o .1))
 
-      turned-group : (at : ℕ) → ReadAlike at (λ g. g .2) (λ g m′. SameAnswer m′ (g .0) × SameTree m′ (g .1))
-          (λ o m. readGroup o m v s (f o m) at)
-      unfolding readGroup contentOf
-      turned-group at =
-          turns-then (turned-dimension (need v s) at) λ d e.
-          let r = dimension-read big m v (need v s) at d e in
-          turns-then (turned-entries (d .1) (d .0) (r .enough) (at + dimensionSize)) λ es _.
-          turns-done _ _ _ refl λ m′ o. (refl, (refl, o .1))
+    -- Whether dimensions have counts is the same in either order.
+    module _ (counted : Bool) where
+      turned-dimension : (at : ℕ)
+          → ReadAlike at (λ d. at + dimensionSize counted) (λ d m′. Unit {0}) (λ o s. readDimension counted o s at)
+      unfolding readDimension
+      turned-dimension at h d e =
+          let fits = dimension-read counted big m at d e .fits in
+          let counts = turned-counts counted (at + 4) (omega arith) fits in
+          so (both (turn16 at refl (omega arith)) (both (turn16 (at + 2) (omega arith) (omega arith)) counts))
+          λ m′ l p _. (rw (p .0, p .1 .0, p .1 .1 .0, p .1 .1 .1, l) e, tt)
 
-    turned-groups : (gs : Groups) (n : ℕ) → groupsGood gs ≡ true → RowAlike (λ o m. readGroups o m v gs n)
-    unfolding readGroups groupsGood treeContents contentOf
-    turned-groups none n g at =
-        turns-then (turned-skipped-groups n at) λ x _. turns-done _ _ _ refl λ m′ _. (refl, refl)
-    turned-groups (more i since s inner rest) n g at =
-        let h = and-right _ _ g in
-        turns-then (turns-if _
-        (turned-group s (λ o m. readGroups o m v inner 0) (and-right _ _ (and-left _ _ g))
-        (turned-groups inner 0 (and-left _ _ h)) at)
-        (turns-done _ _ _ refl λ m′ _. (refl, (refl, refl)))) λ x _.
-        turns-then (turned-groups rest n (and-right _ _ h) (x .2)) λ r _.
-        turns-done _ _ _ refl λ m′ o. (refl, rw (o .0 .1 .0, o .0 .1 .1, o .1) refl)
+      turned-skipped-group : (levels : ℕ) → PassedAlike (λ o s. skipGroup counted o s levels)
+      unfolding skipGroup
+      turned-skipped-group zero at =
+          turns-then (turned-dimension at) λ d _ _ x e. absurd (let z : _≡_ {A = ℕ} 0 1 = cc in omega arith)
+      turned-skipped-group (suc levels) at =
+          turns-then (turned-dimension at) λ d _.
+          turns-on (turned-row (d .entries) (λ o s. skipEntry o s (skipGroup counted o s levels) d at)
+          (turned-skipped-entry (λ o s. skipGroup counted o s levels) d at (turned-skipped-group levels))
+          (at + dimensionSize counted))
+
+      -- `version` is the book's.
+      module _ (version : ℕ) where
+        turned-group : (s : Shape) (groups : List ℕ) (f : Bool → List ℕ → ℕ → ℕ → Result (Values × ℕ))
+            → fieldsGood (s .length) 0 (s .fields) ≡ true
+            → ((n : ℕ) → RowAlike (λ o m. f o m n)) → (at : ℕ)
+            → ReadAlike at (λ g. g .2) (λ g m′. SameAnswer m′ (g .0) × SameTree m′ (g .1))
+            (λ o m. readGroup counted version o m v s groups (f o m) at)
+        unfolding readGroup contentOf
+        turned-group s groups f good h at =
+            let datas = dataSinces (s .datas) in
+            turns-then (turned-dimension at) λ d _.
+            turns-test (λ _. leb (need v s) (d .length)) 18 at λ long.
+            turns-test (λ _. countGood counted version v groups (d .groups)
+            and countGood counted version v datas (d .datas)) 21 at λ _.
+            let g = surplus v groups (d .groups) in
+            turns-then (turned-entries s (λ o m. f o m g) good (h g) (d .entries) (surplus v datas (d .datas))
+            (d .length) (leb-true _ _ long) (at + dimensionSize counted)) λ es _.
+            turns-done _ _ _ refl λ m′ o. (refl, (refl, o .1))
+
+        turned-groups : (gs : Groups) (levels n : ℕ) → groupsGood gs ≡ true
+            → RowAlike (λ o m. readGroups counted version o m v gs levels n)
+        unfolding readGroups groupsGood treeContents contentOf
+        turned-groups none levels n g at =
+            turns-then (turned-row n (λ o s. skipGroup counted o s levels) (turned-skipped-group levels) at) λ x _.
+            turns-done _ _ _ refl λ m′ _. (refl, refl)
+        turned-groups (more i since s inner rest) levels n g at =
+            let h = and-right _ _ g in
+            turns-then (turns-if _
+            (turned-group s (groupSinces inner) (λ o m. readGroups counted version o m v inner (inside levels))
+            (and-right _ _ (and-left _ _ g)) (λ k. turned-groups inner (inside levels) k (and-left _ _ h)) at)
+            (turns-done _ _ _ refl λ m′ _. (refl, (refl, refl)))) λ x _.
+            turns-then (turned-groups rest levels n (and-right _ _ h) (x .2)) λ r _.
+            turns-done _ _ _ refl λ m′ o. (refl, rw (o .0 .1 .0, o .0 .1 .1, o .1) refl)
 
   -- ---- the message
 
@@ -263,21 +304,23 @@ module _ (big : Bool) (m : List ℕ) where
     surplus-same version t = rw (h .0, h .1 .1 .1 .0, h .1 .1 .1 .1 .0, h .1 .1 .1 .1 .1) refl
 
   -- The root block and what follows it, the header's numbers being m's.
-  abbrev wholeBy : Template → ℕ × ℕ → Bool → List ℕ → Result Values
-  wholeBy t n o s =
+  abbrev wholeBy : Bool → ℕ → Template → ℕ × ℕ → Bool → List ℕ → Result Values
+  wholeBy counted version t n o s =
       let v = versionOf big m in
-      readBlock o s v (t .shape) (readGroups o s v (t .groups) (n .0)) (n .1) (blockLength big m) headerSize >>= λ b.
+      let groups = readGroups counted version o s v (t .groups) depthLimit (n .0) in
+      readBlock o s v (t .shape) groups (n .1) (blockLength big m) headerSize >>= λ b.
       must (eqb (b .3) (length s)) 20 (b .3) >>= λ _.
       done (entry (b .0) (b .1) (b .2) nil)
 
-  turned-whole : (t : Template) (n : ℕ × ℕ) → layoutGood t ≡ true
+  turned-whole : (counted : Bool) (version : ℕ) (t : Template) (n : ℕ × ℕ) → layoutGood t ≡ true
       → need (versionOf big m) (t .shape) ≤ blockLength big m
-      → ReadAlike headerSize (λ r. length m) (λ r m′. SameTree m′ r) (wholeBy t n)
+      → ReadAlike headerSize (λ r. length m) (λ r m′. SameTree m′ r) (wholeBy counted version t n)
   unfolding treeContents
-  turned-whole t n good h =
+  turned-whole counted version t n good h =
       let v = versionOf big m in
-      turns-then (turned-block v (t .shape) (λ o s. readGroups o s v (t .groups) (n .0))
-      (and-right _ _ (and-left _ _ good)) (turned-groups v (t .groups) (n .0) (and-right _ _ good)) (n .1)
+      turns-then (turned-block v (t .shape) (λ o s. readGroups counted version o s v (t .groups) depthLimit (n .0))
+      (and-right _ _ (and-left _ _ good))
+      (turned-groups v counted version (t .groups) depthLimit (n .0) (and-right _ _ good)) (n .1)
       (blockLength big m) headerSize h) λ b _.
       turns-test (eqb (b .3)) 20 (b .3) λ e.
       turns-done _ _ _ (sym (eqb-true (b .3) (length m) e)) λ m′ o.
@@ -292,7 +335,7 @@ root-enough big version t m s e = leb-true _ _ (inv-must _ _ _ _ (inv-bind _ _ _
 turned-reads : (b : Book) (m m′ : List ℕ) (t : Template) (s : ℕ × ℕ) (r : Values) → let big = b .format .big in
     length m′ ≡ length m → SameHeader big m m′ → checkHeader big (b .schema) m ≡ done tt → templateOf b m ≡ done t
     → surplusOf big (b .version) t m ≡ done s
-    → wholeBy big m t s (not big) m′ ≡ done r
+    → wholeBy big m (b .format .inGroups) (b .version) t s (not big) m′ ≡ done r
     → readMessage (otherOrder b) m′ ≡ done r
 unfolding readMessage readRoot readWhole
 turned-reads b m m′ t s r l h c f q w =
@@ -312,7 +355,8 @@ turned-message book m b r is e =
     let long = header-read big (b .schema) m (p .value) (p .first) .long in
     let good = accepted book b (templateId big m) t is (inv-found _ 13 2 t (q .first)) .1 .layout in
     let enough = root-enough big (b .version) t m (w .value) (w .first) in
-    let a = both (turned-header big m long) (turned-whole big m t (w .value) good enough long r (w .next)) in
+    let a = both (turned-header big m long)
+    (turned-whole big m (b .format .inGroups) (b .version) t (w .value) good enough long r (w .next)) in
     let m′ = a .octets in
     let o = whole a in (
       m′,

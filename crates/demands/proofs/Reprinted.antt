@@ -13,23 +13,25 @@ use Rattle.layout.specs.Octets.{AllOctets, number16, numberAt, octetsOf, textLe
 use Rattle.layout.specs.Types.{TypeRow, classify, inRange, typeAt, valueOf}
 use Rattle.layout.specs.Lists.{beside}
 use Rattle.layout.specs.Book.{Data, Field, Groups, Shape, dataSinces, end, fieldSinces, isArray, isChar, isOptional}
-use Rattle.layout.specs.Book.{more, need, none}
+use Rattle.layout.specs.Book.{more, none}
 use Rattle.layout.specs.BookRules.{fieldsGood, lengthGood}
 use Rattle.layout.specs.Values.{Values, entry, group, nil}
-use Rattle.layout.specs.Message.{Entry, arrayAt, dimensionSize, readBlock, readData, readDatas, readEntries, readField}
-use Rattle.layout.specs.Message.{readGroups}
-use Rattle.layout.specs.Writing.{blockOctets, dataOctets, datasLength, entriesIn, fieldOctets, rowLength, rowOctets}
-use Rattle.layout.specs.Writing.{spanOf}
+use Rattle.layout.specs.Message.{Dimension, Entry, arrayAt, dimensionSize, inside, readBlock, readData, readDatas}
+use Rattle.layout.specs.Message.{readEntries, readField, readGroups}
+use Rattle.layout.specs.Writing.{blockOctets, countsOf, dataOctets, datasLength, dimensionOf, entriesIn, fieldOctets}
+use Rattle.layout.specs.Writing.{rowLength, rowOctets, spanOf}
 use Rattle.layout.specs.Demands.{AllSound, OwnBlocks, Sound, ZeroPadding, ZeroTail, Zeros}
-use Rattle.demands.proofs.Read.{DimensionRead, data-read, datas-read, dimension-read, group-read}
+use Rattle.demands.proofs.Read.{DimensionRead, data-read, datas-read, group-read}
 use Rattle.demands.proofs.Reread.{no-datas, no-groups}
 use Rattle.layout.proofs.ListLaws.{beside-sound}
 use Rattle.layout.proofs.Fields.{field-good, size-array, size-plain}
-use Rattle.layout.proofs.Present.{GoodGroups, GoodShape, UpTo}
+use Rattle.layout.proofs.Present.{GoodGroups, GoodShape, UpTo, groups-in}
 use Rattle.layout.proofs.Results.{and-right, done-inj, inv-bind, inv-must}
 use Rattle.layout.proofs.Stands.{AreAt, Stands, join, nothing-stands, numbers-stand, octets-stand, slice-stands}
 use Rattle.layout.proofs.Texts.{text-within}
 use Rattle.layout.proofs.TypeLaws.{octets-value}
+use Rattle.layout.proofs.Counts.{counts-written}
+use Rattle.layout.proofs.Lengths.{counts-long}
 use Rattle.layout.specs.declared.Answer.{Answer}
 use Rattle.layout.specs.declared.Answer.the-variants.{Group, Null, Number, Octets, OutOfRange}
 
@@ -168,40 +170,43 @@ module _ (big : Bool) (m : List ℕ) (v : ℕ) (octets : AllOctets m) where
       (w .is)
       (b .0, omega (arith, b .1, ih .1))
 
-  -- ---- blocks, entries, groups
+-- ---- blocks, entries, groups
 
+module _ (counted big : Bool) (m : List ℕ) (v : ℕ) (octets : AllOctets m) where
   -- A row that was read stands as it is printed, and is as long as the formula says.
   abbrev Printed : Shape → Groups → ℕ → (Values × ℕ) → Type 0
-  Printed s gs at r = Stands m at (rowOctets big m s gs (r .0)) (r .1) × (r .1 ≡ at + rowLength s gs (r .0))
+  Printed s gs at r =
+      Stands m at (rowOctets counted big m s gs (r .0)) (r .1) × (r .1 ≡ at + rowLength counted s gs (r .0))
 
   abbrev Reprints : Shape → Groups → (ℕ → Result (Values × ℕ)) → Type 0
   Reprints s gs f =
-      (at : ℕ) (r : Values × ℕ) → at ≤ length m → OwnBlocks big m s gs at (r .0) → AllSound (r .0) → f at ≡ done r
-      → Printed s gs at r
+      (at : ℕ) (r : Values × ℕ) → at ≤ length m → OwnBlocks counted big m s gs at (r .0) → AllSound (r .0)
+      → f at ≡ done r → Printed s gs at r
 
   abbrev pub entryPrinted : Shape → Groups → Entry → List ℕ
   entryPrinted s gs b = blockOctets big m (s .length) 0 (s .fields) (b .0)
-      ++ (rowOctets big m s gs (b .1) ++ dataOctets big m (b .2))
+      ++ (rowOctets counted big m s gs (b .1) ++ dataOctets big m (b .2))
 
   pub block-stands : (s : Shape) (gs : Groups) (f : ℕ → Result (Values × ℕ)) (at : ℕ) (b : Entry) → GoodShape v s
       → Reprints s gs f
       → ZeroPadding m at (s .length) 0 (s .fields) → Each (ZeroTail m at) (s .fields)
-      → OwnBlocks big m s gs (at + s .length) (b .1) → Each Sound (b .0) → AllSound (b .1)
+      → OwnBlocks counted big m s gs (at + s .length) (b .1) → Each Sound (b .0) → AllSound (b .1)
       → readBlock big m v s f 0 (s .length) at ≡ done b
-      → Stands m at (entryPrinted s gs b) (b .3) × (b .3 ≡ at + rowLength s gs (entry (b .0) (b .1) (b .2) nil))
+      → Stands m at (entryPrinted s gs b) (b .3) × (b .3 ≡ at + rowLength counted s gs (entry (b .0) (b .1) (b .2) nil))
   unfolding readBlock rowLength
   block-stands s gs f at b good ih pad tails own in₁ in₂ e =
       let p = inv-bind _ _ _ e in
       let q = inv-bind _ _ _ (p .next) in
       let k = inv-bind _ _ _ (q .next) in
       let fits : at + s .length ≤ length m = leb-true (at + s .length) (length m) (inv-must _ _ _ _ (p .first)) in
-      subst (λ (x : Entry). OwnBlocks big m s gs (at + s .length) (x .1) → Each Sound (x .0) → AllSound (x .1)
+      subst (λ (x : Entry). OwnBlocks counted big m s gs (at + s .length) (x .1) → Each Sound (x .0) → AllSound (x .1)
       → Stands m at (entryPrinted s gs x) (x .3)
-      × (x .3 ≡ at + (s .length + (rowLength s gs (x .1) + (datasLength (x .2) + 0))))) (done-inj (k .next))
+      × (x .3 ≡ at + (s .length + (rowLength counted s gs (x .1) + (datasLength (x .2) + 0))))) (done-inj (k .next))
       (λ own′ in₁′ in₂′.
       let g = ih (at + s .length) (q .value) fits own′ in₂′ (q .first) in
-      let d = datas-stand (s .datas) (q .value .1) (k .value) (good .datasIn) (g .0 .fits) (k .first) in (
-        join _ _ (to-zero (fields-stand (s .fields) at (s .length) 0 (good .fields) (good .fieldsIn)
+      let d = datas-stand big m v octets (s .datas) (q .value .1) (k .value) (good .datasIn) (g .0 .fits)
+      (k .first) in (
+        join _ _ (to-zero (fields-stand big m v octets (s .fields) at (s .length) 0 (good .fields) (good .fieldsIn)
             (omega arith) fits pad tails in₁′)) (join _ _ (g .0) (d .0)),
         omega (arith, g .1, d .1),
       )) own in₁ in₂
@@ -217,46 +222,50 @@ module _ (big : Bool) (m : List ℕ) (v : ℕ) (octets : AllOctets m) where
   entries-stand s gs f (suc k) good ih at r h own sound e =
       let p = inv-bind _ _ _ e in
       let q = inv-bind _ _ _ (p .next) in
-      subst (λ (x : Values × ℕ). OwnBlocks big m s gs at (x .0) → AllSound (x .0) → Printed s gs at x)
+      subst (λ (x : Values × ℕ). OwnBlocks counted big m s gs at (x .0) → AllSound (x .0) → Printed s gs at x)
       (done-inj (q .next))
       (λ o i.
       let b = block-stands s gs f at (p .value) good ih (o .0) (o .1) (o .2) (i .0) (i .1) (p .first) in
       let rest = entries-stand s gs f k good ih (p .value .3) (q .value) (b .0 .fits)
-      (subst (λ (x : ℕ). OwnBlocks big m s gs x (q .value .0)) (sym (b .1)) (o .3)) (i .2) (q .first) in
+      (subst (λ (x : ℕ). OwnBlocks counted big m s gs x (q .value .0)) (sym (b .1)) (o .3)) (i .2) (q .first) in
       (join _ _ (b .0) (rest .0), omega (arith, b .1, rest .1))) own sound
 
-  group-stands : (i since : ℕ) (s : Shape) (inner rest : Groups) (s₀ : Shape) (at : ℕ) (d : ℕ × ℕ)
+  group-stands : (i since : ℕ) (s : Shape) (inner rest : Groups) (s₀ : Shape) (at : ℕ) (d : Dimension)
       (es others : Values × ℕ)
-      → DimensionRead big m v (need v s) at d → number16 big m at ≡ s .length → Printed s inner (at + dimensionSize) es
+      → DimensionRead counted big m at d → number16 big m at ≡ s .length
+      → AreAt big m (at + 4) (countsOf counted inner (s .datas))
+      → Printed s inner (at + dimensionSize counted) es
       → Printed s₀ rest (es .1) others
-      → Printed s₀ (more i since s inner rest) at (group (Group (d .1)) (es .0) (others .0), others .1)
+      → Printed s₀ (more i since s inner rest) at (group (Group (d .entries)) (es .0) (others .0), others .1)
   unfolding rowOctets rowLength entriesIn AreAt
-  group-stands i since s inner rest s₀ at d es others r n a b = (
-    join _ _ (numbers-stand big m octets at (at + dimensionSize) (s .length ∷ d .1 ∷ []) (omega arith) (r .fits)
-        (n, (sym (r .count-is), tt)))
-        (join _ _ (a .0) (b .0)),
-    omega (arith, a .1, b .1),
-  )
+  group-stands i since s inner rest s₀ at d es others r n c a b =
+      let four : at + 4 ≡ at + 2 + 2 = omega arith in
+      let counts = subst (λ (x : ℕ). AreAt big m x (countsOf counted inner (s .datas))) four c in (
+        join _ _ (numbers-stand big m octets at (at + dimensionSize counted) (dimensionOf counted s inner (d .entries))
+            (omega (arith, counts-long counted inner (s .datas))) (r .fits) (n, (sym (r .entriesIs), counts)))
+            (join _ _ (a .0) (b .0)),
+        omega (arith, a .1, b .1),
+      )
 
-  pub groups-stand : (gs : Groups) (s₀ : Shape) → GoodGroups v gs → Reprints s₀ gs (readGroups big m v gs 0)
+  pub groups-stand : (gs : Groups) (s₀ : Shape) (levels : ℕ) → GoodGroups v levels gs
+      → Reprints s₀ gs (readGroups counted v big m v gs levels 0)
   unfolding GoodGroups OwnBlocks AllSound
-  groups-stand none s₀ good at r h own sound e =
-      subst (Printed s₀ none at) (done-inj (sym (no-groups big m v at) ∙ e))
+  groups-stand none s₀ levels good at r h own sound e =
+      subst (Printed s₀ none at) (done-inj (sym (no-groups big m v counted levels at) ∙ e))
       (unfold rowOctets rowLength in (nothing-stands m at h, omega arith))
-  groups-stand (more i since s inner rest) s₀ good at r h own sound e =
-      let w = group-read big m v i since s inner rest at r (good .0) e in
-      let d = dimension-read big m v (need v s) at (w .sizes) (w .dimension) in
+  groups-stand (more i since s inner rest) s₀ levels good at r h own sound e =
+      let w = group-read counted big m v i since s inner rest levels at r (good .0 .isIn) e in
+      let d = w .dimension in
       let gs = more i since s inner rest in
-      subst (λ (x : Values × ℕ). OwnBlocks big m s₀ gs at (x .0) → AllSound (x .0) → Printed s₀ gs at x) (w .is)
+      let shape = good .0 .shape in
+      subst (λ (x : Values × ℕ). OwnBlocks counted big m s₀ gs at (x .0) → AllSound (x .0) → Printed s₀ gs at x)
+      (w .is)
       (λ o k.
-      let len : w .sizes .0 ≡ s .length = d .length-is ∙ o .0 in
-      let one : ℕ → Result Entry = readBlock big m v s (readGroups big m v inner 0) 0 (s .length) in
-      let reads : readEntries (w .sizes .1) one (at + dimensionSize) ≡ done (w .entries) =
-      ap (λ (x : ℕ). readEntries (w .sizes .1) (readBlock big m v s (readGroups big m v inner 0) 0 x)
-      (at + dimensionSize)) (sym len) ∙ w .reads in
-      let a = entries-stand s inner (readGroups big m v inner 0) (w .sizes .1) (good .1)
-      (groups-stand inner s (good .2)) (at + dimensionSize) (w .entries)
-      (d .fits) (o .1) (k .0) reads in
-      let c = groups-stand rest s₀ (good .3) (w .entries .1) (w .others) (a .0 .fits)
-      (subst (λ (x : ℕ). OwnBlocks big m s₀ rest x (w .others .0)) (sym (a .1)) (o .2)) (k .1) (w .after) in
-      group-stands i since s inner rest s₀ at (w .sizes) (w .entries) (w .others) d (o .0) a c) own sound
+      let a = entries-stand s inner (readGroups counted v big m v inner (inside levels) 0) (w .sizes .entries) shape
+      (groups-stand inner s (inside levels) (good .1)) (at + dimensionSize counted) (w .entries) (d .fits) (o .1) (k .0)
+      (rw (d .lengthIs, o .0) at (w .reads)) in
+      let c = groups-stand rest s₀ levels (good .2) (w .entries .1) (w .others) (a .0 .fits)
+      (subst (λ (x : ℕ). OwnBlocks counted big m s₀ rest x (w .others .0)) (sym (a .1)) (o .2)) (k .1) (w .after) in
+      group-stands i since s inner rest s₀ at (w .sizes) (w .entries) (w .others) d (o .0)
+      (counts-written counted v inner (s .datas) big m (at + 4) (groups-in v (inside levels) inner (good .1))
+      (shape .datasIn) (w .counts)) a c) own sound

@@ -12,25 +12,27 @@ use Rattle.layout.specs.Result.{Each, Result, _>>=_, _and_, done, if_then_else_
 use Rattle.layout.specs.Octets.{Numbers64, null16, number16, numberAt, octetsOf, textLength}
 use Rattle.layout.specs.Types.{TypeRow, classify, inRange, typeAt, valueOf}
 use Rattle.layout.specs.Lists.{beside, has}
-use Rattle.layout.specs.Book.{Data, Field, Groups, Shape, dataSinces, end, fieldSinces, isArray, isChar, isOptional}
-use Rattle.layout.specs.Book.{more, need, none}
+use Rattle.layout.specs.Book.{Data, Field, Groups, Shape, dataSinces, end, fieldSinces, groupSinces, isArray, isChar}
+use Rattle.layout.specs.Book.{isOptional, more, need, none}
 use Rattle.layout.specs.BookRules.{fieldsGood}
 use Rattle.layout.specs.Values.{Values, entry, group, nil}
-use Rattle.layout.specs.Message.{Entry, arrayAt, dimensionSize, readBlock, readData, readDatas, readDimension}
-use Rattle.layout.specs.Message.{readEntries, readField, readGroup, readGroups, skipDatas, skipGroups}
-use Rattle.layout.specs.Writing.{blockOctets, dataOctets, entriesIn, fieldOctets, first, judgeBlock, judgeData}
-use Rattle.layout.specs.Writing.{judgeDatas, judgeEntries, judgeField, judgeFields, judgeGroups, numbers16, rowOctets}
-use Rattle.layout.specs.Writing.{second, spanOctets, spanOf, textFits, third}
+use Rattle.layout.specs.Message.{Dimension, Entry, arrayAt, countAt, dimensionSize, inRow, inside, readBlock, readData}
+use Rattle.layout.specs.Message.{readDatas, readDimension, readEntries, readField, readGroup, readGroups}
+use Rattle.layout.specs.Writing.{blockOctets, countsOf, dataOctets, dimensionOf, entriesIn, fieldOctets, first}
+use Rattle.layout.specs.Writing.{judgeBlock, judgeData, judgeDatas, judgeEntries, judgeField, judgeFields, judgeGroups}
+use Rattle.layout.specs.Writing.{numbers16, rowOctets, second, spanOctets, spanOf, textFits, third}
 use Rattle.demands.proofs.Contents.{contentOf, contentsOf, treeContents}
 use Rattle.layout.proofs.ListLaws.{beside-listed}
-use Rattle.layout.proofs.Lengths.{field-long, fields-long, span-long}
-use Rattle.layout.proofs.Present.{GoodGroups, GoodShape, UpTo}
+use Rattle.layout.proofs.Lengths.{counts-long, field-long, fields-long, span-long}
+use Rattle.layout.proofs.Present.{GoodGroup, GoodGroups, GoodShape, UpTo, groups-in}
 use Rattle.layout.proofs.Said.{ArraySaid, OctetsSaid, array-said, data-said, null, number-said, plain, text}
 use Rattle.layout.proofs.Texts.{text-filled, text-zeros}
 use Rattle.layout.proofs.Fields.{field-good, need-within}
 use Rattle.layout.proofs.Results.{and-left, and-right, done-inj, inv-bind, inv-both, inv-must}
 use Rattle.layout.proofs.Stands.{AreAt, Stands, length-numbers, length-octets, number-stands, numbers-are, split-to}
 use Rattle.layout.proofs.TypeLaws.{null-back, number-back}
+use Rattle.layout.proofs.Accepted.{Few}
+use Rattle.layout.proofs.Counts.{OwnCounts, counts-are, counts-read, counts-whole}
 use Rattle.layout.specs.declared.Answer.{Answer}
 use Rattle.layout.specs.declared.Answer.the-variants.{Group, Null, Number, Octets}
 
@@ -43,12 +45,12 @@ four-same p q r s = rw (p, q, r, s) refl
 
 module _ (big : Bool) (m : List ℕ) (v : ℕ) where
   pub no-datas : (at : ℕ) → readDatas big m v [] 0 at ≡ done ([], at)
-  unfolding readDatas skipDatas _>>=_
+  unfolding readDatas inRow _>>=_
   no-datas at = refl
 
-  pub no-groups : (at : ℕ) → readGroups big m v none 0 at ≡ done (nil, at)
-  unfolding readGroups skipGroups _>>=_
-  no-groups at = refl
+  pub no-groups : (counted : Bool) (levels at : ℕ) → readGroups counted v big m v none levels 0 at ≡ done (nil, at)
+  unfolding readGroups inRow _>>=_
+  no-groups counted levels at = refl
 
 module _ (big : Bool) (l pool m : List ℕ) (v : ℕ) (small : Numbers64 l) where
   -- ---- a field
@@ -276,8 +278,9 @@ module _ (big : Bool) (l pool m : List ℕ) (v : ℕ) (small : Numbers64 l) wher
             ∙ ap (λ (x : List Answer × ℕ). contentsOf pool (x .0)) q,
       )
 
-  -- ---- blocks, entries, groups
+-- ---- blocks, entries, groups
 
+module _ (counted big : Bool) (l pool m : List ℕ) (v : ℕ) (small : Numbers64 l) where
   -- A row that was judged to be `said` is read again, up to `to`.
   pub record RowBack (said : Values) (to : ℕ) (read : Result (Values × ℕ)) : Type 0 where
     pub values : Values
@@ -295,7 +298,7 @@ module _ (big : Bool) (l pool m : List ℕ) (v : ℕ) (small : Numbers64 l) wher
 
   -- A row of nothing is read where it stands.
   nothing-back : (s : Shape) (gs : Groups) (f : ℕ → Result (Values × ℕ)) (at to : ℕ) → f at ≡ done (nil, at)
-      → Stands m at (rowOctets big pool s gs nil) to → RowBack nil to (f at)
+      → Stands m at (rowOctets counted big pool s gs nil) to → RowBack nil to (f at)
   unfolding rowOctets
   nothing-back s gs f at to e o =
       let q : at ≡ to = omega (arith, o .ends) in
@@ -309,11 +312,11 @@ module _ (big : Bool) (l pool m : List ℕ) (v : ℕ) (small : Numbers64 l) wher
   block-reads s f n at x to g ds h e q = rw (le-leb (at + n) (length m) h, e, q) refl
 
   module _ (s : Shape) (gs : Groups) (good : GoodShape v s) (f′ : ℕ → Result (Values × ℕ)) (f : ℕ → Result (Values × ℕ))
-      (ih : (i at to : ℕ) (r : Values × ℕ) → f′ i ≡ done r → Stands m at (rowOctets big pool s gs (r .0)) to
+      (ih : (i at to : ℕ) (r : Values × ℕ) → f′ i ≡ done r → Stands m at (rowOctets counted big pool s gs (r .0)) to
       → RowBack (r .0) to (f at)) where
     abbrev pub entryOctets : Entry → List ℕ
     entryOctets b = blockOctets big pool (s .length) 0 (s .fields) (b .0)
-        ++ (rowOctets big pool s gs (b .1) ++ dataOctets big pool (b .2))
+        ++ (rowOctets counted big pool s gs (b .1) ++ dataOctets big pool (b .2))
 
     abbrev readOne : ℕ → Result Entry
     readOne at = readBlock big m v s f 0 (s .length) at
@@ -324,22 +327,22 @@ module _ (big : Bool) (l pool m : List ℕ) (v : ℕ) (small : Numbers64 l) wher
         → Stands m at (entryOctets (fs, g, ds, e)) to → EntryBack (fs, g, ds, e) to (readOne at)
     block-forth i j k e at to fs g ds a b c st =
         let xs = blockOctets big pool (s .length) 0 (s .fields) fs in
-        let ys = rowOctets big pool s gs g in
+        let ys = rowOctets counted big pool s gs g in
         let mid = at + s .length in
         let start : at + 0 ≡ at = omega arith in
         let long = fields-long big l pool (s .fields) (s .length) 0 i (fs, j) (good .fields) (omega arith) a in
         let o₁ = split-to xs (ys ++ dataOctets big pool ds) mid (omega (arith, long)) st in
         let o₂ = split-to ys (dataOctets big pool ds) (mid + length ys) refl (o₁ .1) in
         let w₂ = ih j mid (mid + length ys) (g, k) b (o₂ .0) in
-        let w₃ = datas-back (s .datas) k (mid + length ys) to (ds, e) (good .datasIn) c (o₂ .1) in
+        let w₃ = datas-back big l pool m v small (s .datas) k (mid + length ys) to (ds, e) (good .datasIn) c (o₂ .1) in
         record {
           fields = map (readField big m v at) (s .fields);
           groups = w₂ .values;
           datas = w₃ .0;
           reads = block-reads s f (s .length) at (mid + length ys) to (w₂ .values) (w₃ .0) (o₁ .0 .fits) (w₂ .reads)
               (w₃ .1);
-          sameFields = fields-back (s .fields) (s .length) 0 i at mid (fs, j) (good .fields) (good .fieldsIn) a
-              (rw start (o₁ .0));
+          sameFields = fields-back big l pool m v small (s .fields) (s .length) 0 i at mid (fs, j) (good .fields)
+              (good .fieldsIn) a (rw start (o₁ .0));
           sameGroups = w₂ .same;
           sameDatas = w₃ .2;
         }
@@ -363,13 +366,14 @@ module _ (big : Bool) (l pool m : List ℕ) (v : ℕ) (small : Numbers64 l) wher
     entries-next k at x to fs g ds r e q = rw (e, q) refl
 
     entries-forth : (k i at to : ℕ) (b : Entry) (r : Values × ℕ) → judgeBlock l pool s f′ i ≡ done b
-        → ((x : ℕ) → Stands m x (rowOctets big pool s gs (r .0)) to → RowBack (r .0) to (readEntries k readOne x))
-        → Stands m at (rowOctets big pool s gs (entry (b .0) (b .1) (b .2) (r .0))) to
+        → ((x : ℕ) → Stands m x (rowOctets counted big pool s gs (r .0)) to
+        → RowBack (r .0) to (readEntries k readOne x))
+        → Stands m at (rowOctets counted big pool s gs (entry (b .0) (b .1) (b .2) (r .0))) to
         → RowBack (entry (b .0) (b .1) (b .2) (r .0)) to (readEntries (suc k) readOne at)
     unfolding rowOctets treeContents
     entries-forth k i at to b r e rest st =
         let mid = at + length (entryOctets b) in
-        let o = split-to (entryOctets b) (rowOctets big pool s gs (r .0)) mid refl st in
+        let o = split-to (entryOctets b) (rowOctets counted big pool s gs (r .0)) mid refl st in
         let w = block-back i at mid b e (o .0) in
         let z = rest mid (o .1) in
         record {
@@ -380,78 +384,122 @@ module _ (big : Bool) (l pool m : List ℕ) (v : ℕ) (small : Numbers64 l) wher
 
     entries-back : (k i at to : ℕ) (r : Values × ℕ)
         → judgeEntries l pool k (judgeBlock l pool s f′) i ≡ done r
-        → Stands m at (rowOctets big pool s gs (r .0)) to → RowBack (r .0) to (readEntries k readOne at)
+        → Stands m at (rowOctets counted big pool s gs (r .0)) to → RowBack (r .0) to (readEntries k readOne at)
     unfolding judgeEntries
     entries-back zero i at to r e st =
-        subst (λ (x : Values × ℕ). Stands m at (rowOctets big pool s gs (x .0)) to
+        subst (λ (x : Values × ℕ). Stands m at (rowOctets counted big pool s gs (x .0)) to
         → RowBack (x .0) to (readEntries 0 readOne at)) (done-inj e)
         (nothing-back s gs (readEntries 0 readOne) at to (unfold readEntries in refl)) st
     entries-back (suc k) i at to r e st =
         let p = inv-both _ _ _ _ e in
-        subst (λ (x : Values × ℕ). Stands m at (rowOctets big pool s gs (x .0)) to
+        subst (λ (x : Values × ℕ). Stands m at (rowOctets counted big pool s gs (x .0)) to
         → RowBack (x .0) to (readEntries (suc k) readOne at)) (p .is)
         (entries-forth k i at to (p .value) (p .other) (p .first)
         (λ x o. entries-back k (p .value .3) x to (p .other) (p .second) o)) st
 
-  dimension-reads : (least n k at : ℕ) → AreAt big m at (n ∷ k ∷ []) → at + dimensionSize ≤ length m → n < null16
-      → k < null16 → least ≤ n
-      → readDimension big m least at ≡ done (n, k)
+  -- The dimension of k entries, where it was written.
+  abbrev dimensionAt : Shape → ℕ → ℕ → Dimension
+  dimensionAt s k at =
+      record {
+        length = s .length;
+        entries = k;
+        groups = countAt counted big m (at + 4);
+        datas = countAt counted big m (at + 4 + 2);
+      }
+
+  dimension-reads : (s : Shape) (gs : Groups) (k at : ℕ) → s .length < null16 → k < null16 → Few s gs
+      → AreAt big m at (s .length ∷ k ∷ []) → AreAt big m (at + 4) (countsOf counted gs (s .datas))
+      → at + dimensionSize counted ≤ length m
+      → readDimension counted big m at ≡ done (dimensionAt s k at)
   unfolding readDimension must _>>=_ _and_ AreAt
-  dimension-reads least n k at a c d e f =
-      rw (a .0, a .1 .0, le-leb (at + 4) (length m) c, lt-ltb n null16 d, lt-ltb k null16 e, le-leb least n f) refl
+  dimension-reads s gs k at short few less a c h =
+      let w = counts-are counted big m (at + 4) gs (s .datas) (counts-whole counted s gs less) c in
+      rw (
+        a .0,
+        a .1 .0,
+        le-leb (at + dimensionSize counted) (length m) h,
+        lt-ltb (s .length) null16 short,
+        lt-ltb k null16 few,
+        lt-ltb _ null16 (w .0),
+        lt-ltb _ null16 (w .1),
+      ) refl
 
-  groups-next : (i since : ℕ) (s : Shape) (inner rest : Groups) (at x to n k : ℕ) (es r : Values) → since ≤ v
-      → readDimension big m (need v s) at ≡ done (n, k)
-      → readEntries k (readBlock big m v s (readGroups big m v inner 0) 0 n) (at + dimensionSize) ≡ done (es, x)
-      → readGroups big m v rest 0 x ≡ done (r, to)
-      → readGroups big m v (more i since s inner rest) 0 at ≡ done (group (Group k) es r, to)
-  unfolding readGroups readGroup _>>=_ if_then_else_
-  groups-next i since s inner rest at x to n k es r h a b c = rw (le-leb since v h, a, b, c) refl
+  -- What a book of version v reads of groups.
+  abbrev readKnown : Groups → ℕ → ℕ → Result (Values × ℕ)
+  readKnown gs levels at = readGroups counted v big m v gs levels 0 at
 
-  groups-forth : (i since : ℕ) (s : Shape) (inner rest : Groups) (s₀ : Shape) (k at to : ℕ) (es r : Values) → since ≤ v
-      → GoodShape v s → k < null16
-      → ((x y : ℕ) → Stands m x (rowOctets big pool s inner es) y
-      → RowBack es y (readEntries k (readBlock big m v s (readGroups big m v inner 0) 0 (s .length)) x))
-      → ((x y : ℕ) → Stands m x (rowOctets big pool s₀ rest r) y → RowBack r y (readGroups big m v rest 0 x))
-      → Stands m at (rowOctets big pool s₀ (more i since s inner rest) (group (Group k) es r)) to
-      → RowBack (group (Group k) es r) to (readGroups big m v (more i since s inner rest) 0 at)
-  unfolding rowOctets entriesIn treeContents contentOf Each
-  groups-forth i since s inner rest s₀ k at to es r h good few entries after st =
-      let d = s .length ∷ k ∷ [] in
-      let xs = rowOctets big pool s inner es in
-      let ys = rowOctets big pool s₀ rest r in
-      let mid = at + dimensionSize in
-      let o₁ = split-to (numbers16 big d) (xs ++ ys) mid (omega (arith, length-numbers big d)) st in
+  groups-next : (i since : ℕ) (s : Shape) (inner rest : Groups) (levels at x to k : ℕ) (es r : Values) → since ≤ v
+      → readDimension counted big m at ≡ done (dimensionAt s k at) → need v s ≤ s .length
+      → OwnCounts counted v inner (s .datas) big m (at + 4)
+      → readEntries k (readBlock big m v s (readKnown inner (inside levels)) 0 (s .length)) (at + dimensionSize counted)
+      ≡ done (es, x)
+      → readKnown rest levels x ≡ done (r, to)
+      → readKnown (more i since s inner rest) levels at ≡ done (group (Group k) es r, to)
+  unfolding readGroups readGroup must _>>=_ _and_ if_then_else_
+  groups-next i since s inner rest levels at x to k es r h a n o b c =
+      rw (
+        le-leb since v h,
+        a,
+        le-leb (need v s) (s .length) n,
+        o .groupsGood,
+        o .datasGood,
+        o .noGroups,
+        o .noDatas,
+        b,
+        c,
+      ) refl
+
+  groups-forth : (i since : ℕ) (s : Shape) (inner rest : Groups) (s₀ : Shape) (levels k at to : ℕ) (es r : Values)
+      → GoodGroup v levels since s inner → UpTo v (groupSinces inner) → k < null16
+      → ((x y : ℕ) → Stands m x (rowOctets counted big pool s inner es) y
+      → RowBack es y (readEntries k (readBlock big m v s (readKnown inner (inside levels)) 0 (s .length)) x))
+      → ((x y : ℕ) → Stands m x (rowOctets counted big pool s₀ rest r) y → RowBack r y (readKnown rest levels x))
+      → Stands m at (rowOctets counted big pool s₀ (more i since s inner rest) (group (Group k) es r)) to
+      → RowBack (group (Group k) es r) to (readKnown (more i since s inner rest) levels at)
+  unfolding rowOctets entriesIn treeContents contentOf Each AreAt
+  groups-forth i since s inner rest s₀ levels k at to es r good groupsIn few entries after st =
+      let d = dimensionOf counted s inner k in
+      let xs = rowOctets counted big pool s inner es in
+      let ys = rowOctets counted big pool s₀ rest r in
+      let mid = at + dimensionSize counted in
+      let short = good .shape .short in
+      let o₁ = split-to (numbers16 big d) (xs ++ ys) mid
+      (omega (arith, length-numbers big d, counts-long counted inner (s .datas))) st in
       let o₂ = split-to xs ys (mid + length xs) refl (o₁ .1) in
-      let reads = dimension-reads (need v s) (s .length) k at (numbers-are big d (good .short, (few, tt)) (o₁ .0))
-      (o₁ .0 .fits) (good .short) few
-      (need-within v (s .length) 0 0 (s .fields) (good .fields) (omega arith)) in
+      let are = numbers-are big d (short, (few, counts-whole counted s inner (good .few))) (o₁ .0) in
+      let four : at + 2 + 2 ≡ at + 4 = omega arith in
+      let counts = subst (λ (x : ℕ). AreAt big m x (countsOf counted inner (s .datas))) four (are .1 .1) in
+      let reads = dimension-reads s inner k at short few (good .few) (are .0, (are .1 .0, tt)) counts (o₁ .0 .fits) in
       let w = entries mid (mid + length xs) (o₂ .0) in
       let z = after (mid + length xs) to (o₂ .1) in
       record {
         values = group (Group k) (w .values) (z .values);
-        reads = groups-next i since s inner rest at (mid + length xs) to (s .length) k (w .values) (z .values) h reads
+        reads = groups-next i since s inner rest levels at (mid + length xs) to k (w .values) (z .values) (good .isIn)
+            reads (need-within v (s .length) 0 0 (s .fields) (good .shape .fields) (omega arith))
+            (counts-read counted v inner (s .datas) big m (at + 4) groupsIn (good .shape .datasIn) counts)
             (w .reads) (z .reads);
         same = rw (w .same, z .same) refl;
       }
 
-  pub groups-back : (gs : Groups) (s₀ : Shape) (i at to : ℕ) (r : Values × ℕ) → GoodGroups v gs
+  pub groups-back : (gs : Groups) (s₀ : Shape) (levels i at to : ℕ) (r : Values × ℕ) → GoodGroups v levels gs
       → judgeGroups l pool gs i ≡ done r
-      → Stands m at (rowOctets big pool s₀ gs (r .0)) to → RowBack (r .0) to (readGroups big m v gs 0 at)
+      → Stands m at (rowOctets counted big pool s₀ gs (r .0)) to → RowBack (r .0) to (readKnown gs levels at)
   unfolding judgeGroups GoodGroups
-  groups-back none s₀ i at to r good e st =
-      subst (λ (x : Values × ℕ). Stands m at (rowOctets big pool s₀ none (x .0)) to
-      → RowBack (x .0) to (readGroups big m v none 0 at)) (done-inj e)
-      (nothing-back s₀ none (readGroups big m v none 0) at to (no-groups big m v at)) st
-  groups-back (more id since s inner rest) s₀ i at to r good e st =
+  groups-back none s₀ levels i at to r good e st =
+      subst (λ (x : Values × ℕ). Stands m at (rowOctets counted big pool s₀ none (x .0)) to
+      → RowBack (x .0) to (readKnown none levels at)) (done-inj e)
+      (nothing-back s₀ none (readKnown none levels) at to (no-groups big m v counted levels at)) st
+  groups-back (more id since s inner rest) s₀ levels i at to r good e st =
       let n = inv-bind _ _ _ (inv-bind _ _ _ e .next) in
       let p = inv-both _ _ _ _ (n .next) in
       let k = second l i in
       let gs = more id since s inner rest in
-      subst (λ (x : Values × ℕ). Stands m at (rowOctets big pool s₀ gs (x .0)) to
-      → RowBack (x .0) to (readGroups big m v gs 0 at)) (p .is)
-      (groups-forth id since s inner rest s₀ k at to (p .value .0) (p .other .0) (good .0) (good .1)
-      (ltb-true k null16 (inv-must _ _ _ _ (n .first)))
-      (λ x y o. entries-back s inner (good .1) (judgeGroups l pool inner) (readGroups big m v inner 0)
-      (λ i′ at′ to′ r′ e′ o′. groups-back inner s i′ at′ to′ r′ (good .2) e′ o′) k (suc i) x y (p .value) (p .first) o)
-      (λ x y o. groups-back rest s₀ (p .value .1) x y (p .other) (good .3) (p .second) o)) st
+      subst (λ (x : Values × ℕ). Stands m at (rowOctets counted big pool s₀ gs (x .0)) to
+      → RowBack (x .0) to (readKnown gs levels at)) (p .is)
+      (groups-forth id since s inner rest s₀ levels k at to (p .value .0) (p .other .0) (good .0)
+      (groups-in v (inside levels) inner (good .1)) (ltb-true k null16 (inv-must _ _ _ _ (n .first)))
+      (λ x y o. entries-back s inner (good .0 .shape) (judgeGroups l pool inner)
+      (readKnown inner (inside levels))
+      (λ i′ at′ to′ r′ e′ o′. groups-back inner s (inside levels) i′ at′ to′ r′ (good .1) e′ o′) k (suc i) x y
+      (p .value) (p .first) o)
+      (λ x y o. groups-back rest s₀ levels (p .value .1) x y (p .other) (good .2) (p .second) o)) st

@@ -1,78 +1,70 @@
 -- The second round trip, from octets to octets: a message that could have been written with the book, listed and
 -- written back with itself as pool, is itself.
-use mathlib.Core.Path.{_∙_, _≡_, ap, refl, subst, sym}
+use mathlib.Core.Path.{_∙_, _≡_, ap₂, refl, subst, sym}
 use mathlib.Core.Bool.{Bool, true}
 use mathlib.Core.List.{List}
 use mathlib.Core.Option.{some}
-use Prim.Native.Nat.{_-_, _≤_, ℕ}
+use Prim.Native.Nat.{_≤_, ℕ}
 use native.Mathlib.Nat.{le-refl}
 use native.Mathlib.Omega.{arith}
-use lib.ListN.{length, length-map}
+use lib.ListN.{length}
 use borrow.Author.Tests.{eqb-true, le-leb, leb-true}
-use Rattle.layout.specs.Result.{Result, _>>=_, _and_, done, if_then_else_, must, orRefuse}
+use Rattle.layout.specs.Result.{Result, _>>=_, _and_, done, must, orRefuse}
 use Rattle.layout.specs.Octets.{AllOctets}
-use Rattle.layout.specs.Book.{Book, Data, Template, dataSinces, findTemplate, groupSinces, present}
+use Rattle.layout.specs.Book.{Book, Template, findTemplate}
 use Rattle.layout.specs.BookRules.{bookOf}
 use Rattle.layout.specs.Values.{Values, entry, listing, nil}
-use Rattle.layout.specs.Message.{Entry, blockLength, checkHeader, countGood, dataCount, groupCount, headerSize}
-use Rattle.layout.specs.Message.{readBlock, readGroups, readMessage, readRoot, readWhole, schemaId, surplusOf}
-use Rattle.layout.specs.Message.{templateId, versionOf}
-use Rattle.layout.specs.Writing.{headerOf, judgeListing, messageOctets, rowOctets, writeOf}
+use Rattle.layout.specs.Message.{Entry, blockLength, checkHeader, depthLimit, headerSize, readBlock, readGroups}
+use Rattle.layout.specs.Message.{readMessage, readRoot, readWhole, schemaId, surplusOf, templateId, versionOf}
+use Rattle.layout.specs.Writing.{countsOf, headerOf, judgeListing, messageOctets, rowOctets, writeOf}
 use Rattle.layout.specs.Demands.{AllSound, AsWritten, OwnBlocks}
 use Rattle.demands.proofs.Judged.{listing-judged}
 use Rattle.demands.proofs.Reprinted.{block-stands, entryPrinted, groups-stand}
 use Rattle.layout.proofs.Fields.{need-within}
 use Rattle.layout.proofs.Accepted.{accepted}
-use Rattle.layout.proofs.Present.{UpTo, Writable, present-up, writable}
+use Rattle.layout.proofs.Present.{Writable, groups-in, writable}
 use Rattle.layout.proofs.Results.{and-left, and-right, bind-done, inv-bind, inv-both, inv-must}
 use Rattle.layout.proofs.Stands.{AreAt, Stands, join, nothing-stands, numbers-stand, stands-all}
+use Rattle.layout.proofs.Counts.{counts-written, good-counts}
+use Rattle.layout.proofs.Lengths.{counts-long}
 
 -- ---- the root of a message of the book's own version and root block length
 
--- Its block, with surplus groups and data.
+-- Its groups and its block, with surplus groups and data.
+abbrev rootGroups : Book → Template → List ℕ → ℕ → ℕ → Result (Values × ℕ)
+rootGroups b t m groups =
+    let v = b .version in
+    readGroups (b .format .inGroups) v (b .format .big) m v (t .groups) depthLimit groups
+
 abbrev rootBlock : Book → Template → List ℕ → ℕ → ℕ → Result Entry
 rootBlock b t m groups datas =
-    let big = b .format .big in
-    let v = b .version in
-    readBlock big m v (t .shape) (readGroups big m v (t .groups) groups) datas (t .shape .length) headerSize
+    readBlock (b .format .big) m (b .version) (t .shape) (rootGroups b t m groups) datas (t .shape .length) headerSize
 
 record RootRead (b : Book) (t : Template) (m : List ℕ) (r : Values) : Type 0 where
   root : Entry
-  groups-is : groupCount (b .format .big) m ≡ length (groupSinces (t .groups))
-  datas-is : dataCount (b .format .big) m ≡ length (t .shape .datas)
+  counts : AreAt (b .format .big) m 8 (countsOf true (t .groups) (t .shape .datas))
   reads : rootBlock b t m 0 0 ≡ done root
   ends : root .3 ≡ length m
   is : entry (root .0) (root .1) (root .2) nil ≡ r
 
-count-is : (v : ℕ) (ss : List ℕ) (n : ℕ) → UpTo v ss → countGood v v ss n ≡ true → n ≡ present v ss
-unfolding countGood if_then_else_
-count-is v ss n u e = eqb-true n (present v ss) (rw (le-leb v v (le-refl v)) at e)
-
 root-read : (b : Book) (t : Template) (m : List ℕ) (r : Values) → Writable b t → let big = b .format .big in
     versionOf big m ≡ b .version → blockLength big m ≡ t .shape .length
-    → readRoot big (b .version) t m ≡ done r → RootRead b t m r
+    → readRoot (b .format) (b .version) t m ≡ done r → RootRead b t m r
 unfolding readRoot surplusOf readWhole
 root-read b t m r w ve le e =
     let v = b .version in
     let big = b .format .big in
-    let gs = groupSinces (t .groups) in
-    let ds = dataSinces (t .shape .datas) in
+    let gs = t .groups in
+    let ds = t .shape .datas in
     let p₁ = inv-bind _ _ _ (rw (ve, le) at e) in
     let p₂ = inv-both _ _ _ _ (inv-bind _ _ _ (p₁ .first) .next) in
     let left = p₂ .is in
     let p₄ = inv-both _ _ _ _ (rw (sym left, ve, le) at (p₁ .next)) in
-    let g = count-is v gs (groupCount big m) (w .groupsIn) (inv-must _ _ _ _ (p₂ .first)) in
-    let d = count-is v ds (dataCount big m) (w .shape .datasIn) (inv-must _ _ _ _ (p₂ .second)) in
-    let zg : 0 ≡ groupCount big m - present v gs = omega (arith, g) in
-    let zd : 0 ≡ dataCount big m - present v ds = omega (arith, d) in
+    let own = good-counts true v gs ds big m 8 (inv-must _ _ _ _ (p₂ .first)) (inv-must _ _ _ _ (p₂ .second)) in
     record {
       root = p₄ .value;
-      groups-is = g ∙ present-up v v gs (w .groupsIn) (le-refl v);
-      datas-is = d ∙ present-up v v ds (w .shape .datasIn) (le-refl v)
-          ∙ length-map (t .shape .datas) (λ (x : Data). x .since);
-      reads = ap (λ (x : ℕ). rootBlock b t m x 0) zg
-          ∙ ap (rootBlock b t m (groupCount big m - present v gs)) zd
-          ∙ p₄ .first;
+      counts = counts-written true v gs ds big m 8 (groups-in v depthLimit gs (w .groups)) (w .shape .datasIn) own;
+      reads = sym (ap₂ (rootBlock b t m) (own .noGroups) (own .noDatas)) ∙ p₄ .first;
       ends = eqb-true (p₄ .value .3) (length m) (inv-must _ _ _ _ (p₄ .second));
       is = p₄ .is;
     }
@@ -83,17 +75,21 @@ module _ (b : Book) (t : Template) (m : List ℕ) (octets : AllOctets m) (w : Wr
   abbrev big : Bool
   big = b .format .big
 
+  abbrev counted : Bool
+  counted = b .format .inGroups
+
   root-stands : (x : Entry) → let r = entry (x .0) (x .1) (x .2) nil in x .3 ≡ length m
-      → OwnBlocks big m (t .shape) (t .groups) headerSize r → AllSound r
+      → OwnBlocks counted big m (t .shape) (t .groups) headerSize r → AllSound r
       → rootBlock b t m 0 0 ≡ done x
-      → Stands m headerSize (rowOctets big m (t .shape) (t .groups) r) (length m)
+      → Stands m headerSize (rowOctets counted big m (t .shape) (t .groups) r) (length m)
   unfolding OwnBlocks AllSound rowOctets
   root-stands x e own sound q =
       let v = b .version in
-      let s = block-stands big m v octets (t .shape) (t .groups) (readGroups big m v (t .groups) 0) headerSize x
-      (w .shape) (groups-stand big m v octets (t .groups) (t .shape) (w .groups)) (own .0) (own .1) (own .2) (sound .0)
-      (sound .1) q .0 in
-      join _ _ (subst (λ (y : ℕ). Stands m headerSize (entryPrinted big m v octets (t .shape) (t .groups) x) y) e s)
+      let s = block-stands counted big m v octets (t .shape) (t .groups) (rootGroups b t m 0) headerSize x (w .shape)
+      (groups-stand counted big m v octets (t .groups) (t .shape) depthLimit (w .groups)) (own .0) (own .1) (own .2)
+      (sound .0) (sound .1) q .0 in
+      join _ _
+      (subst (λ (y : ℕ). Stands m headerSize (entryPrinted counted big m v octets (t .shape) (t .groups) x) y) e s)
       (nothing-stands m (length m) (le-refl (length m)))
 
   printed : (r : Values) → headerSize ≤ length m → schemaId big m ≡ b .schema → templateId big m ≡ t .id
@@ -101,16 +97,18 @@ module _ (b : Book) (t : Template) (m : List ℕ) (octets : AllOctets m) (w : Wr
       → messageOctets b t m r ≡ m
   unfolding messageOctets AreAt
   printed r h schema id a k =
-      let root = subst (λ (x : Values). OwnBlocks big m (t .shape) (t .groups) headerSize x → AllSound x
-      → Stands m headerSize (rowOctets big m (t .shape) (t .groups) x) (length m)) (k .is)
+      let root = subst (λ (x : Values). OwnBlocks counted big m (t .shape) (t .groups) headerSize x → AllSound x
+      → Stands m headerSize (rowOctets counted big m (t .shape) (t .groups) x) (length m)) (k .is)
       (λ own sound. root-stands (k .root) (k .ends) own sound (k .reads)) (a .blocks) (a .sound) in
-      stands-all (join _ _ (numbers-stand big m octets 0 headerSize (headerOf b t) (omega arith) h
-      (a .length, (id, (schema, (a .version, (k .groups-is, (k .datas-is, tt))))))) root)
+      stands-all (join _ _ (numbers-stand big m octets 0 headerSize (headerOf b t)
+      (omega (arith, counts-long true (t .groups) (t .shape .datas))) h
+      (a .length, (id, (schema, (a .version, k .counts))))) root)
 
   judged : (r : Values) → AllSound r → RootRead b t m r → judgeListing (listing r) m t ≡ done r
   judged r sound k =
       subst (λ (x : Values). AllSound x → judgeListing (listing x) m t ≡ done x) (k .is)
-      (λ i. listing-judged big _ m (b .version) t (t .shape .length) headerSize (k .root) (w .shape) (w .groups)
+      (λ i. listing-judged big _ m (b .version) counted t depthLimit (t .shape .length) headerSize (k .root)
+      (w .shape) (w .groups)
       (need-within (b .version) (t .shape .length) 0 0 (t .shape .fields) (w .shape .fields) (omega arith)) i
       (k .reads) refl) sound
 
@@ -137,13 +135,12 @@ header-read big schema m u e =
 message-read : (b : Book) (t : Template) (m : List ℕ) (r : Values)
     → findTemplate (templateId (b .format .big) m) (b .templates) ≡ some t
     → readMessage b m ≡ done r
-    → HeaderRead (b .format .big) (b .schema) m × (readRoot (b .format .big) (b .version) t m ≡ done r)
+    → HeaderRead (b .format .big) (b .schema) m × (readRoot (b .format) (b .version) t m ≡ done r)
 unfolding readMessage orRefuse
 message-read b t m r h q =
-    let big = b .format .big in
     let p = inv-bind _ _ _ q in (
-      header-read big (b .schema) m (p .value) (p .first),
-      sym (bind-done t (λ x. readRoot big (b .version) x m)) ∙ rw h at (p .next),
+      header-read (b .format .big) (b .schema) m (p .value) (p .first),
+      sym (bind-done t (λ x. readRoot (b .format) (b .version) x m)) ∙ rw h at (p .next),
     )
 
 pub written-back : (book m : List ℕ) (room : ℕ) (b : Book) (t : Template) (r : Values) → AllOctets m

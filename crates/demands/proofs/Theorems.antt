@@ -71,12 +71,13 @@ pub read-writes-back : (book m : List ℕ) (room : ℕ) (b : Book) (t : Template
 read-writes-back = written-back
 
 -- "Its length is 12 plus the declared root block, 4 per group record, the declared block per entry, and 2 plus its
--- length per data": of the message for a listing that was judged to be r.
+-- length per data", or "8 per group record" where dimensions have four numbers: of the message for a listing that was
+-- judged to be r.
 pub written-length : (book : List ℕ) (id : ℕ) (l pool : List ℕ) (b : Book) (t : Template) (r : Values)
     → bookOf book ≡ done b
     → findTemplate id (b .templates) ≡ some t
     → judgeListing l pool t ≡ done r
-    → length (messageOctets b t pool r) ≡ writtenLength t r
+    → length (messageOctets b t pool r) ≡ writtenLength b t r
 written-length book id l pool b t r e h j = written-long l pool b t r (accepted book b id t e h .1 .layout) j
 
 -- ---- demand 3: "For accepted books, the newer a legal extension of the older, and any message whose template is in

@@ -1,34 +1,35 @@
 -- The first round trip, from octets to octets: what `writeOf` gives is accepted under the same book and reads back with
 -- the same values.
 use mathlib.Core.Path.{_∙_, _≡_, ap, refl, subst, sym}
-use mathlib.Core.Bool.{Bool}
+use mathlib.Core.Bool.{Bool, true}
 use mathlib.Core.List.{List, [], _∷_}
 use mathlib.Core.Option.{some}
-use Prim.Native.Nat.{_*_, _+_, _-_, _≤_, ℕ}
-use native.Mathlib.Nat.{le-refl}
+use Prim.Native.Nat.{_*_, _+_, _≤_, ℕ}
 use native.Mathlib.Omega.{arith}
-use lib.ListN.{length, length-append, length-map}
+use lib.ListN.{length, length-append}
 use borrow.Author.Tests.{eq-eqb, le-leb, leb-true, lt-ltb}
-use Rattle.layout.specs.Result.{Each, _>>=_, _and_, done, if_then_else_, must, orRefuse}
+use Rattle.layout.specs.Result.{Each, _>>=_, _and_, done, must, orRefuse}
 use Rattle.layout.specs.Octets.{Numbers64, null16}
-use Rattle.layout.specs.Book.{Book, Data, Template, dataSinces, findTemplate, groupSinces}
+use Rattle.layout.specs.Book.{Book, Template, findTemplate}
 use Rattle.layout.specs.BookRules.{bookOf}
 use Rattle.layout.specs.Values.{Values, entry, listing, measure, nil}
-use Rattle.layout.specs.Message.{Entry, checkHeader, countGood, headerSize, headerWhole, readBlock, readGroups}
+use Rattle.layout.specs.Message.{Entry, checkHeader, depthLimit, headerSize, headerWhole, readBlock, readGroups}
 use Rattle.layout.specs.Message.{readMessage, readRoot, readWhole, schemaId, surplusOf}
 use Rattle.layout.specs.Reading.{listOf}
-use Rattle.layout.specs.Writing.{headerOf, judgeBlock, judgeGroups, judgeListing, messageOctets, numbers16, rowOctets}
-use Rattle.layout.specs.Writing.{writeOf}
+use Rattle.layout.specs.Writing.{countsOf, headerOf, judgeBlock, judgeGroups, judgeListing, messageOctets, numbers16}
+use Rattle.layout.specs.Writing.{rowOctets, writeOf}
 use Rattle.layout.specs.Demands.{contents}
 use Rattle.demands.proofs.Contents.{contents-measure, listing-says, treeContents}
 use Rattle.demands.proofs.Relisted.{relisted}
-use Rattle.demands.proofs.Reread.{block-back, entryOctets, four-same, groups-back}
+use Rattle.demands.proofs.Reread.{RowBack, block-back, entryOctets, four-same, groups-back}
 use Rattle.layout.proofs.Fields.{need-within}
 use Rattle.layout.proofs.Accepted.{Accepted, accepted}
-use Rattle.layout.proofs.Present.{Writable, present-up, writable}
+use Rattle.layout.proofs.Present.{Writable, groups-in, writable}
 use Rattle.layout.proofs.Records.{listing-three}
 use Rattle.layout.proofs.Results.{and-left, and-right, bind-done, inv-bind, inv-both, inv-found, inv-must}
 use Rattle.layout.proofs.Stands.{AllWhole, AreAt, Stands, all-stands, length-numbers, numbers-are, split-to}
+use Rattle.layout.proofs.Lengths.{counts-long}
+use Rattle.layout.proofs.Counts.{counts-read, counts-whole}
 use Rattle.layout.specs.declared.Answer.{Answer}
 
 -- ---- the header
@@ -42,7 +43,7 @@ header-whole big m at (x ∷ xs) a h = rw (a .0, lt-ltb x null16 (h .0)) (header
 header-good : (b : Book) (t : Template) (m : List ℕ) → headerSize ≤ length m → length m ≤ 65535
     → let big = b .format .big in
     AreAt big m 0 (headerOf b t) → AllWhole (headerOf b t) → checkHeader big (b .schema) m ≡ done tt
-unfolding checkHeader must _>>=_ _and_
+unfolding checkHeader must _>>=_ _and_ countsOf
 header-good b t m long few a h =
     let big = b .format .big in
     let schema : schemaId big m ≡ b .schema = unfold AreAt in a .1 .1 .0 in
@@ -59,14 +60,14 @@ header-stands : (b : Book) (t : Template) (pool : List ℕ) (r : Values) → All
     → let m = messageOctets b t pool r in
     let big = b .format .big in
     AreAt big m 0 (headerOf b t) × (headerSize ≤ length m)
-    × Stands m headerSize (rowOctets big pool (t .shape) (t .groups) r) (length m)
+    × Stands m headerSize (rowOctets (b .format .inGroups) big pool (t .shape) (t .groups) r) (length m)
 unfolding messageOctets
 header-stands b t pool r h =
     let m = messageOctets b t pool r in
     let big = b .format .big in
     let xs = headerOf b t in
-    let o = split-to (numbers16 big xs) (rowOctets big pool (t .shape) (t .groups) r) headerSize
-    (omega (arith, length-numbers big xs)) (all-stands m) in
+    let o = split-to (numbers16 big xs) (rowOctets (b .format .inGroups) big pool (t .shape) (t .groups) r) headerSize
+    (omega (arith, length-numbers big xs, counts-long true (t .groups) (t .shape .datas))) (all-stands m) in
     (numbers-are big xs h (o .0), o .0 .fits, o .1)
 
 -- ---- the root
@@ -75,33 +76,26 @@ root-reads : (b : Book) (t : Template) (m : List ℕ) (fs : List Answer) (g : Va
     → let v = b .version in
     let big = b .format .big in
     AreAt big m 0 (headerOf b t) → Writable b t
-    → readBlock big m v (t .shape) (readGroups big m v (t .groups) 0) 0 (t .shape .length) headerSize
+    → readBlock big m v (t .shape) (readGroups (b .format .inGroups) v big m v (t .groups) depthLimit 0) 0
+    (t .shape .length) headerSize
     ≡ done (fs, g, ds, length m)
-    → readRoot big v t m ≡ done (entry fs g ds nil)
-unfolding readRoot surplusOf readWhole must _>>=_ countGood if_then_else_ AreAt
+    → readRoot (b .format) v t m ≡ done (entry fs g ds nil)
+unfolding readRoot surplusOf readWhole must _>>=_ AreAt
 root-reads b t m fs g ds a w e =
     let v = b .version in
     let big = b .format .big in
-    let n = length (groupSinces (t .groups)) in
-    let k = length (t .shape .datas) in
-    let c : length (dataSinces (t .shape .datas)) ≡ k = length-map (t .shape .datas) (λ (d : Data). d .since) in
-    let no-surplus : (x : ℕ) → x - x ≡ 0 = λ x. omega arith in
+    let c = counts-read true v (t .groups) (t .shape .datas) big m 8 (groups-in v depthLimit (t .groups) (w .groups))
+    (w .shape .datasIn) (a .1 .1 .1 .1) in
     let none-left : surplusOf big v t m ≡ done (0, 0) = rw (
       a .0,
       a .1 .1 .1 .0,
-      a .1 .1 .1 .1 .0,
-      a .1 .1 .1 .1 .1 .0,
       le-leb _ _ (need-within v (t .shape .length) 0 0 (t .shape .fields) (w .shape .fields) (omega arith)),
-      le-leb v v (le-refl v),
-      present-up v v _ (w .groupsIn) (le-refl v),
-      present-up v v _ (w .shape .datasIn) (le-refl v),
-      c,
-      eq-eqb n n refl,
-      eq-eqb k k refl,
-      no-surplus n,
-      no-surplus k,
+      c .groupsGood,
+      c .datasGood,
+      c .noGroups,
+      c .noDatas,
     ) refl in
-    let reads : readWhole big t m (0, 0) ≡ done (entry fs g ds nil) =
+    let reads : readWhole (b .format) v t m (0, 0) ≡ done (entry fs g ds nil) =
     rw (a .0, a .1 .1 .1 .0, e, eq-eqb (length m) (length m) refl) refl in
     rw none-left reads
 
@@ -116,24 +110,14 @@ record ReadsBack (b : Book) (m pool : List ℕ) (said : Values) : Type 0 where
 module _ (b : Book) (t : Template) (l pool : List ℕ) (small : Numbers64 l) (a : Accepted b t) where
   whole : AllWhole (headerOf b t)
   unfolding Each
-  whole =
-      let w = writable b t a in (
-        w .shape .short,
-        (
-          a .id,
-          (
-            a .schema,
-            (
-              a .version,
-              (omega (arith, a .fewGroups), (omega (arith, a .fewDatas), tt)),
-            ),
-          ),
-        ),
-      )
+  whole = (
+    writable b t a .shape .short,
+    (a .id, (a .schema, (a .version, counts-whole true (t .shape) (t .groups) (a .few)))),
+  )
 
   message-reads : (m : List ℕ) (r : Values) → let big = b .format .big in
       checkHeader big (b .schema) m ≡ done tt → AreAt big m 0 (headerOf b t)
-      → readRoot big (b .version) t m ≡ done r → readMessage b m ≡ done r
+      → readRoot (b .format) (b .version) t m ≡ done r → readMessage b m ≡ done r
   unfolding readMessage orRefuse AreAt
   message-reads m r h i e = rw (h, i .1 .0, a .there, bind-done, bind-done) e
 
@@ -148,14 +132,18 @@ module _ (b : Book) (t : Template) (l pool : List ℕ) (small : Numbers64 l) (a 
       let said = entry (x .0) (x .1) (x .2) nil in
       let m = messageOctets b t pool said in
       let h = header-stands b t pool said whole in
-      let xs = entryOctets big l pool m v small (t .shape) (t .groups) (w .shape)
-      (judgeGroups l pool (t .groups)) (readGroups big m v (t .groups) 0)
-      (λ i at to r e′ st. groups-back big l pool m v small (t .groups) (t .shape) i at to r (w .groups) e′ st) x in
+      let counted = b .format .inGroups in
+      let f = readGroups counted v big m v (t .groups) depthLimit 0 in
+      let back : (i at to : ℕ) (r : Values × ℕ) → judgeGroups l pool (t .groups) i ≡ done r
+      → Stands m at (rowOctets counted big pool (t .shape) (t .groups) (r .0)) to
+      → RowBack counted big l pool m v small (r .0) to (f at) =
+      λ i at to r e′ st. groups-back counted big l pool m v small (t .groups) (t .shape) depthLimit i at to r
+      (w .groups) e′ st in
+      let xs = entryOctets counted big l pool m v small (t .shape) (t .groups) (w .shape)
+      (judgeGroups l pool (t .groups)) f back x in
       let o = split-to xs [] (length m) (omega (arith, h .2 .ends, length-append xs [])) (h .2) in
-      let k = block-back big l pool m v small (t .shape) (t .groups) (w .shape)
-      (judgeGroups l pool (t .groups)) (readGroups big m v (t .groups) 0)
-      (λ i at to r e′ st. groups-back big l pool m v small (t .groups) (t .shape) i at to r (w .groups) e′ st) 0
-      headerSize (length m) x e (o .0) in
+      let k = block-back counted big l pool m v small (t .shape) (t .groups) (w .shape)
+      (judgeGroups l pool (t .groups)) f back 0 headerSize (length m) x e (o .0) in
       record {
         values = entry (k .fields) (k .groups) (k .datas) nil;
         accepts = message-reads m _ (header-good b t m (h .1) few (h .0) whole) (h .0)

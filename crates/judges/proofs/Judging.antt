@@ -16,6 +16,7 @@ use Rattle.layout.specs.Book.{Field, Groups, Shape, Template, more, none}
 use Rattle.layout.specs.BookRules.{parseDatas, parseFields, word}
 use Rattle.layout.specs.Contracts.{refusal}
 use Rattle.layout.specs.Values.{Values, entry, group, nil}
+use Rattle.layout.specs.Message.{dimensionSize}
 use Rattle.layout.specs.Writing.{datasLength, first, isGroup, isNull, isNumber, isOctets, isThere, judgeArray}
 use Rattle.layout.specs.Writing.{judgeBlock, judgeData, judgeDatas, judgeEntries, judgeField, judgeFields, judgeGroups}
 use Rattle.layout.specs.Writing.{judgeListing, judgeNull, judgeNumber, judgeOctets, judgeText, numberFits, rowLength}
@@ -29,8 +30,8 @@ use Rattle.layout.proofs.Said.{OctetsSaid, octets-said}
 use Rattle.layout.proofs.TypeLaws.{inside-not-null}
 use Rattle.prepared.specs.Numbers.{spread}
 use Rattle.prepared.specs.Names.{listsAt}
-use Rattle.prepared.specs.Positions.{IsBlock, datasFrom, fieldAt, groupsFrom, innerAt}
-use Rattle.prepared.specs.Positions.{manyDatas, manyGroups, shapeAt}
+use Rattle.prepared.specs.Positions.{IsBlock, datasFrom, fieldAt, groupsFrom, innerAt, isCounted, manyDatas}
+use Rattle.prepared.specs.Positions.{manyGroups, shapeAt}
 use Rattle.prepared.proofs.Open.{no-datas-at, no-groups-at}
 use Rattle.prepared.proofs.Ranges.{in-range}
 use Rattle.judges.specs.Judges.{capped, datasEnd, fieldEnd, fieldsEnd, judged, listingEnd}
@@ -312,55 +313,58 @@ entry-counts : (seen l n g d rest o m : ℕ) → capped (0 + g) ≡ o → capped
 entry-counts seen l n g d rest o m p q = rw (counts seen g o p) (omega (arith, q))
 
 -- k entries of the block s with the groups gs.
-module _ (l pool : List ℕ) (s : Shape) (gs : Groups) where
-  abbrev pub entriesIs : ℕ → ℕ → Result (Values × ℕ)
-  entriesIs k i = judgeEntries l pool k (judgeBlock l pool s (judgeGroups l pool gs)) i
+abbrev pub entriesIs : List ℕ → List ℕ → Shape → Groups → ℕ → ℕ → Result (Values × ℕ)
+entriesIs l pool s gs k i = judgeEntries l pool k (judgeBlock l pool s (judgeGroups l pool gs)) i
 
+entries-step : (l pool : List ℕ) (s : Shape) (gs : Groups) (k i : ℕ) → 0 < k → entriesIs l pool s gs k i
+    ≡ (judgeBlock l pool s (judgeGroups l pool gs) i >>= λ e. entriesIs l pool s gs (k - 1) (e .3)
+    >>= λ r. done (entry (e .0) (e .1) (e .2) (r .0), r .1))
+unfolding judgeEntries
+entries-step l pool s gs k i h = rw (some-left h, one-less) refl
+
+module _ (counted : Bool) (l pool : List ℕ) (s : Shape) (gs : Groups) where
   -- The last k of `all` entries: of those before them `seen` octets of groups and data were counted.
   abbrev pub lastIs : ℕ → ℕ → ℕ → ℕ → Judged
-  lastIs all seen k i = judged (rowEnd s gs (seen + s .length * (all - k))) (entriesIs k i)
+  lastIs all seen k i = judged (rowEnd counted s gs (seen + s .length * (all - k))) (entriesIs l pool s gs k i)
 
-  pub entries-all : (k i : ℕ) → judged (rowEnd s gs 0) (entriesIs k i) ≡ lastIs k 0 k i
+  pub entries-all : (k i : ℕ) → judged (rowEnd counted s gs 0) (entriesIs l pool s gs k i) ≡ lastIs k 0 k i
   entries-all k i = rw (sub-self, mul-zero) refl
-
-  entries-step : (k i : ℕ) → 0 < k → entriesIs k i
-      ≡ (judgeBlock l pool s (judgeGroups l pool gs) i >>= λ e. entriesIs (k - 1) (e .3)
-      >>= λ r. done (entry (e .0) (e .1) (e .2) (r .0), r .1))
-  unfolding judgeEntries
-  entries-step k i h = rw (some-left h, one-less) refl
 
   module _ (all seen k i : ℕ) where
     pub entries-end : k ≤ 0 → lastIs all seen k i ≡ To i (capped (seen + s .length * all))
     unfolding judgeEntries rowLength
-    entries-end h = rw (none-left h, sub-zero) (reached (rowEnd s gs _) (nil, i) refl (omega arith))
+    entries-end h = rw (none-left h, sub-zero) (reached (rowEnd counted s gs _) (nil, i) refl (omega arith))
 
     module _ (h : 0 < k) where
       pub entry-fields : (z : Refusal) → Refused z ≡ judged fieldsEnd (judgeFields l pool (s .fields) i)
           → lastIs all seen k i ≡ Refused z
       unfolding judgeBlock judged _>>=_
-      entry-fields z e = rw (entries-step k i h, inv-refused fieldsEnd (judgeFields l pool (s .fields) i) z e) refl
+      entry-fields z e =
+          let r = inv-refused fieldsEnd (judgeFields l pool (s .fields) i) z e in
+          rw (entries-step l pool s gs k i h, r) refl
 
       module _ (x u : ℕ) (f : To x u ≡ judged fieldsEnd (judgeFields l pool (s .fields) i)) where
         fielded : Reached fieldsEnd (judgeFields l pool (s .fields) i) x u
         fielded = inv-to fieldsEnd _ x u f
 
-        pub entry-row : (z : Refusal) → Refused z ≡ judged (rowEnd s gs 0) (judgeGroups l pool gs x)
+        pub entry-row : (z : Refusal) → Refused z ≡ judged (rowEnd counted s gs 0) (judgeGroups l pool gs x)
             → lastIs all seen k i ≡ Refused z
         unfolding judgeBlock judged _>>=_
         entry-row z e =
-            let r = inv-refused (rowEnd s gs 0) (judgeGroups l pool gs x) z e in
-            rw (entries-step k i h, goes-on fielded, fielded .next, r) refl
+            let r = inv-refused (rowEnd counted s gs 0) (judgeGroups l pool gs x) z e in
+            rw (entries-step l pool s gs k i h, goes-on fielded, fielded .next, r) refl
 
-        module _ (y o : ℕ) (g : To y o ≡ judged (rowEnd s gs 0) (judgeGroups l pool gs x)) where
-          grouped : Reached (rowEnd s gs 0) (judgeGroups l pool gs x) y o
-          grouped = inv-to (rowEnd s gs 0) _ y o g
+        module _ (y o : ℕ) (g : To y o ≡ judged (rowEnd counted s gs 0) (judgeGroups l pool gs x)) where
+          grouped : Reached (rowEnd counted s gs 0) (judgeGroups l pool gs x) y o
+          grouped = inv-to (rowEnd counted s gs 0) _ y o g
 
           pub entry-datas : (z : Refusal) → Refused z ≡ judged (datasEnd 0) (judgeDatas l pool (s .datas) y)
               → lastIs all seen k i ≡ Refused z
           unfolding judgeBlock judged _>>=_
           entry-datas z e =
               let r = inv-refused (datasEnd 0) (judgeDatas l pool (s .datas) y) z e in
-              rw (entries-step k i h, goes-on fielded, fielded .next, goes-on grouped, grouped .next, r) refl
+              rw (entries-step l pool s gs k i h, goes-on fielded, fielded .next, goes-on grouped, grouped .next, r)
+              refl
 
           pub entry-next : k ≤ all → (z m : ℕ) → To z m ≡ judged (datasEnd 0) (judgeDatas l pool (s .datas) y)
               → lastIs all seen k i ≡ lastIs all (capped (capped (seen + o) + m)) (k - 1) z
@@ -370,7 +374,7 @@ module _ (l pool : List ℕ) (s : Shape) (gs : Groups) where
               let n : all - (k - 1) ≡ all - k + 1 = omega arith in
               rw (
                 n,
-                entries-step k i h,
+                entries-step l pool s gs k i h,
                 goes-on fielded,
                 fielded .next,
                 goes-on grouped,
@@ -392,21 +396,24 @@ module _ (l pool : List ℕ) (s : Shape) (gs : Groups) where
 
 -- ---- groups in a row
 
-module _ (l pool : List ℕ) (s : Shape) (seen : ℕ) where
+module _ (counted : Bool) (l pool : List ℕ) (s : Shape) (seen : ℕ) where
   pub row-end : (gs : Groups) (i : ℕ) → gs ≡ none → seen ≤ limit
-      → judged (rowEnd s gs seen) (judgeGroups l pool gs i) ≡ To i seen
+      → judged (rowEnd counted s gs seen) (judgeGroups l pool gs i) ≡ To i seen
   unfolding judgeGroups rowLength
-  row-end gs i e b = rw e (reached (rowEnd s none seen) (nil, i) refl (omega arith))
+  row-end gs i e b = rw e (reached (rowEnd counted s none seen) (nil, i) refl (omega arith))
 
   -- gs is a group with the block b and the groups `inner`, and then `rest`.
   module _ (gs : Groups) (id since : ℕ) (b : Shape) (inner rest : Groups) (is : gs ≡ more id since b inner rest)
       (i : ℕ) where
-    pub row-other : isGroup l i ≡ false → judged (rowEnd s gs seen) (judgeGroups l pool gs i) ≡ Refused (refusal 51 i)
+    abbrev rowJudged : Judged
+    rowJudged = judged (rowEnd counted s gs seen) (judgeGroups l pool gs i)
+
+    pub row-other : isGroup l i ≡ false → rowJudged ≡ Refused (refusal 51 i)
     unfolding judgeGroups judged must _>>=_
     row-other h = rw (is, h) refl
 
     module _ (h : isGroup l i ≡ true) (k : ℕ) (e : k ≡ second l i) where
-      pub row-many : null16 ≤ k → judged (rowEnd s gs seen) (judgeGroups l pool gs i) ≡ Refused (refusal 54 i)
+      pub row-many : null16 ≤ k → rowJudged ≡ Refused (refusal 54 i)
       unfolding judgeGroups judged must _>>=_
       row-many m = rw (is, h, le-ltb (second l i) null16 (rw e at m)) refl
 
@@ -418,16 +425,18 @@ module _ (l pool : List ℕ) (s : Shape) (seen : ℕ) where
             let q : i + 1 ≡ suc i = omega arith in
             rw (is, h, q, lt-ltb (second l i) null16 (rw e at m), bind-done, bind-done, e) refl
 
-        pub row-entries : (z : Refusal) → Refused z ≡ judged (rowEnd b inner 0) (entriesIs l pool b inner k (i + 1))
-            → judged (rowEnd s gs seen) (judgeGroups l pool gs i) ≡ Refused z
-        row-entries z q = rw row-step (stops (rowEnd b inner 0) _ _ _ z q)
+        abbrev entriesJudged : Judged
+        entriesJudged = judged (rowEnd counted b inner 0) (entriesIs l pool b inner k (i + 1))
 
-        pub row-next : (x y : ℕ) → To x y ≡ judged (rowEnd b inner 0) (entriesIs l pool b inner k (i + 1))
-            → judged (rowEnd s gs seen) (judgeGroups l pool gs i)
-            ≡ judged (rowEnd s rest (capped (seen + capped (4 + y)))) (judgeGroups l pool rest x)
+        pub row-entries : (z : Refusal) → Refused z ≡ entriesJudged → rowJudged ≡ Refused z
+        row-entries z q = rw row-step (stops (rowEnd counted b inner 0) _ _ _ z q)
+
+        pub row-next : (x y : ℕ) → To x y ≡ entriesJudged → rowJudged
+            ≡ judged (rowEnd counted s rest (capped (capped (seen + dimensionSize counted) + y)))
+            (judgeGroups l pool rest x)
         unfolding rowLength
         row-next x y q =
-            let r = inv-to (rowEnd b inner 0) _ x y q in
+            let r = inv-to (rowEnd counted b inner 0) _ x y q in
             rw (row-step, goes-on r, r .next, is)
             (ends-as _ _ _ _ λ g. ap (λ (v : ℕ). (g .1, v)) (omega (arith, r .counted)))
 
@@ -435,7 +444,7 @@ module _ (l pool : List ℕ) (s : Shape) (seen : ℕ) where
 
 -- `lastIs` of the block at a.
 abbrev pub lastAt : List ℕ → ℕ → ℕ → List ℕ → List ℕ → ℕ → ℕ → ℕ → ℕ → Judged
-lastAt p depth a l pool all seen k i = lastIs l pool (shapeAt p a) (innerAt p depth a) all seen k i
+lastAt p depth a l pool all seen k i = lastIs (isCounted p) l pool (shapeAt p a) (innerAt p depth a) all seen k i
 
 -- An entry of a block that nothing follows.
 pub plain-next : (p : List ℕ) (depth a : ℕ) (l pool : List ℕ) (all seen k i x u follow : ℕ) → IsBlock p a
@@ -443,7 +452,7 @@ pub plain-next : (p : List ℕ) (depth a : ℕ) (l pool : List ℕ) (all seen k 
     → To x u ≡ judged fieldsEnd (judgeFields l pool (shapeAt p a .fields) i)
     → lastAt p depth a l pool all seen k i ≡ lastAt p depth a l pool all seen (k - 1) x
 plain-next p depth a l pool all seen k i x u follow b w z h m c e =
-    entry-plain l pool (shapeAt p a) (innerAt p depth a) all seen k i h x u e
+    entry-plain (isCounted p) l pool (shapeAt p a) (innerAt p depth a) all seen k i h x u e
     (no-groups-at p depth (manyGroups p a) (groupsFrom p a) (omega (arith, b .follow, w, z)))
     (no-datas-at p (manyDatas p a) (datasFrom p a) (omega (arith, b .follow, w, z)))
     m c
@@ -456,25 +465,25 @@ blocks-fit p a l k b w h =
 
 -- ---- a whole listing
 
-module _ (l pool : List ℕ) (t : Template) where
+module _ (counted : Bool) (l pool : List ℕ) (t : Template) where
   abbrev rootIs : Result (Values × ℕ)
   rootIs = entriesIs l pool (t .shape) (t .groups) 1 0
 
   abbrev listingJudged : Judged
-  listingJudged = judged (listingEnd (t .shape) (t .groups) l) (judgeListing l pool t)
+  listingJudged = judged (listingEnd counted (t .shape) (t .groups) l) (judgeListing l pool t)
 
   -- The root is one entry.
   root-step : judgeListing l pool t ≡ (rootIs >>= λ r. must (eqb (3 * r .1) (length l)) 51 (r .1) >>= λ _. done (r .0))
   unfolding judgeListing judgeEntries _>>=_
   root-step = sym (bind-assoc (judgeBlock l pool (t .shape) (judgeGroups l pool (t .groups)) 0) _ _)
 
-  pub listing-refused : (z : Refusal) → Refused z ≡ judged (rowEnd (t .shape) (t .groups) 0) rootIs
+  pub listing-refused : (z : Refusal) → Refused z ≡ judged (rowEnd counted (t .shape) (t .groups) 0) rootIs
       → listingJudged ≡ Refused z
-  listing-refused z e = rw root-step (stops (rowEnd (t .shape) (t .groups) 0) _ _ _ z e)
+  listing-refused z e = rw root-step (stops (rowEnd counted (t .shape) (t .groups) 0) _ _ _ z e)
 
-  module _ (x k : ℕ) (e : To x k ≡ judged (rowEnd (t .shape) (t .groups) 0) rootIs) where
-    rooted : Reached (rowEnd (t .shape) (t .groups) 0) rootIs x k
-    rooted = inv-to (rowEnd (t .shape) (t .groups) 0) rootIs x k e
+  module _ (x k : ℕ) (e : To x k ≡ judged (rowEnd counted (t .shape) (t .groups) 0) rootIs) where
+    rooted : Reached (rowEnd counted (t .shape) (t .groups) 0) rootIs x k
+    rooted = inv-to (rowEnd counted (t .shape) (t .groups) 0) rootIs x k e
 
     pub listing-left : (3 * x ≡ length l → ⊥) → listingJudged ≡ Refused (refusal 51 x)
     unfolding judged must _>>=_
@@ -484,4 +493,4 @@ module _ (l pool : List ℕ) (t : Template) where
     unfolding must _>>=_
     listing-whole h =
         rw (root-step, goes-on rooted, rooted .next, eq-eqb (3 * x) (length l) h)
-        (reached (listingEnd (t .shape) (t .groups) l) _ (omega arith) (omega (arith, rooted .counted)))
+        (reached (listingEnd counted (t .shape) (t .groups) l) _ (omega arith) (omega (arith, rooted .counted)))

@@ -1,5 +1,6 @@
 -- What judging a part of a listing by a prepared book comes to: the definition's answer, the next record, and the
 -- octets of what was judged, which stop at a limit.
+use mathlib.Core.Bool.{Bool}
 use mathlib.Core.List.{List}
 use Prim.Native.Nat.{ℕ, _+_, _/_, min}
 use lib.ListN.{length}
@@ -46,10 +47,11 @@ fieldsEnd (fs, x) = (x, 0)
 abbrev pub datasEnd : ℕ → List Answer × ℕ → ℕ × ℕ
 datasEnd seen (ds, x) = (x, capped (seen + datasLength ds))
 
-module _ (s : Shape) (gs : Groups) where
+-- `counted`: whether dimensions have four numbers.
+module _ (counted : Bool) (s : Shape) (gs : Groups) where
   abbrev pub rowEnd : ℕ → Values × ℕ → ℕ × ℕ
-  rowEnd seen (r, x) = (x, capped (seen + rowLength s gs r))
+  rowEnd seen (r, x) = (x, capped (seen + rowLength counted s gs r))
 
   -- A whole listing: nothing follows.
   abbrev pub listingEnd : List ℕ → Values → ℕ × ℕ
-  listingEnd l r = (length l / 3, capped (rowLength s gs r))
+  listingEnd l r = (length l / 3, capped (rowLength counted s gs r))

@@ -14,7 +14,7 @@ ghost use Rattle.layout.specs.Writing.{judgeGroups, judgeListing, judgeNumber, 
 ghost use Rattle.layout.specs.Writing.{second, textFits, third};
 ghost use Rattle.prepared.specs.Books.{templateAt};
 ghost use Rattle.prepared.specs.Names.{hasLists};
-ghost use Rattle.prepared.specs.Positions.{BlockAt, IsBlock, IsField, fieldAt, innerAt, shapeAt};
+ghost use Rattle.prepared.specs.Positions.{BlockAt, IsBlock, IsField, fieldAt, innerAt, isCounted, shapeAt};
 ghost use Rattle.judges.specs.Judges.{capped, datasEnd, entriesAt, fieldEnd, fieldsEnd, judged};
 ghost use Rattle.judges.specs.Judges.{limit, listingEnd, octetsEnd, rowEnd};
 
@@ -315,7 +315,8 @@ fn judge_entries(
     start: usize,
 ) -> Judged
     requires { ⌜ BlockAt (now (now p)) depth a × (k ≤ 65535) ⌝ }
-    ensures { λ r. ⌜ r ≡ judged (rowEnd (shapeAt (now (now (p .entry))) a) (innerAt (now (now (p .entry))) depth a) 0)
+    ensures { λ r. ⌜ r ≡ judged (rowEnd (isCounted (now (now (p .entry)))) (shapeAt (now (now (p .entry))) a)
+        (innerAt (now (now (p .entry))) depth a) 0)
         (entriesAt (now (now (p .entry))) depth a (now (now (listing .entry))) (now (now (pool .entry))) k start) ⌝ }
 {
     let s = *p;
@@ -366,7 +367,8 @@ fn judge_row(
     start: usize,
 ) -> Judged
     requires { ⌜ BlockAt (now (now p)) depth a ⌝ }
-    ensures { λ r. ⌜ r ≡ judged (rowEnd (shapeAt (now (now (p .entry))) a) (innerAt (now (now (p .entry))) depth a) 0)
+    ensures { λ r. ⌜ r ≡ judged (rowEnd (isCounted (now (now (p .entry)))) (shapeAt (now (now (p .entry))) a)
+        (innerAt (now (now (p .entry))) depth a) 0)
         (judgeGroups (now (now (listing .entry))) (now (now (pool .entry))) (innerAt (now (now (p .entry))) depth a)
         start) ⌝ }
 {
@@ -391,7 +393,7 @@ fn judge_row(
             return entries;
         };
         i = next;
-        seen = plus(seen, plus(4, length));
+        seen = plus(plus(seen, prepared::dimension_size(s)), length);
         g = number(s, g + 8);
     }
     Judged::To {
@@ -403,9 +405,9 @@ fn judge_row(
 // A whole listing by the template whose block stands at a: the octets of the message without its header.
 pub fn judge_listing(p: &&[u64], a: usize, listing: &&[u64], pool: &&[u8]) -> Judged
     requires { ⌜ BlockAt (now (now p)) 4 a ⌝ }
-    ensures { λ r. ⌜ r ≡ judged (listingEnd (shapeAt (now (now (p .entry))) a) (innerAt (now (now (p .entry))) 4 a)
-        (now (now (listing .entry)))) (judgeListing (now (now (listing .entry))) (now (now (pool .entry)))
-        (templateAt (now (now (p .entry))) a)) ⌝ }
+    ensures { λ r. ⌜ r ≡ judged (listingEnd (isCounted (now (now (p .entry)))) (shapeAt (now (now (p .entry))) a)
+        (innerAt (now (now (p .entry))) 4 a) (now (now (listing .entry)))) (judgeListing (now (now (listing .entry)))
+        (now (now (pool .entry))) (templateAt (now (now (p .entry))) a)) ⌝ }
 {
     let t = *listing;
     let root = judge_entries(p, a, 4, listing, pool, 1, 0);

@@ -15,11 +15,11 @@ use Rattle.layout.specs.Types.{typeAt}
 use Rattle.layout.specs.Book.{Book, Data, Field, Groups, Shape, Template, end, isArray, more, none, size}
 use Rattle.layout.specs.BookRules.{fieldsGood, groupsGood, layoutGood, lengthGood}
 use Rattle.layout.specs.Values.{Values, entry, group, nil}
-use Rattle.layout.specs.Message.{Entry}
-use Rattle.layout.specs.Writing.{blockOctets, dataOctets, datasLength, entriesIn, fieldOctets, first, headerOf}
-use Rattle.layout.specs.Writing.{judgeBlock, judgeData, judgeDatas, judgeEntries, judgeField, judgeFields}
-use Rattle.layout.specs.Writing.{judgeGroups, judgeListing, messageOctets, numbers16, rowLength, rowOctets}
-use Rattle.layout.specs.Writing.{second, spanOctets, spanOf, third, writtenLength}
+use Rattle.layout.specs.Message.{Entry, countNumbers}
+use Rattle.layout.specs.Writing.{blockOctets, countsOf, dataOctets, datasLength, dimensionOf, entriesIn}
+use Rattle.layout.specs.Writing.{fieldOctets, first, headerOf, judgeBlock, judgeData, judgeDatas, judgeEntries}
+use Rattle.layout.specs.Writing.{judgeField, judgeFields, judgeGroups, judgeListing, messageOctets, numbers16}
+use Rattle.layout.specs.Writing.{rowLength, rowOctets, second, spanOctets, spanOf, third, writtenLength}
 use Rattle.layout.proofs.Said.{ArraySaid, array-said, data-said, null, number-said, plain, text}
 use Rattle.layout.proofs.Fields.{field-good, size-array, size-plain}
 use Rattle.layout.proofs.Results.{and-left, and-right, done-inj, each-way, inv-bind, inv-both}
@@ -122,10 +122,18 @@ module _ (big : Bool) (l pool : List ℕ) where
       )
       (omega (arith, datas-long ds (suc i) (p .other) (p .second))))
 
-  -- ---- rows
+-- ---- rows
 
+-- The counts, where there are any.
+pub counts-long : (counted : Bool) (gs : Groups) (ds : List Data)
+    → length (countsOf counted gs ds) ≡ countNumbers counted
+unfolding countsOf if_then_else_
+counts-long true gs ds = refl
+counts-long false gs ds = refl
+
+module _ (counted big : Bool) (l pool : List ℕ) where
   abbrev Long : Shape → Groups → Values → Type 0
-  Long s gs r = length (rowOctets big pool s gs r) ≡ rowLength s gs r
+  Long s gs r = length (rowOctets counted big pool s gs r) ≡ rowLength counted s gs r
 
   entry-long : (s : Shape) (gs : Groups) (fs : List Answer) (g : Values) (ds : List Answer) (rest : Values)
       → length (blockOctets big pool (s .length) 0 (s .fields) fs) ≡ s .length → Long s gs g
@@ -133,9 +141,9 @@ module _ (big : Bool) (l pool : List ℕ) where
   unfolding rowOctets rowLength
   entry-long s gs fs g ds rest a b c d =
       let xs = blockOctets big pool (s .length) 0 (s .fields) fs in
-      let ys = rowOctets big pool s gs g in
+      let ys = rowOctets counted big pool s gs g in
       rw (
-        length-append (xs ++ (ys ++ dataOctets big pool ds)) (rowOctets big pool s gs rest),
+        length-append (xs ++ (ys ++ dataOctets big pool ds)) (rowOctets counted big pool s gs rest),
         length-append xs (ys ++ dataOctets big pool ds),
         length-append ys (dataOctets big pool ds),
         a,
@@ -154,8 +162,9 @@ module _ (big : Bool) (l pool : List ℕ) where
         let q = inv-both _ _ _ _ (p .next) in
         subst (λ (x : Entry). Long s gs (entry (x .0) (x .1) (x .2) rest)) (q .is)
         (entry-long s gs (p .value .0) (q .value .0) (q .other .0) rest
-        (omega (arith, fields-long (s .fields) (s .length) 0 i (p .value) good (omega arith) (p .first)))
-        (ih (p .value .1) (q .value) (q .first)) (datas-long (s .datas) (q .value .1) (q .other) (q .second)) h)
+        (omega (arith, fields-long big l pool (s .fields) (s .length) 0 i (p .value) good (omega arith) (p .first)))
+        (ih (p .value .1) (q .value) (q .first)) (datas-long big l pool (s .datas) (q .value .1) (q .other)
+        (q .second)) h)
 
     entries-long : (k i : ℕ) (r : Values × ℕ)
         → judgeEntries l pool k (judgeBlock l pool s f) i ≡ done r
@@ -173,10 +182,11 @@ module _ (big : Bool) (l pool : List ℕ) where
       → Long s₀ rest gs → Long s₀ (more i since s inner rest) (group a es gs)
   unfolding rowOctets rowLength
   group-long i since s inner rest s₀ a es gs x y =
-      let d = s .length ∷ entriesIn a ∷ [] in
-      let xs = rowOctets big pool s inner es in
-      let ys = rowOctets big pool s₀ rest gs in
-      rw (length-append (numbers16 big d) (xs ++ ys), length-append xs ys, length-numbers big d, x, y) (omega arith)
+      let d = dimensionOf counted s inner (entriesIn a) in
+      let xs = rowOctets counted big pool s inner es in
+      let ys = rowOctets counted big pool s₀ rest gs in
+      rw (length-append (numbers16 big d) (xs ++ ys), length-append xs ys, length-numbers big d, x, y)
+      (omega (arith, counts-long counted inner (s .datas)))
 
   groups-long : (gs : Groups) (s₀ : Shape) (i : ℕ) (r : Values × ℕ) → groupsGood gs ≡ true
       → judgeGroups l pool gs i ≡ done r → Long s₀ gs (r .0)
@@ -195,16 +205,18 @@ module _ (big : Bool) (l pool : List ℕ) where
 -- The whole message.
 pub written-long : (l pool : List ℕ) (b : Book) (t : Template) (r : Values) → layoutGood t ≡ true
     → judgeListing l pool t ≡ done r
-    → length (messageOctets b t pool r) ≡ writtenLength t r
+    → length (messageOctets b t pool r) ≡ writtenLength b t r
 unfolding judgeListing messageOctets
 written-long l pool b t r g e =
     let big = b .format .big in
     let p = inv-both _ _ _ _ e in
     let x = p .value in
-    let row = rowOctets big pool (t .shape) (t .groups) (entry (x .0) (x .1) (x .2) nil) in
-    let long = block-long big l pool (t .shape) (t .groups) (and-right _ _ (and-left _ _ g))
+    let counted = b .format .inGroups in
+    let row = rowOctets counted big pool (t .shape) (t .groups) (entry (x .0) (x .1) (x .2) nil) in
+    let long = block-long counted big l pool (t .shape) (t .groups) (and-right _ _ (and-left _ _ g))
     (judgeGroups l pool (t .groups))
-    (λ j y z. groups-long big l pool (t .groups) (t .shape) j y (and-right _ _ g) z) 0 x nil (p .first)
+    (λ j y z. groups-long counted big l pool (t .groups) (t .shape) j y (and-right _ _ g) z) 0 x nil (p .first)
     (unfold rowOctets rowLength in refl) in
-    subst (λ (y : Values). length (messageOctets b t pool y) ≡ writtenLength t y) (p .is)
-    (length-append (numbers16 big (headerOf b t)) row ∙ omega (arith, length-numbers big (headerOf b t), long))
+    subst (λ (y : Values). length (messageOctets b t pool y) ≡ writtenLength b t y) (p .is)
+    (length-append (numbers16 big (headerOf b t)) row
+    ∙ omega (arith, length-numbers big (headerOf b t), counts-long true (t .groups) (t .shape .datas), long))

@@ -1,14 +1,14 @@
--- That the definitions and theorems speak of something: B extends A, near misses do not, M could have been written with
--- A, and the readings that look right are shut out.
+-- That the definitions and theorems speak of something: B extends A, and D, whose dimensions have counts, extends C;
+-- near misses do not; M could have been written with A; and the readings that look right are shut out.
 use mathlib.Core.Path.{_≡_, ap, refl, subst, sym}
 use mathlib.Core.Bool.{Bool, false, false≢true, true}
-use mathlib.Core.List.{List, [], _++_, _∷_}
+use mathlib.Core.List.{List, [], _++_, _∷_, map}
 use Prim.Native.Nat.{_<_, _^_, suc, zero, ℕ}
 use native.Mathlib.Omega.{arith}
-use lib.Dec.{eqb}
+use lib.Dec.{eqb, ltb}
 use lib.ListN.{drop, getD, length, take}
-use borrow.Author.Tests.{eq-eqb}
-use Rattle.layout.specs.Result.{Each, _or_, done, if_then_else_, refused}
+use borrow.Author.Tests.{eq-eqb, ltb-true}
+use Rattle.layout.specs.Result.{Each, _and_, _or_, done, if_then_else_, refused}
 use Rattle.layout.specs.Octets.{AllOctets, Numbers64}
 use Rattle.layout.specs.Lists.{KeepsNames, NameList, Names, isOneOf, namesOf, noNames}
 use Rattle.layout.specs.Book.{Book, Data, Field, Format, Groups, Shape, Template, dataSinces, fieldSinces}
@@ -18,14 +18,15 @@ use Rattle.layout.specs.Values.{Values, entry, group, listing, nil}
 use Rattle.layout.specs.Message.{readMessage}
 use Rattle.layout.specs.Reading.{listOf}
 use Rattle.layout.specs.Writing.{writeOf}
-use Rattle.layout.specs.Extension.{AddedGroups, AddsGroups, AllAbove, Extends, ExtendsFields, ExtendsGroups}
-use Rattle.layout.specs.Extension.{ExtendsShape}
+use Rattle.layout.specs.Extension.{AddedGroups, AddsDatas, AddsGroups, AllAbove, Extends, ExtendsFields}
+use Rattle.layout.specs.Extension.{ExtendsGroups, ExtendsShape}
 use Rattle.layout.specs.All.{all}
-use Rattle.layout.specs.Cases.{bigA, bigM, bookA, bookB, bookFew, bookMany, bookT, messageM, messageT, minus5}
-use Rattle.layout.specs.Cases.{with16}
+use Rattle.layout.specs.Cases.{Row, _says_, answer, bigA, bigM, bookA, bookB, bookFew, bookMany, bookT, listed}
+use Rattle.layout.specs.Cases.{messageM, messageT, minus5, with16, words}
 use Rattle.layout.specs.Demands.{AllSound, AsWritten, OtherWay, OwnBlocks, Sound, ZeroPadding, contents, kept}
 use Rattle.layout.specs.Demands.{reordered, row, turned}
 use Rattle.layout.proofs.ListLaws.{or-either}
+use Rattle.layout.proofs.Results.{and-left, and-right}
 use Rattle.layout.specs.declared.Answer.the-variants.{Group, Null, Number, Octets, Unlisted}
 
 -- ---- A and B as trees
@@ -37,8 +38,8 @@ Seventh = ℕ × Names
 abbrev noList : Seventh
 noList = (0, noNames)
 
-abbrev listed : NameList → Seventh
-listed l = (suc (l .id), namesOf l)
+abbrev ofList : NameList → Seventh
+ofList l = (suc (l .id), namesOf l)
 
 abbrev field38 : Seventh → Field
 field38 w = record { id = 38; type = 6; length = 1; offset = 0; presence = 0; since = 0; list = w .0; names = w .1 }
@@ -69,25 +70,29 @@ groupsWith w fs gs = more 453 0 (blockWith w fs) none gs
 abbrev pub templateA : Template
 templateA = record { id = 1; shape = rootWith noList [] []; groups = groupsWith noList [] none }
 
+-- The formats: whether big-endian, and whether dimensions have four numbers.
 abbrev little : Format
-little = record { big = false }
+little = record { big = false; inGroups = false }
 
 abbrev big : Format
-big = record { big = true }
+big = record { big = true; inGroups = false }
 
--- A book of little-endian messages whose only template has this root block and these groups.
-abbrev single : ℕ → List NameList → Shape → Groups → Book
-single version ls s gs =
+abbrev four : Format
+four = record { big = false; inGroups = true }
+
+-- A book whose only template has this root block and these groups.
+abbrev single : Format → ℕ → List NameList → Shape → Groups → Book
+single format version ls s gs =
     record {
       schema = 7;
       version = version;
-      format = little;
+      format = format;
       lists = ls;
       templates = record { id = 1; shape = s; groups = gs } ∷ [];
     }
 
 abbrev pub treeA : Book
-treeA = single 0 [] (templateA .shape) (templateA .groups)
+treeA = single little 0 [] (templateA .shape) (templateA .groups)
 
 -- What B adds.
 abbrev field45 : Field
@@ -103,7 +108,7 @@ shape454 = record {
 
 -- A at version 1 with additions.
 abbrev grown : List Field → List Data → List Field → Groups → Book
-grown fs ds fs′ gs = single 1 [] (rootWith noList fs ds) (groupsWith noList fs′ gs)
+grown fs ds fs′ gs = single little 1 [] (rootWith noList fs ds) (groupsWith noList fs′ gs)
 
 abbrev pub treeB : Book
 treeB = grown (field45 ∷ []) [] [] (more 454 1 shape454 none none)
@@ -119,7 +124,7 @@ B-is = refl
 -- A with lists, as trees.
 abbrev treeL : ℕ → NameList → NameList → Book
 treeL version flags codes =
-    single version (flags ∷ codes ∷ []) (rootWith (listed flags) [] []) (groupsWith (listed codes) [] none)
+    single little version (flags ∷ codes ∷ []) (rootWith (ofList flags) [] []) (groupsWith (ofList codes) [] none)
 
 abbrev flagsOf : List ℕ → NameList
 flagsOf ns = record { id = 2; kind = 1; numbers = ns }
@@ -147,21 +152,21 @@ Many-is = refl
 -- ---- B extends A, as does whatever adds young elements where they may be added, and numbers to lists
 
 -- What it is that such a book extends another.
-record Extended (s s′ : Shape) (gs gs′ : Groups) : Type 0 where
-  shape : ExtendsShape 0 true s s′
-  groups : ExtendsGroups 0 true gs gs′
+record Extended (format : Format) (s s′ : Shape) (gs gs′ : Groups) : Type 0 where
+  shape : ExtendsShape 0 format true s s′
+  groups : ExtendsGroups 0 format true gs gs′
 
-extends : {ls ls′ : List NameList} {s s′ : Shape} {gs gs′ : Groups} → Extended s s′ gs gs′
-    → Extends (single 0 ls s gs) (single 1 ls′ s′ gs′)
+extends : {format : Format} {ls ls′ : List NameList} {s s′ : Shape} {gs gs′ : Groups} → Extended format s s′ gs gs′
+    → Extends (single format 0 ls s gs) (single format 1 ls′ s′ gs′)
 unfolding Each findTemplate if_then_else_
-extends {ls′ = ls′} {s′ = s′} {gs′ = gs′} x =
+extends {format} {ls′ = ls′} {s′ = s′} {gs′ = gs′} x =
     record {
       schema = refl;
       version = omega arith;
       format = refl;
       templates = (
         record {
-          newer = getD (single 1 ls′ s′ gs′ .templates) 0 templateA;
+          newer = getD (single format 1 ls′ s′ gs′ .templates) 0 templateA;
           there = refl;
           shape = x .shape;
           groups = x .groups;
@@ -169,6 +174,9 @@ extends {ls′ = ls′} {s′ = s′} {gs′ = gs′} x =
         tt,
       );
     }
+
+grows : {A : Type 0} → true ≡ false → A
+grows e = absurd (false≢true (sym e))
 
 keeps-none : KeepsNames noNames noNames
 unfolding Each
@@ -181,8 +189,8 @@ grown-extended : (w w′ : ℕ) (flags flags′ codes codes′ : Names)
     → AllAbove 0 (fieldSinces fs)
     → AllAbove 0 (dataSinces ds)
     → AllAbove 0 (fieldSinces fs′)
-    → AddedGroups 0 gs
-    → Extended (rootWith (w, flags) [] []) (rootWith (w, flags′) fs ds) (groupsWith (w′, codes) [] none)
+    → AddedGroups 0 little gs
+    → Extended little (rootWith (w, flags) [] []) (rootWith (w, flags′) fs ds) (groupsWith (w′, codes) [] none)
     (groupsWith (w′, codes′) fs′ gs)
 unfolding Each AddsGroups ExtendsFields ExtendsGroups
 grown-extended w w′ flags flags′ codes codes′ fs ds fs′ gs keepsFlags keepsCodes youngFields youngDatas youngInside
@@ -195,7 +203,7 @@ grown-extended w w′ flags flags′ codes codes′ fs ds fs′ gs keepsFlags ke
           (record { words = refl; names = keeps-none }, youngFields),
         );
         datas = record { added = ds; first = refl; young = youngDatas };
-        inside = λ e. absurd (false≢true (sym e));
+        shut = grows;
       };
       groups = record {
         sameId = refl;
@@ -204,7 +212,7 @@ grown-extended w w′ flags flags′ codes codes′ fs ds fs′ gs keepsFlags ke
           longer = omega arith;
           fields = (record { words = refl; names = keepsCodes }, youngInside);
           datas = record { added = []; first = refl; young = tt };
-          inside = λ e. refl;
+          shut = λ e. refl;
         };
         inner = refl;
         rest = youngGroups;
@@ -215,7 +223,7 @@ pub grown-extends-A : (fs : List Field) (ds : List Data) (fs′ : List Field) (g
     → AllAbove 0 (fieldSinces fs)
     → AllAbove 0 (dataSinces ds)
     → AllAbove 0 (fieldSinces fs′)
-    → AddedGroups 0 gs
+    → AddedGroups 0 little gs
     → Extends treeA (grown fs ds fs′ gs)
 grown-extends-A fs ds fs′ gs youngFields youngDatas youngInside youngGroups =
     extends (grown-extended _ _ _ _ _ _ fs ds fs′ gs keeps-none keeps-none youngFields youngDatas youngInside
@@ -225,7 +233,7 @@ pub B-extends-A : Extends treeA treeB
 unfolding Each AddedGroups
 B-extends-A =
     grown-extends-A _ _ _ _ (omega arith, tt) tt tt
-    (record { young = omega arith; noGroups = refl; noDatas = refl }, tt)
+    (record { young = omega arith; noGroups = λ e. refl; noDatas = λ e. refl }, tt)
 
 lists-extend : (flags flags′ codes codes′ : List ℕ)
     → Each (λ n. isOneOf n flags′ ≡ true) flags
@@ -268,23 +276,24 @@ gained-numbers-extend before after before′ after′ n n′ =
 -- ---- near misses: for each rule trees that break it and no other. They are trees of accepted books, but for those
 -- that the rules of since shut out anyway.
 
-extended : {ls ls′ : List NameList} {s s′ : Shape} {gs gs′ : Groups} → Extends (single 0 ls s gs) (single 1 ls′ s′ gs′)
-    → Extended s s′ gs gs′
+extended : {format : Format} {ls ls′ : List NameList} {s s′ : Shape} {gs gs′ : Groups}
+    → Extends (single format 0 ls s gs) (single format 1 ls′ s′ gs′)
+    → Extended format s s′ gs gs′
 unfolding Each findTemplate if_then_else_
-extended {ls′ = ls′} {s = s} {s′ = s′} {gs = gs} {gs′ = gs′} x =
+extended {format} {ls′ = ls′} {s = s} {s′ = s′} {gs = gs} {gs′ = gs′} x =
     let t = x .templates .0 in
-    let q : t .newer ≡ getD (single 1 ls′ s′ gs′ .templates) 0 templateA = cc in
+    let q : t .newer ≡ getD (single format 1 ls′ s′ gs′ .templates) 0 templateA = cc in
     record {
-      shape = subst (λ (y : Template). ExtendsShape 0 true s (y .shape)) q (t .shape);
-      groups = subst (λ (y : Template). ExtendsGroups 0 true gs (y .groups)) q (t .groups);
+      shape = subst (λ (y : Template). ExtendsShape 0 format true s (y .shape)) q (t .shape);
+      groups = subst (λ (y : Template). ExtendsGroups 0 format true gs (y .groups)) q (t .groups);
     }
 
 -- Another root block over A's groups, and other groups under A's root block.
 abbrev rooted : ℕ → List Field → List Data → Book
-rooted l fs ds = single 1 [] (record { length = l; fields = fs; datas = ds }) (templateA .groups)
+rooted l fs ds = single little 1 [] (record { length = l; fields = fs; datas = ds }) (templateA .groups)
 
 abbrev grouped : Groups → Book
-grouped gs = single 1 [] (templateA .shape) gs
+grouped gs = single little 1 [] (templateA .shape) gs
 
 -- "the schema id is equal"
 pub other-schema : ¬ Extends treeA
@@ -295,10 +304,14 @@ other-schema x = omega (arith, x .schema)
 pub same-version : ¬ Extends treeA treeA
 same-version x = omega (arith, x .version)
 
--- "A legal extension keeps the order"
+-- "A legal extension keeps the order", and "keeps the number" of a dimension's numbers
 pub other-order : ¬ Extends treeA
     (record { schema = 7; version = 1; format = big; lists = []; templates = treeB .templates })
 other-order x = false≢true (ap (λ (f : Format). f .big) (x .format))
+
+pub other-dimensions : ¬ Extends treeA
+    (record { schema = 7; version = 1; format = four; lists = []; templates = treeB .templates })
+other-dimensions x = false≢true (ap (λ (f : Format). f .inGroups) (x .format))
 
 -- "each older template stands in it": the second of two is missing
 abbrev template2 : Template
@@ -335,7 +348,7 @@ unfolding ExtendsFields
 field-in-front x = omega (arith, ap (λ (f : Field). f .id) (extended x .shape .fields .0 .words))
 
 -- the seventh word: a list for a field that had none, and another list of the same kind and numbers
-pub given-list : ¬ Extends treeA (single 1 (flagsOf (3 ∷ []) ∷ []) (rootWith (listed (flagsOf (3 ∷ []))) [] [])
+pub given-list : ¬ Extends treeA (single little 1 (flagsOf (3 ∷ []) ∷ []) (rootWith (ofList (flagsOf (3 ∷ []))) [] [])
     (templateA .groups))
 unfolding ExtendsFields
 given-list x = omega (arith, ap (λ (f : Field). f .list) (extended x .shape .fields .0 .words))
@@ -413,12 +426,14 @@ pub early-field : ¬ Extends treeA (grown (early45 ∷ []) [] [] none)
 unfolding Each ExtendsFields
 early-field x = omega (arith, extended x .shape .fields .1 .1 .0)
 
-pub early-data : ¬ Extends treeA (grown [] (data59 0 ∷ []) [] none)
+never-early : {old new : List Data} (d : AddsDatas 0 old new) → d .added ≡ data59 0 ∷ [] → ⊥
 unfolding Each
+never-early d added = omega (arith, subst (λ (y : List Data). AllAbove 0 (dataSinces y)) added (d .young) .0)
+
+pub early-data : ¬ Extends treeA (grown [] (data59 0 ∷ []) [] none)
 early-data x =
     let d = extended x .shape .datas in
-    let added : d .added ≡ data59 0 ∷ [] = cc in
-    omega (arith, subst (λ (y : List Data). AllAbove 0 (dataSinces y)) added (d .young) .0)
+    never-early d (cc)
 
 pub early-inside : ¬ Extends treeA (grown [] [] (field456 ∷ []) none)
 unfolding Each ExtendsFields ExtendsGroups
@@ -434,7 +449,7 @@ pub data-inside : ¬ Extends treeA
 unfolding ExtendsGroups
 data-inside x =
     let d = extended x .groups .shape in
-    omega (arith, ap length (d .datas .first), ap length (d .inside refl))
+    omega (arith, ap length (d .datas .first), ap length (d .shut refl))
 
 pub group-inside : ¬ Extends treeA
     (grouped (more 453 0 (blockWith noList []) (more 454 1 shape454 none none) none))
@@ -444,26 +459,190 @@ group-inside x = omega (arith, ap (λ (y : Groups). length (groupSinces y)) (ext
 -- "An added root group has no groups and no data": a group in it, and data in the second of two
 pub nested-group : ¬ Extends treeA (grown [] [] [] (more 454 1 shape454 (more 456 1 shape454 none none) none))
 unfolding ExtendsGroups AddsGroups AddedGroups groupSinces
-nested-group x = omega (arith, ap (λ (y : Groups). length (groupSinces y)) (extended x .groups .rest .0 .noGroups))
+nested-group x = omega (arith, ap (λ (y : Groups). length (groupSinces y)) (extended x .groups .rest .0 .noGroups refl))
 
 abbrev shape457 : Shape
 shape457 = record { length = 4; fields = shape454 .fields; datas = data59 1 ∷ [] }
 
 pub group-with-data : ¬ Extends treeA (grown [] [] [] (more 454 1 shape454 none (more 457 1 shape457 none none)))
 unfolding ExtendsGroups AddsGroups AddedGroups
-group-with-data x = omega (arith, ap length (extended x .groups .rest .1 .0 .noDatas))
+group-with-data x = omega (arith, ap length (extended x .groups .rest .1 .0 .noDatas refl))
+
+-- ---- C and D, whose dimensions have four numbers
+
+-- C: a field, and a group of one field.
+abbrev pub bookC : List ℕ
+bookC =
+    words
+    (7 ∷ 0 ∷ 1 ∷ 34 ∷ 0 ∷ 0 ∷ 4
+    ∷ 1 ∷ 10 ∷ 24
+    ∷ 1 ∷ 1 ∷ 1 ∷ 0
+    ∷ 38 ∷ 2 ∷ 1 ∷ 0 ∷ 0 ∷ 0 ∷ 0
+    ∷ 10 ∷ 0 ∷ 1 ∷ 1 ∷ 0 ∷ 0 ∷ 39 ∷ 2 ∷ 1 ∷ 0 ∷ 0 ∷ 0 ∷ 0
+    ∷ [])
+
+-- D extends C at version 1: the group gains data, and a group of one field.
+abbrev pub bookD : List ℕ
+bookD =
+    words
+    (7 ∷ 1 ∷ 1 ∷ 49 ∷ 0 ∷ 0 ∷ 4
+    ∷ 1 ∷ 10 ∷ 39
+    ∷ 1 ∷ 1 ∷ 1 ∷ 0
+    ∷ 38 ∷ 2 ∷ 1 ∷ 0 ∷ 0 ∷ 0 ∷ 0
+    ∷ 10 ∷ 0 ∷ 1 ∷ 1 ∷ 1 ∷ 1 ∷ 39 ∷ 2 ∷ 1 ∷ 0 ∷ 0 ∷ 0 ∷ 0
+    ∷ 59 ∷ 1
+    ∷ 11 ∷ 1 ∷ 1 ∷ 1 ∷ 0 ∷ 0 ∷ 40 ∷ 2 ∷ 1 ∷ 0 ∷ 0 ∷ 1 ∷ 0
+    ∷ [])
+
+-- A message of version 1 with 5 in its root block, before these octets; and a group of one entry 7 that counts so many
+-- groups and data, before these octets.
+abbrev five : List ℕ → List ℕ
+five m = words (1 ∷ 1 ∷ 7 ∷ 1 ∷ 1 ∷ 0 ∷ []) ++ (5 ∷ m)
+
+abbrev seven : ℕ → ℕ → List ℕ → List ℕ
+seven groups datas m = words (1 ∷ 1 ∷ groups ∷ datas ∷ []) ++ (7 ∷ m)
+
+-- D's message: in the entry 7 two entries 8 and 9, and the data ab.
+abbrev pub messageD : List ℕ
+messageD = five (seven 1 1 (words (1 ∷ 2 ∷ 0 ∷ 0 ∷ []) ++ (8 ∷ 9 ∷ 2 ∷ 0 ∷ 0x61 ∷ 0x62 ∷ [])))
+
+-- One of another extension of C, where the entries 8 and 9 have data.
+abbrev pub messageE : List ℕ
+messageE = five (seven 1 0 (words (1 ∷ 2 ∷ 0 ∷ 1 ∷ []) ++ (8 ∷ 1 ∷ 0 ∷ 0x61 ∷ 9 ∷ 0 ∷ 0 ∷ [])))
+
+-- Groups down to depth three in entries that each count one, before these octets.
+abbrev deep : List ℕ → List ℕ
+deep m = five (seven 1 0 (seven 1 0 (seven 1 0 m)))
+
+unfoldable pub countedTable : List Row
+countedTable =
+    (listed bookD messageD says
+    done (0 ∷ 5 ∷ 0 ∷ 4 ∷ 1 ∷ 0 ∷ 0 ∷ 7 ∷ 0 ∷ 4 ∷ 2 ∷ 0 ∷ 0 ∷ 8 ∷ 0 ∷ 0 ∷ 9 ∷ 0 ∷ 2 ∷ 34 ∷ 2 ∷ []))
+    -- "surplus groups are skipped depth first by their own counts"
+    ∷ (listed bookC messageD says done (0 ∷ 5 ∷ 0 ∷ 4 ∷ 1 ∷ 0 ∷ 0 ∷ 7 ∷ 0 ∷ []))
+    ∷ (listed bookC messageE says done (0 ∷ 5 ∷ 0 ∷ 4 ∷ 1 ∷ 0 ∷ 0 ∷ 7 ∷ 0 ∷ []))
+    ∷ (listed bookC (take 35 messageD) says refused 16 32)
+    ∷ (listed bookC (take 31 messageD) says refused 16 22)
+    -- "17 covers all four numbers"
+    ∷ (listed bookC (with16 messageD 17 65535) says refused 17 13)
+    ∷ (listed bookC (with16 messageD 19 65535) says refused 17 13)
+    ∷ (listed bookC (with16 messageD 26 65535) says refused 17 22)
+    -- "the header's rule on counts holds for every known group, empty or not", "after 18": version 0 with D's counts
+    ∷ (listed bookC (with16 (with16 messageD 6 0) 19 0) says refused 21 13)
+    ∷ (listed bookC (with16 (with16 messageD 6 0) 17 0) says refused 21 13)
+    ∷ (listed bookC (with16 (with16 messageD 6 0) 15 0) says refused 21 13)
+    ∷ (listed bookC (with16 (with16 messageD 6 0) 13 0) says refused 18 13)
+    -- "22 for any group on the wire below depth four", after its 16 and 17: one at depth four may count groups
+    ∷ (listed bookC (deep (words (1 ∷ 0 ∷ 1 ∷ 0 ∷ []))) says done (0 ∷ 5 ∷ 0 ∷ 4 ∷ 1 ∷ 0 ∷ 0 ∷ 7 ∷ 0 ∷ []))
+    ∷ (listed bookC (deep (seven 1 0 (seven 0 0 []))) says refused 22 49)
+    ∷ (listed bookC (deep (seven 1 0 (1 ∷ []))) says refused 16 49)
+    -- "2 also for a word other than 2 and 4"; only with four data and groups inside a group may be younger than it
+    ∷ (listed (with16 bookC 12 3) messageD says refused 2 0)
+    ∷ (listed (with16 bookD 12 2) messageD says refused 6 0)
+    ∷ []
+
+pub counts-hold : map (λ (r : Row). answer (r .case)) countedTable ≡ map (λ (r : Row). r .says) countedTable
+unfolding all countedTable
+counts-hold = refl
+
+-- A field of one octet with this id and since, and a block of it.
+abbrev byte : ℕ → ℕ → Field
+byte id since =
+    record { id = id; type = 2; length = 1; offset = 0; presence = 0; since = since; list = 0; names = noNames }
+
+abbrev octet : ℕ → ℕ → List Data → Shape
+octet id since ds = record { length = 1; fields = byte id since ∷ []; datas = ds }
+
+abbrev pub treeC : Book
+treeC = single four 0 [] (octet 38 0 []) (more 10 0 (octet 39 0 []) none none)
+
+-- C at version 1 with additions: data and groups inside the group, and root groups.
+abbrev grownC : List Data → Groups → Groups → Book
+grownC ds inner gs = single four 1 [] (octet 38 0 []) (more 10 0 (octet 39 0 ds) inner gs)
+
+abbrev pub templateC : Template
+templateC = getD (treeC .templates) 0 templateA
+
+abbrev pub treeD : Book
+treeD = grownC (data59 1 ∷ []) (more 11 1 (octet 40 1 []) none none) none
+
+abbrev pub templateD : Template
+templateD = getD (treeD .templates) 0 templateA
+
+pub C-is : bookOf bookC ≡ done treeC
+unfolding all
+C-is = refl
+
+pub D-is : bookOf bookD ≡ done treeD
+unfolding all
+D-is = refl
+
+-- "a legal extension .. may add groups, nested ones too, and data at the end of any block's lists"
+octet-grown : (id since : ℕ) (ds : List Data) → AllAbove 0 (dataSinces ds)
+    → ExtendsShape 0 four true (octet id since []) (octet id since ds)
+unfolding Each ExtendsFields
+octet-grown id since ds young =
+    record {
+      longer = omega arith;
+      fields = (record { words = refl; names = keeps-none }, tt);
+      datas = record { added = ds; first = refl; young = young };
+      shut = grows;
+    }
+
+pub grown-extends-C : (ds : List Data) (inner gs : Groups) → AllAbove 0 (dataSinces ds)
+    → AddedGroups 0 four inner
+    → AddedGroups 0 four gs
+    → Extends treeC (grownC ds inner gs)
+unfolding Each AddsGroups ExtendsGroups
+grown-extends-C ds inner gs youngDatas youngInner youngGroups =
+    extends (record {
+      shape = octet-grown 38 0 [] tt;
+      groups = record {
+        sameId = refl;
+        sameSince = refl;
+        shape = octet-grown 39 0 ds youngDatas;
+        inner = youngInner;
+        rest = youngGroups;
+      };
+    })
+
+pub D-extends-C : Extends treeC treeD
+unfolding Each AddedGroups
+D-extends-C =
+    grown-extends-C _ _ _ (omega arith, tt)
+    (record { young = omega arith; noGroups = λ e. refl; noDatas = λ e. refl }, tt) tt
+
+-- So may an added group have groups and data.
+pub rich-group : (s : Shape) (inner : Groups) → Extends treeC (grownC [] none (more 12 1 s inner none))
+unfolding Each AddedGroups
+rich-group s inner = grown-extends-C _ _ _ tt tt (record { young = omega arith; noGroups = grows; noDatas = grows }, tt)
+
+-- Near misses: data and a group inside that are not young.
+pub early-data-inside : ¬ Extends treeC (grownC (data59 0 ∷ []) none none)
+unfolding ExtendsGroups
+early-data-inside x =
+    let d = extended x .groups .shape .datas in
+    never-early d (cc)
+
+pub early-group-inside : ¬ Extends treeC (grownC [] (more 11 0 (octet 40 0 []) none none) none)
+unfolding ExtendsGroups AddsGroups AddedGroups
+early-group-inside x = omega (arith, extended x .groups .inner .0 .young)
 
 -- ---- M could have been written with A, and is written back
 
-all-below : (k : ℕ) (s : List ℕ) → 0 < k → Each (λ x. x < k) s → (i : ℕ) → getD s i 0 < k
-unfolding Each
+unfoldable below : ℕ → List ℕ → Bool
+below k [] = true
+below k (x ∷ s) = ltb x k and below k s
+
+all-below : (k : ℕ) (s : List ℕ) → 0 < k → below k s ≡ true → (i : ℕ) → getD s i 0 < k
+unfolding below
 all-below k [] z h i = z
-all-below k (x ∷ s) z h zero = h .0
-all-below k (x ∷ s) z h (suc i) = all-below k s z (h .1) i
+all-below k (x ∷ s) z h zero = ltb-true x k (and-left _ _ h)
+all-below k (x ∷ s) z h (suc i) = all-below k s z (and-right _ _ h) i
 
 pub M-octets : AllOctets messageM
-unfolding Each
-M-octets = all-below 256 messageM (omega arith) (omega arith)
+unfolding all below
+M-octets = all-below 256 messageM (omega arith) refl
 
 unfoldable pub valuesM : Values
 valuesM =
@@ -472,8 +651,8 @@ valuesM =
     (Octets 30 2 ∷ []) nil
 
 pub M-numbers : Numbers64 (listing valuesM)
-unfolding all valuesM Each
-M-numbers = all-below (2 ^ 64) (listing valuesM) (omega arith) (omega arith)
+unfolding all valuesM below
+M-numbers = all-below (2 ^ 64) (listing valuesM) (omega arith) refl
 
 pub M-is : readMessage treeA messageM ≡ done valuesM
 unfolding all valuesM
@@ -528,6 +707,57 @@ unlisted-not-as-written a = a .sound .0 .0
 pub kind-6-not-written : writeOf bookFew 1 (6 ∷ 1000 ∷ 0 ∷ []) messageM 32 ≡ refused 51 0
 unfolding all
 kind-6-not-written = refl
+
+-- So could D's message with D, and is written back.
+pub messageD-octets : AllOctets messageD
+unfolding all below
+messageD-octets = all-below 256 messageD (omega arith) refl
+
+unfoldable pub valuesD : Values
+valuesD =
+    entry (Number 5 ∷ [])
+    (group (Group 1)
+    (entry (Number 7 ∷ []) (group (Group 2) (entry (Number 8 ∷ []) nil [] (entry (Number 9 ∷ []) nil [] nil)) nil)
+    (Octets 34 2 ∷ []) nil)
+    nil)
+    [] nil
+
+pub messageD-numbers : Numbers64 (listing valuesD)
+unfolding all valuesD below
+messageD-numbers = all-below (2 ^ 64) (listing valuesD) (omega arith) refl
+
+pub messageD-is : readMessage treeD messageD ≡ done valuesD
+unfolding all valuesD
+messageD-is = refl
+
+pub messageD-as-written : AsWritten treeD templateD messageD valuesD
+unfolding all valuesD Each ZeroPadding OwnBlocks Sound AllSound
+messageD-as-written =
+    record {
+      version = refl;
+      length = refl;
+      blocks = (
+        (refl, refl),
+        (no-text, tt),
+        (
+          refl,
+          (
+            (refl, refl),
+            (no-text, tt),
+            (refl, ((refl, refl), (no-text, tt), tt, ((refl, refl), (no-text, tt), tt, tt)), tt),
+            tt,
+          ),
+          tt,
+        ),
+        tt,
+      );
+      sound = ((tt, tt), (((tt, tt), (((tt, tt), tt, ((tt, tt), tt, tt)), tt), tt), tt), tt);
+    }
+
+-- "The written length has 8 per group record."
+pub messageD-written-back : writeOf bookD 1 (listing valuesD) messageD 36 ≡ done messageD
+unfolding all valuesD
+messageD-written-back = refl
 
 -- ---- text
 

@@ -7,9 +7,10 @@ use Rattle.layout.specs.Book.{findTemplate, needAfter, groupSinces, pres
 use Rattle.layout.specs.BookRules.{parseFields, parseDatas, parseShape, parseGroups, parseBody, climbing}
 use Rattle.layout.specs.BookRules.{kindGood, fieldsGood, groupsGood, rising, fieldsSince, groupsSince}
 use Rattle.layout.specs.BookRules.{parseContents, contentsEnd, checkContents, parseBodies, eachMust, bookOf}
+use Rattle.layout.specs.BookRules.{youngest}
 use Rattle.layout.specs.Values.{recordOf, recordsOf, listing, measure, groupOf, entriesOf, entriesFrom}
 use Rattle.layout.specs.Values.{groupsIn, elementOf, elementIn, answerAt}
-use Rattle.layout.specs.Message.{readData, skipDatas, readDimension, skipGroups, readEntries, readField}
+use Rattle.layout.specs.Message.{inRow, readData, readDimension, skipEntry, skipGroup, readEntries, readField}
 use Rattle.layout.specs.Message.{arrayAt, readDatas, readBlock, readGroup, readGroups, headerWhole, checkHeader}
 use Rattle.layout.specs.Message.{countGood, surplusOf, readWhole, readRoot, readMessage}
 use Rattle.layout.specs.Reading.{checkOf, listOf, hasElement, groupHas, hasPlace, placeAsked, placeBy, placeOf}
@@ -17,7 +18,7 @@ use Rattle.layout.specs.Reading.{stepsOf, wholeSteps}
 use Rattle.layout.specs.Writing.{judgeOctets, judgeNumber, judgeFields, judgeDatas, judgeEntries, judgeBlock}
 use Rattle.layout.specs.Writing.{judgeGroups, judgeListing, numbers16, spanOf, entriesIn, fieldOctets}
 use Rattle.layout.specs.Writing.{blockOctets, dataOctets, rowOctets, messageOctets, datasLength, rowLength}
-use Rattle.layout.specs.Writing.{writeOf, judgeNull, judgeArray}
+use Rattle.layout.specs.Writing.{writeOf, judgeNull, judgeArray, countsOf}
 
 unfoldable pub all : Unit {0}
 unfolding
@@ -27,11 +28,12 @@ unfolding
     findNames isOneOf onlyBits isListed beside
     findTemplate needAfter groupSinces present
     parseFields parseDatas parseShape parseGroups parseBody climbing kindGood fieldsGood groupsGood rising
-    fieldsSince groupsSince parseContents contentsEnd checkContents parseBodies eachMust bookOf
+    fieldsSince youngest groupsSince parseContents contentsEnd checkContents parseBodies eachMust bookOf
     recordOf recordsOf listing measure groupOf entriesOf entriesFrom groupsIn elementOf elementIn answerAt
-    readData skipDatas readDimension skipGroups readEntries arrayAt readField readDatas readBlock readGroup readGroups
-    headerWhole checkHeader countGood surplusOf readWhole readRoot readMessage
+    countGood inRow readData readDimension skipEntry skipGroup readEntries arrayAt readField readDatas readBlock
+    readGroup readGroups headerWhole checkHeader surplusOf readWhole readRoot readMessage
     checkOf listOf hasElement groupHas hasPlace placeAsked placeOf stepsOf wholeSteps placeBy
     judgeOctets judgeNumber judgeNull judgeArray judgeFields judgeDatas judgeEntries judgeBlock judgeGroups judgeListing
-    numbers16 spanOf entriesIn fieldOctets blockOctets dataOctets rowOctets messageOctets datasLength rowLength writeOf
+    numbers16 spanOf entriesIn countsOf fieldOctets blockOctets dataOctets rowOctets messageOctets datasLength rowLength
+    writeOf
 all = tt

@@ -5,7 +5,7 @@ use mathlib.Core.List.{List, [], _∷_, map}
 use Prim.Native.Nat.{ℕ, zero, suc, _+_, _-_, _*_, _%_}
 use lib.Dec.{leb, ltb, eqb}
 use lib.ListN.{length, getD, take, drop}
-use Rattle.layout.specs.Result.{Result, done, refused, _>>=_, must, asRefusal, _and_, _or_}
+use Rattle.layout.specs.Result.{Result, done, refused, _>>=_, must, asRefusal, _and_, _or_, if_then_else_}
 use Rattle.layout.specs.Octets.{wordsOf, null16}
 use Rattle.layout.specs.Types.{typeAt}
 use Rattle.layout.specs.Lists.{Kind, NameList, enumeration, findNames, free, isOneOf, missing, set}
@@ -136,25 +136,32 @@ unfoldable pub rising : ℕ → ℕ → List ℕ → Bool
 rising high low [] = true
 rising high low (s ∷ ss) = leb low s and leb s high and rising high s ss
 
--- The elements of a block have sinces from `low` to `high`, but for the fields after its first, which may be younger.
--- In the root these are 0 and the version; in a group both are its own since: "its first field's since is the group's
--- own; data and groups inside a group have the since of that group".
+-- The first field of a block has a since from `low` to `high`, those after it may be younger. In the root these are 0
+-- and the version; in a group both are its own since: "its first field's since is the group's own".
 unfoldable pub fieldsSince : ℕ → ℕ → ℕ → List ℕ → Bool
 fieldsSince version low high [] = true
 fieldsSince version low high (s ∷ ss) = leb low s and leb s high and rising version s ss
 
-abbrev pub shapeSince : ℕ → ℕ → ℕ → Shape → Bool
-shapeSince version low high s =
-    fieldsSince version low high (fieldSinces (s .fields)) and rising high low (dataSinces (s .datas))
+-- The block's data have sinces from `low` to `top`.
+abbrev pub shapeSince : ℕ → ℕ → ℕ → ℕ → Shape → Bool
+shapeSince version low high top s =
+    fieldsSince version low high (fieldSinces (s .fields)) and rising top low (dataSinces (s .datas))
 
-unfoldable pub groupsSince : ℕ → ℕ → ℕ → Groups → Bool
-groupsSince version low high none = true
-groupsSince version low high (more i since s inner rest) =
-    leb low since and leb since high and shapeSince version since since s and groupsSince version since since inner
-    and groupsSince version since high rest
+-- How young data and groups inside a group may be: "data and groups inside a group have the since of that group"; with
+-- four-number dimensions they "may then have a since at or above the group's".
+unfoldable pub youngest : Bool → ℕ → ℕ → ℕ
+youngest counted version since = if counted then version else since
 
-abbrev pub sinceGood : ℕ → Template → Bool
-sinceGood version t = shapeSince version 0 version (t .shape) and groupsSince version 0 version (t .groups)
+unfoldable pub groupsSince : Bool → ℕ → ℕ → ℕ → Groups → Bool
+groupsSince counted version low high none = true
+groupsSince counted version low high (more i since s inner rest) =
+    leb low since and leb since high and shapeSince version since since (youngest counted version since) s
+    and groupsSince counted version since (youngest counted version since) inner
+    and groupsSince counted version since high rest
+
+abbrev pub sinceGood : Bool → ℕ → Template → Bool
+sinceGood counted version t =
+    shapeSince version 0 version version (t .shape) and groupsSince counted version 0 version (t .groups)
 
 -- ---- 1, 2 and 3, and the whole book
 
@@ -195,9 +202,9 @@ eachMust f n t [] = done tt
 eachMust f n t (x ∷ xs) = must (f x) n t >>= λ _. eachMust f n (suc t) xs
 
 -- "Head, four words: schema id, schema version, number of templates (1 to 64), number of words in the book"; "The head
--- gains a fifth word, the number of lists", and "a sixth word, 0 little or 1 big".
+-- gains a fifth word, the number of lists", "a sixth word, 0 little or 1 big", and "a further head word, 2 or 4".
 abbrev pub headSize : ℕ
-headSize = 6
+headSize = 7
 
 abbrev pub contentsSize : List ℕ → ℕ
 contentsSize b = 3 * (word b 2 + word b 4)
@@ -219,9 +226,10 @@ abbrev pub headGood : List ℕ → Bool
 headGood b =
     eqb (word b 3) (length b) and ltb (word b 0) null16 and ltb (word b 1) null16
     and leb 1 (word b 2) and leb (word b 2) 64 and leb (word b 5) 1 and leb (headSize + contentsSize b) (length b)
+    and (eqb (word b 6) 2 or eqb (word b 6) 4)
 
 abbrev pub formatOf : List ℕ → Format
-formatOf b = record { big = eqb (word b 5) 1 }
+formatOf b = record { big = eqb (word b 5) 1; inGroups = eqb (word b 6) 4 }
 
 -- "1: book octets odd, under 8 or over 8,192"
 abbrev pub sizeGood : List ℕ → Bool
@@ -242,8 +250,9 @@ bookOf octets = do
   _ ← must (headGood b) 2 0
   _ ← checkContents b
   let ls = listsOf b
+  let format = formatOf b
   ts ← parseBodies ls b 0 (templateRows b)
   _ ← eachMust listGood 4 (word b 2) ls
   _ ← eachMust layoutGood 5 0 ts
-  _ ← eachMust (sinceGood (word b 1)) 6 0 ts
-  done (record { schema = word b 0; version = word b 1; format = formatOf b; lists = ls; templates = ts })
+  _ ← eachMust (sinceGood (format .inGroups) (word b 1)) 6 0 ts
+  done (record { schema = word b 0; version = word b 1; format = format; lists = ls; templates = ts })

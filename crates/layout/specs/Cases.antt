@@ -17,14 +17,15 @@ abbrev pub words : List ℕ → List ℕ
 words [] = []
 words (w ∷ ws) = w % 256 ∷ w / 256 ∷ words ws
 
+-- "01's cases are recast with each new word."
 -- "Book A (37 words): head 7 0 1 37; contents 1 7 30; block 8 2 1 1; fields 38 6 1 0 0 0 and 44 3 1 4 1 0; data 58 0;
 -- group 453 0, block 2 1 0 0, field 452 2 1 0 0 0", recast "with each new word": the head's fifth, a field's seventh,
--- and the order as the head's sixth.
+-- the order and the numbers of a dimension.
 abbrev pub orderedA : ℕ → List ℕ
 orderedA order =
     words
-    (7 ∷ 0 ∷ 1 ∷ 42 ∷ 0 ∷ order
-    ∷ 1 ∷ 9 ∷ 33
+    (7 ∷ 0 ∷ 1 ∷ 43 ∷ 0 ∷ order ∷ 2
+    ∷ 1 ∷ 10 ∷ 33
     ∷ 8 ∷ 2 ∷ 1 ∷ 1
     ∷ 38 ∷ 6 ∷ 1 ∷ 0 ∷ 0 ∷ 0 ∷ 0
     ∷ 44 ∷ 3 ∷ 1 ∷ 4 ∷ 1 ∷ 0 ∷ 0
@@ -43,8 +44,8 @@ bigA = orderedA 1
 abbrev pub bookB : List ℕ
 bookB =
     words
-    (7 ∷ 1 ∷ 1 ∷ 62 ∷ 0 ∷ 0
-    ∷ 1 ∷ 9 ∷ 53
+    (7 ∷ 1 ∷ 1 ∷ 63 ∷ 0 ∷ 0 ∷ 2
+    ∷ 1 ∷ 10 ∷ 53
     ∷ 8 ∷ 3 ∷ 2 ∷ 1
     ∷ 38 ∷ 6 ∷ 1 ∷ 0 ∷ 0 ∷ 0 ∷ 0
     ∷ 44 ∷ 3 ∷ 1 ∷ 4 ∷ 1 ∷ 0 ∷ 0
@@ -58,10 +59,10 @@ bookB =
 abbrev pub bookL : ℕ → List ℕ → List ℕ → List ℕ
 bookL version flags codes =
     words
-    (7 ∷ version ∷ 1 ∷ (50 + length flags + length codes) ∷ 2 ∷ 0
-    ∷ 1 ∷ 15 ∷ 33
-    ∷ 2 ∷ 48 ∷ (1 + length flags)
-    ∷ 9 ∷ (49 + length flags) ∷ (1 + length codes)
+    (7 ∷ version ∷ 1 ∷ (51 + length flags + length codes) ∷ 2 ∷ 0 ∷ 2
+    ∷ 1 ∷ 16 ∷ 33
+    ∷ 2 ∷ 49 ∷ (1 + length flags)
+    ∷ 9 ∷ (50 + length flags) ∷ (1 + length codes)
     ∷ 8 ∷ 2 ∷ 1 ∷ 1
     ∷ 38 ∷ 6 ∷ 1 ∷ 0 ∷ 0 ∷ 0 ∷ 3
     ∷ 44 ∷ 3 ∷ 1 ∷ 4 ∷ 1 ∷ 0 ∷ 0
@@ -141,8 +142,8 @@ nine-rows = refl
 abbrev pub bookT : List ℕ
 bookT =
     words
-    (7 ∷ 0 ∷ 1 ∷ 27 ∷ 0 ∷ 0
-    ∷ 1 ∷ 9 ∷ 18
+    (7 ∷ 0 ∷ 1 ∷ 28 ∷ 0 ∷ 0 ∷ 2
+    ∷ 1 ∷ 10 ∷ 18
     ∷ 8 ∷ 2 ∷ 0 ∷ 0
     ∷ 55 ∷ 0 ∷ 4 ∷ 0 ∷ 0 ∷ 0 ∷ 0
     ∷ 65 ∷ 0 ∷ 4 ∷ 4 ∷ 1 ∷ 0 ∷ 0

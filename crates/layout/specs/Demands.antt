@@ -55,18 +55,19 @@ ZeroTail m at f =
 
 -- A row at `at` has the book's own block lengths, zero padding, and zeros after each text. Each entry or group
 -- therefore starts where the ones before it end by the formula of the written length.
-unfoldable pub OwnBlocks : Bool → List ℕ → Shape → Groups → ℕ → Values → Type 0
-OwnBlocks big m s gs at nil = Unit {0}
-OwnBlocks big m s gs at (entry fs g ds rest) =
-    ZeroPadding m at (s .length) 0 (s .fields)
-    × Each (ZeroTail m at) (s .fields)
-    × OwnBlocks big m s gs (at + s .length) g
-    × OwnBlocks big m s gs (at + rowLength s gs (entry fs g ds nil)) rest
-OwnBlocks big m s none at (group a es rest) = Unit {0}
-OwnBlocks big m s (more i since sh inner gs) at (group a es rest) =
-    (number16 big m at ≡ sh .length)
-    × OwnBlocks big m sh inner (at + dimensionSize) es
-    × OwnBlocks big m s gs (at + dimensionSize + rowLength sh inner es) rest
+module _ (counted big : Bool) (m : List ℕ) where
+  unfoldable pub OwnBlocks : Shape → Groups → ℕ → Values → Type 0
+  OwnBlocks s gs at nil = Unit {0}
+  OwnBlocks s gs at (entry fs g ds rest) =
+      ZeroPadding m at (s .length) 0 (s .fields)
+      × Each (ZeroTail m at) (s .fields)
+      × OwnBlocks s gs (at + s .length) g
+      × OwnBlocks s gs (at + rowLength counted s gs (entry fs g ds nil)) rest
+  OwnBlocks s none at (group a es rest) = Unit {0}
+  OwnBlocks s (more i since sh inner gs) at (group a es rest) =
+      (number16 big m at ≡ sh .length)
+      × OwnBlocks sh inner (at + dimensionSize counted) es
+      × OwnBlocks s gs (at + dimensionSize counted + rowLength counted sh inner es) rest
 
 -- "no value out of range", and "demand 2's writing back also asks for no kind 6".
 unfoldable pub Sound : Answer → Type 0
@@ -87,7 +88,7 @@ AllSound (group a es rest) = AllSound es × AllSound rest
 pub record AsWritten (b : Book) (t : Template) (m : List ℕ) (r : Values) : Type 0 where
   pub version : versionOf (b .format .big) m ≡ b .version
   pub length : blockLength (b .format .big) m ≡ t .shape .length
-  pub blocks : OwnBlocks (b .format .big) m (t .shape) (t .groups) headerSize r
+  pub blocks : OwnBlocks (b .format .inGroups) (b .format .big) m (t .shape) (t .groups) headerSize r
   pub sound : AllSound r
 
 -- ---- "Demand 3 then allows the older book kind 6 with the same number where only its list lacks it": the names of a
@@ -128,7 +129,7 @@ otherOrder b =
     record {
       schema = b .schema;
       version = b .version;
-      format = record { big = not (b .format .big) };
+      format = record { big = not (b .format .big); inGroups = b .format .inGroups };
       lists = b .lists;
       templates = b .templates;
     }

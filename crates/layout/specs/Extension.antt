@@ -7,7 +7,7 @@ use Prim.Native.Nat.{_<_, _≤_, ℕ}
 use Rattle.layout.specs.Result.{Each}
 use Rattle.layout.specs.Lists.{KeepsNames}
 use Rattle.layout.specs.Book.{Book, Data, Field, Groups, Shape, Template, dataSinces, fieldSinces, findTemplate}
-use Rattle.layout.specs.Book.{more, none, withNames}
+use Rattle.layout.specs.Book.{more, none, withNames, Format}
 
 -- "A legal extension keeps an older field's seven words and its list's kind and numbers, to which more may be added."
 pub record KeepsField (old new : Field) : Type 0 where
@@ -32,20 +32,23 @@ module _ (limit : ℕ) where
     pub first : new ≡ old ++ added
     pub young : AllAbove (dataSinces added)
 
-  -- "Per block: declared length no smaller; ..". "Inside groups only fields may be added": there, `root` is false.
-  pub record ExtendsShape (root : Bool) (old new : Shape) : Type 0 where
+-- `format` is that of both books.
+module _ (limit : ℕ) (format : Format) where
+  -- "Per block: declared length no smaller; ..". Data may be added only if the block `grows`: "Inside groups only
+  -- fields may be added", unless dimensions have counts.
+  pub record ExtendsShape (grows : Bool) (old new : Shape) : Type 0 where
     pub longer : old .length ≤ new .length
-    pub fields : ExtendsFields (old .fields) (new .fields)
-    pub datas : AddsDatas (old .datas) (new .datas)
-    pub inside : root ≡ false → datas .added ≡ []
+    pub fields : ExtendsFields limit (old .fields) (new .fields)
+    pub datas : AddsDatas limit (old .datas) (new .datas)
+    pub shut : grows ≡ false → datas .added ≡ []
 
-  -- "An added root group has no groups and no data."
+  -- "An added root group has no groups and no data", unless dimensions have counts.
   pub record AddedGroup (since : ℕ) (s : Shape) (inner : Groups) : Type 0 where
     -- Its fields are young, too, where the newer book is accepted: by the rules of since (refusal 6) the first has the
     -- group's own since, and along fields sinces never fall.
     pub young : limit < since
-    pub noGroups : inner ≡ none
-    pub noDatas : s .datas ≡ []
+    pub noGroups : format .inGroups ≡ false → inner ≡ none
+    pub noDatas : format .inGroups ≡ false → s .datas ≡ []
 
   unfoldable pub AddedGroups : Groups → Type 0
   AddedGroups none = Unit {0}
@@ -60,15 +63,18 @@ module _ (limit : ℕ) where
   pub record ExtendsGroup (id id′ since since′ : ℕ) (s s′ : Shape) (Inner Rest : Type 0) : Type 0 where
     pub sameId : id ≡ id′
     pub sameSince : since ≡ since′
-    pub shape : ExtendsShape false s s′
+    pub shape : ExtendsShape (format .inGroups) s s′
     pub inner : Inner
     pub rest : Rest
 
+  -- Groups may be added at the end only if the block `grows`. Inside groups it does where dimensions have counts: an
+  -- extension "may add groups, nested ones too, and data at the end of any block's lists".
   unfoldable pub ExtendsGroups : Bool → Groups → Groups → Type 0
-  ExtendsGroups root none new = AddsGroups root new
-  ExtendsGroups root (more i since s inner rest) none = ⊥
-  ExtendsGroups root (more i since s inner rest) (more i′ since′ s′ inner′ rest′) =
-      ExtendsGroup i i′ since since′ s s′ (ExtendsGroups false inner inner′) (ExtendsGroups root rest rest′)
+  ExtendsGroups grows none new = AddsGroups grows new
+  ExtendsGroups grows (more i since s inner rest) none = ⊥
+  ExtendsGroups grows (more i since s inner rest) (more i′ since′ s′ inner′ rest′) =
+      ExtendsGroup i i′ since since′ s s′ (ExtendsGroups (format .inGroups) inner inner′)
+      (ExtendsGroups grows rest rest′)
 
   -- "each older template stands in it": under its id the newer book has a template that extends it.
   pub record StandsIn (old : Template) (news : List Template) : Type 0 where
@@ -77,10 +83,10 @@ module _ (limit : ℕ) where
     pub shape : ExtendsShape true (old .shape) (newer .shape)
     pub groups : ExtendsGroups true (old .groups) (newer .groups)
 
--- "the schema id is equal, its version is greater, and each older template stands in it"; "templates that only the
--- newer book has are free"; "A legal extension keeps the order"
+-- "the schema id is equal, its version is greater, and each older template stands in it"; "a legal extension, which
+-- keeps the number"; "templates that only the newer book has are free"; "A legal extension keeps the order"
 pub record Extends (old new : Book) : Type 0 where
   pub schema : old .schema ≡ new .schema
   pub version : old .version < new .version
   pub format : old .format ≡ new .format
-  pub templates : Each (λ t. StandsIn (old .version) t (new .templates)) (old .templates)
+  pub templates : Each (λ t. StandsIn (old .version) (old .format) t (new .templates)) (old .templates)

@@ -1,26 +1,37 @@
--- A message's octets, checked against the book and read into a tree of answers, or the refusal 10 to 20: the one walk
+-- A message's octets, checked against the book and read into a tree of answers, or the refusal 10 to 22: the one walk
 -- by which every reading operation is defined.
-use mathlib.Core.Bool.{Bool}
+use mathlib.Core.Bool.{Bool, true, false}
 use mathlib.Core.List.{List, [], _∷_, map}
 use Prim.Native.Nat.{ℕ, zero, suc, _+_, _-_, _*_}
 use lib.Dec.{leb, ltb, eqb}
 use lib.ListN.{drop, length, take}
-use Rattle.layout.specs.Result.{Result, done, must, orRefuse, if_then_else_, _and_, _>>=_}
+use Rattle.layout.specs.Result.{Result, done, must, orRefuse, if_then_else_, _and_, _>>=_, refused}
 use Rattle.layout.specs.Octets.{numberAt, number16, null16, textLength}
 use Rattle.layout.specs.Types.{typeAt, valueOf, classify}
 use Rattle.layout.specs.Lists.{beside}
 use Rattle.layout.specs.Book.{Field, Data, Shape, Groups, none, more, Template, Book, findTemplate, isArray}
-use Rattle.layout.specs.Book.{isChar, isOptional, need, dataSinces, groupSinces, present}
+use Rattle.layout.specs.Book.{isChar, isOptional, need, dataSinces, groupSinces, present, Format}
 use Rattle.layout.specs.Values.{Values, nil, entry, group}
 use Rattle.layout.specs.declared.Answer.{Answer}
 use Rattle.layout.specs.declared.Answer.the-variants.{Null, Octets, Absent, Group}
 
+-- The number of groups and the number of data of a block stand in the header for the root and, where the book's format
+-- says so, in a group's dimension: how many numbers that is.
+abbrev pub countNumbers : Bool → ℕ
+countNumbers true = 2
+countNumbers false = 0
+
+-- A count that stands at `at`, if blocks of this kind are `counted`.
+abbrev pub countAt : Bool → Bool → List ℕ → ℕ → ℕ
+countAt true big m at = number16 big m at
+countAt false big m at = 0
+
 -- "Header, six 16-bit numbers: block length, template id, schema id, version, number of groups, number of data."
 abbrev pub headerNumbers : ℕ
-headerNumbers = 6
+headerNumbers = 4 + countNumbers true
 
 abbrev pub headerSize : ℕ
-headerSize = 12
+headerSize = 2 * headerNumbers
 
 -- They are in the book's order, as every number of a message is.
 
@@ -37,14 +48,45 @@ abbrev pub versionOf : Bool → List ℕ → ℕ
 versionOf big m = number16 big m 6
 
 abbrev pub groupCount : Bool → List ℕ → ℕ
-groupCount big m = number16 big m 8
+groupCount big m = countAt true big m 8
 
 abbrev pub dataCount : Bool → List ℕ → ℕ
-dataCount big m = number16 big m 10
+dataCount big m = countAt true big m 10
 
--- "a dimension (block length and entry count, 16 bits each ..)"
-abbrev pub dimensionSize : ℕ
-dimensionSize = 4
+-- "If v is at most the book's version, the header's counts equal the numbers of root groups and data with since at most
+-- v. If v is greater, each is at least the book's number": of the elements with these sinces n are counted. "With four,
+-- the header's rule on counts holds for every known group, empty or not, at its own level."
+unfoldable pub countGood : Bool → ℕ → ℕ → List ℕ → ℕ → Bool
+countGood true version v ss n = if leb v version then eqb n (present v ss) else leb (length ss) n
+countGood false version v ss n = true
+
+-- How many of those are surplus. Where nothing is counted, n is 0 and nothing is surplus.
+abbrev pub surplus : ℕ → List ℕ → ℕ → ℕ
+surplus v ss n = n - present v ss
+
+-- "A group is a dimension .. and its entries": "block length, entries, number of groups, number of data".
+pub record Dimension : Type 0 where
+  pub length : ℕ
+  pub entries : ℕ
+  pub groups : ℕ
+  pub datas : ℕ
+
+abbrev pub dimensionSize : Bool → ℕ
+dimensionSize counted = 2 * (2 + countNumbers counted)
+
+-- "Groups nest to depth four, a root group being depth one."
+abbrev pub depthLimit : ℕ
+depthLimit = 4
+
+-- How many levels are left inside a group where `levels` are left for it.
+abbrev pub inside : ℕ → ℕ
+inside zero = zero
+inside (suc levels) = levels
+
+-- n things in a row, each passed by f and starting where the one before ends.
+unfoldable pub inRow : ℕ → (ℕ → Result ℕ) → ℕ → Result ℕ
+inRow zero f at = done at
+inRow (suc n) f at = f at >>= inRow n f
 
 -- ---- what may be surplus: m is the message, of big-endian numbers if `big`
 
@@ -60,31 +102,37 @@ module _ (big : Bool) (m : List ℕ) where
     done (Octets (at + 2) n, at + 2 + n)
 
   -- "surplus data by their lengths"
-  unfoldable pub skipDatas : ℕ → ℕ → Result ℕ
-  skipDatas zero at = done at
-  skipDatas (suc n) at = do
-    (a, x) ← readData at
-    skipDatas n x
+  abbrev pub skipDatas : ℕ → ℕ → Result ℕ
+  skipDatas n at = inRow n (λ x. readData x >>= λ r. done (r .1)) at
 
-  -- "A group is a dimension .. and its entries": its block length, which is at least `least`, and its entry count.
-  -- "at a dimension 16, 17, 18, then entries"
-  unfoldable pub readDimension : ℕ → ℕ → Result (ℕ × ℕ)
-  readDimension least at = do
-    _ ← must (leb (at + dimensionSize) (length m)) 16 at
+  -- An entry of a surplus group that has this dimension at `place`, f passing each of its groups. "A surplus group that
+  -- runs out is placed at its dimension."
+  unfoldable pub skipEntry : (ℕ → Result ℕ) → Dimension → ℕ → ℕ → Result ℕ
+  skipEntry f d place at = do
+    _ ← must (leb (at + d .length) (length m)) 16 place
+    x ← inRow (d .groups) f (at + d .length)
+    skipDatas (d .datas) x
+
+-- `counted`: whether dimensions have four numbers.
+module _ (counted big : Bool) (m : List ℕ) where
+  -- "at a dimension 16, 17"; "17 covers all four numbers", of which a book that uses two lacks the counts.
+  unfoldable pub readDimension : ℕ → Result Dimension
+  readDimension at = do
+    _ ← must (leb (at + dimensionSize counted) (length m)) 16 at
     let l = number16 big m at
     let k = number16 big m (at + 2)
-    _ ← must (ltb l null16 and ltb k null16) 17 at
-    _ ← must (leb least l) 18 at
-    done (l, k)
+    let g = countAt counted big m (at + 4)
+    let d = countAt counted big m (at + 4 + 2)
+    _ ← must (ltb l null16 and ltb k null16 and ltb g null16 and ltb d null16) 17 at
+    done (record { length = l; entries = k; groups = g; datas = d })
 
-  -- "surplus groups are skipped as dimension plus block length times entries"; of their block the book asks nothing
-  unfoldable pub skipGroups : ℕ → ℕ → Result ℕ
-  skipGroups zero at = done at
-  skipGroups (suc n) at = do
-    (l, k) ← readDimension 0 at
-    let end = at + dimensionSize + l * k
-    _ ← must (leb end (length m)) 16 at
-    skipGroups n end
+  -- "surplus groups are skipped depth first by their own counts"; without counts that is "as dimension plus block
+  -- length times entries" (proofs/Skipped). "22 for any group on the wire below depth four": `levels` levels are left.
+  unfoldable pub skipGroup : ℕ → ℕ → Result ℕ
+  skipGroup zero at = readDimension at >>= λ _. refused 22 at
+  skipGroup (suc levels) at = do
+    d ← readDimension at
+    inRow (d .entries) (skipEntry big m (skipGroup levels) d at) (at + dimensionSize counted)
 
 -- ---- what the book knows
 
@@ -145,22 +193,30 @@ module _ (big : Bool) (m : List ℕ) (v : ℕ) where
     (ds, y) ← readDatas (s .datas) n x
     done (map (readField at) (s .fields), gs, ds, y)
 
-  -- A group that is present, f reading an entry's groups. "A block length on the wire is at least the need, also for a
-  -- group of zero entries; octets beyond are skipped."
-  unfoldable pub readGroup : Shape → (ℕ → Result (Values × ℕ)) → ℕ → Result (Answer × Values × ℕ)
-  readGroup s f at = do
-    (l, k) ← readDimension big m (need v s) at
-    (es, x) ← readEntries k (readBlock s f 0 l) (at + dimensionSize)
-    done (Group k, es, x)
+-- `version` is the book's.
+module _ (counted : Bool) (version : ℕ) (big : Bool) (m : List ℕ) (v : ℕ) where
+  -- A group that is present. Its entries' groups have these sinces; f reads them and so many surplus ones. "A block
+  -- length on the wire is at least the need, also for a group of zero entries; octets beyond are skipped." "after 18
+  -- come 21 for counts of a known group", then its entries.
+  unfoldable pub readGroup : Shape → List ℕ → (ℕ → ℕ → Result (Values × ℕ)) → ℕ → Result (Answer × Values × ℕ)
+  readGroup s groups f at = do
+    let datas = dataSinces (s .datas)
+    d ← readDimension counted big m at
+    _ ← must (leb (need v s) (d .length)) 18 at
+    _ ← must (countGood counted version v groups (d .groups) and countGood counted version v datas (d .datas)) 21 at
+    let block = readBlock big m v s (f (surplus v groups (d .groups))) (surplus v datas (d .datas)) (d .length)
+    (es, x) ← readEntries (d .entries) block (at + dimensionSize counted)
+    done (Group (d .entries), es, x)
 
-  -- The groups of a block in order, and then n surplus ones; inside groups there are none.
-  unfoldable pub readGroups : Groups → ℕ → ℕ → Result (Values × ℕ)
-  readGroups none n at = do
-    x ← skipGroups big m n at
+  -- The groups of a block in order, and then n surplus ones, `levels` levels being left.
+  unfoldable pub readGroups : Groups → ℕ → ℕ → ℕ → Result (Values × ℕ)
+  readGroups none levels n at = do
+    x ← inRow n (skipGroup counted big m levels) at
     done (nil, x)
-  readGroups (more i since s inner rest) n at = do
-    (a, es, x) ← if leb since v then readGroup s (readGroups inner 0) at else done (Absent, nil, at)
-    (gs, y) ← readGroups rest n x
+  readGroups (more i since s inner rest) levels n at = do
+    let known = readGroup s (groupSinces inner) (readGroups inner (inside levels))
+    (a, es, x) ← if leb since v then known at else done (Absent, nil, at)
+    (gs, y) ← readGroups rest levels n x
     done (group a es gs, y)
 
 -- ---- the whole message
@@ -181,11 +237,6 @@ checkHeader big schema m = do
 abbrev pub templateOf : Book → List ℕ → Result Template
 templateOf b m = orRefuse (findTemplate (templateId (b .format .big) m) (b .templates)) 13 2
 
--- "If v is at most the book's version, the header's counts equal the numbers of root groups and data with since at most
--- v. If v is greater, each is at least the book's number": of the elements with these sinces the header counts n.
-unfoldable pub countGood : ℕ → ℕ → List ℕ → ℕ → Bool
-countGood version v ss n = if leb v version then eqb n (present v ss) else leb (length ss) n
-
 -- 14 and 15, by the message's template and the book's version: how many groups and data of the root the header counts
 -- beyond those that are present.
 unfoldable pub surplusOf : Bool → ℕ → Template → List ℕ → Result (ℕ × ℕ)
@@ -194,25 +245,26 @@ surplusOf big version t m = do
   let groups = groupSinces (t .groups)
   let datas = dataSinces (t .shape .datas)
   _ ← must (leb (need v (t .shape)) (blockLength big m)) 14 0
-  _ ← must (countGood version v groups (groupCount big m)) 15 8
-  _ ← must (countGood version v datas (dataCount big m)) 15 10
-  done (groupCount big m - present v groups, dataCount big m - present v datas)
+  _ ← must (countGood true version v groups (groupCount big m)) 15 8
+  _ ← must (countGood true version v datas (dataCount big m)) 15 10
+  done (surplus v groups (groupCount big m), surplus v datas (dataCount big m))
 
--- 16 to 20: the root block and what follows it, up to the message's end.
-unfoldable pub readWhole : Bool → Template → List ℕ → ℕ × ℕ → Result Values
-readWhole big t m (groups, datas) = do
+-- 16 to 22: the root block and what follows it, up to the message's end.
+unfoldable pub readWhole : Format → ℕ → Template → List ℕ → ℕ × ℕ → Result Values
+readWhole format version t m (groups, datas) = do
+  let big = format .big
   let v = versionOf big m
-  let root = readGroups big m v (t .groups) groups
+  let root = readGroups (format .inGroups) version big m v (t .groups) depthLimit groups
   (fs, gs, ds, e) ← readBlock big m v (t .shape) root datas (blockLength big m) headerSize
   _ ← must (eqb e (length m)) 20 e
   done (entry fs gs ds nil)
 
-unfoldable pub readRoot : Bool → ℕ → Template → List ℕ → Result Values
-readRoot big version t m = surplusOf big version t m >>= readWhole big t m
+unfoldable pub readRoot : Format → ℕ → Template → List ℕ → Result Values
+readRoot format version t m = surplusOf (format .big) version t m >>= readWhole format version t m
 
 -- "Message: 10 to 15 in order, then the walk in wire order, first fault only."
 unfoldable pub readMessage : Book → List ℕ → Result Values
 readMessage b m = do
   _ ← checkHeader (b .format .big) (b .schema) m
   t ← templateOf b m
-  readRoot (b .format .big) (b .version) t m
+  readRoot (b .format) (b .version) t m

@@ -1,5 +1,5 @@
 -- A message from a listing: its records judged one by one into a tree of answers (51 to 54), and the tree's octets.
-use mathlib.Core.Bool.{Bool, not}
+use mathlib.Core.Bool.{Bool, not, false, true}
 use mathlib.Core.List.{List, [], _++_, _∷_}
 use Prim.Native.Nat.{_*_, _+_, _-_, suc, zero, ℕ}
 use lib.Dec.{eqb, leb, ltb}
@@ -171,6 +171,15 @@ entriesIn Absent = 0
 entriesIn (OutOfRange x) = 0
 entriesIn (Unlisted x) = 0
 
+-- "the book's counts", where such blocks are counted: of groups and of data.
+unfoldable pub countsOf : Bool → Groups → List Data → List ℕ
+countsOf true gs ds = length (groupSinces gs) ∷ length ds ∷ []
+countsOf false gs ds = []
+
+-- The dimension of k entries of a block s with groups gs.
+abbrev pub dimensionOf : Bool → Shape → Groups → ℕ → List ℕ
+dimensionOf counted s gs k = s .length ∷ k ∷ countsOf counted gs (s .datas)
+
 module _ (pool : List ℕ) where
   abbrev pub spanOctets : Answer → List ℕ
   spanOctets a = take (spanOf a .1) (drop (spanOf a .0) pool)
@@ -199,38 +208,43 @@ module _ (big : Bool) (pool : List ℕ) where
   dataOctets [] = []
   dataOctets (a ∷ ds) = octetsOf big 2 (spanOf a .1) ++ (spanOctets pool a ++ dataOctets ds)
 
+-- `counted`: whether dimensions have four numbers.
+module _ (counted big : Bool) (pool : List ℕ) where
   -- A row: the entries of a block s with groups gs, or the groups gs of a block s.
   unfoldable pub rowOctets : Shape → Groups → Values → List ℕ
   rowOctets s gs nil = []
   rowOctets s gs (entry fs g ds rest) =
-      (blockOctets (s .length) 0 (s .fields) fs ++ (rowOctets s gs g ++ dataOctets ds)) ++ rowOctets s gs rest
+      (blockOctets big pool (s .length) 0 (s .fields) fs ++
+      (rowOctets s gs g ++ dataOctets big pool ds)) ++ rowOctets s gs rest
   rowOctets s none (group a es rest) = []
   rowOctets s (more i since sh inner gs) (group a es rest) =
-      numbers16 big (sh .length ∷ entriesIn a ∷ []) ++ (rowOctets sh inner es ++ rowOctets s gs rest)
+      numbers16 big (dimensionOf counted sh inner (entriesIn a)) ++ (rowOctets sh inner es ++ rowOctets s gs rest)
 
 -- "It writes the book's version, declared block lengths, the book's counts and zero padding."
 abbrev pub headerOf : Book → Template → List ℕ
-headerOf b t =
-    t .shape .length ∷ t .id ∷ b .schema ∷ b .version ∷ length (groupSinces (t .groups)) ∷ length (t .shape .datas) ∷ []
+headerOf b t = t .shape .length ∷ t .id ∷ b .schema ∷ b .version ∷ countsOf true (t .groups) (t .shape .datas)
 
 unfoldable pub messageOctets : Book → Template → List ℕ → Values → List ℕ
 messageOctets b t pool r =
-    numbers16 (b .format .big) (headerOf b t) ++ rowOctets (b .format .big) pool (t .shape) (t .groups) r
+    numbers16 (b .format .big) (headerOf b t)
+    ++ rowOctets (b .format .inGroups) (b .format .big) pool (t .shape) (t .groups) r
 
 -- "Its length is 12 plus the declared root block, 4 per group record, the declared block per entry, and 2 plus its
--- length per data."
+-- length per data"; with four-number dimensions "8 per group record".
 unfoldable pub datasLength : List Answer → ℕ
 datasLength [] = 0
 datasLength (a ∷ ds) = 2 + spanOf a .1 + datasLength ds
 
-unfoldable pub rowLength : Shape → Groups → Values → ℕ
-rowLength s gs nil = 0
-rowLength s gs (entry fs g ds rest) = s .length + (rowLength s gs g + (datasLength ds + rowLength s gs rest))
-rowLength s none (group a es rest) = 0
-rowLength s (more i since sh inner gs) (group a es rest) = dimensionSize + (rowLength sh inner es + rowLength s gs rest)
+module _ (counted : Bool) where
+  unfoldable pub rowLength : Shape → Groups → Values → ℕ
+  rowLength s gs nil = 0
+  rowLength s gs (entry fs g ds rest) = s .length + (rowLength s gs g + (datasLength ds + rowLength s gs rest))
+  rowLength s none (group a es rest) = 0
+  rowLength s (more i since sh inner gs) (group a es rest) =
+      dimensionSize counted + (rowLength sh inner es + rowLength s gs rest)
 
-abbrev pub writtenLength : Template → Values → ℕ
-writtenLength t r = headerSize + rowLength (t .shape) (t .groups) r
+abbrev pub writtenLength : Book → Template → Values → ℕ
+writtenLength b t r = headerSize + rowLength (b .format .inGroups) (t .shape) (t .groups) r
 
 -- "Writing: 50; then 51 to 54 at the first record at fault, 51 first within it; left-over records next; 55 last."
 -- `room` is how many octets there is room for.

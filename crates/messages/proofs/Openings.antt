@@ -11,11 +11,12 @@ use Rattle.layout.specs.Message.{surplusOf}
 use Rattle.prepared.specs.Positions.{innerAt, isBig, shapeAt, versionAt}
 use Rattle.wire.specs.Headers.{IsHeader}
 use Rattle.wire.specs.declared.Header.{Header}
-use Rattle.messages.specs.Openings.{leftOver, opened, rootBy}
+use Rattle.counts.specs.Counts.{leftOver}
+use Rattle.messages.specs.Openings.{opened, rootBy}
 use Rattle.messages.specs.declared.Opened.{Opened}
 use Rattle.messages.specs.declared.Opened.the-variants as Opened
-use Rattle.messages.specs.declared.Surplus.{Surplus}
-use Rattle.messages.specs.declared.Surplus.the-variants.{Is, Wrong}
+use Rattle.counts.specs.declared.Surplus.{Surplus}
+use Rattle.counts.specs.declared.Surplus.the-variants.{Is, Wrong}
 
 -- The answer by what the code finds: whether the block is long enough, and what is left over.
 unfoldable pub openBy : ℕ → Header → Bool → Surplus → Surplus → Opened

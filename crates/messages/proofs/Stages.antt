@@ -24,16 +24,15 @@ use Rattle.prepared.proofs.Found.{found}
 use Rattle.prepared.proofs.Open.{groups-here}
 use Rattle.prepared.proofs.Rows.{shifted, unshifted}
 use Rattle.wire.specs.Headers.{IsHeader}
-use Rattle.wire.specs.Walks.{headerEnd, walked}
+use Rattle.wire.specs.Walks.{Lent, headerEnd, walked}
 use Rattle.wire.specs.declared.Header.{Header}
 use Rattle.wire.specs.declared.Walked.the-variants.{To, Refused}
 use Rattle.wire.proofs.Answers.{inv-refused, inv-to}
 use Rattle.wire.proofs.Parts.{header-whole, numbersIn}
-use Rattle.walk.specs.Walks.{Lent}
 use Rattle.messages.specs.Openings.{isOwn, known, knownAt, openAt, opened, rootBy}
 use Rattle.messages.specs.declared.Opened.the-variants as Opened
-use Rattle.messages.specs.declared.Surplus.the-variants.{Is}
-use Rattle.messages.proofs.Counts.{over-none}
+use Rattle.counts.specs.declared.Surplus.the-variants.{Is}
+use Rattle.counts.proofs.Counts.{over-none}
 use Rattle.messages.proofs.Openings.{openBy, opens-by}
 
 module _ (p m : List ℕ) where

@@ -1,15 +1,14 @@
 -- A message up to its root block, by prepared numbers p.
 use mathlib.Core.Path.{_≡_}
 use mathlib.Core.Bool.{Bool}
-use mathlib.Core.List.{List, _∷_}
-use Prim.Native.Nat.{ℕ, _+_, _-_, _≤_}
+use mathlib.Core.List.{List}
+use Prim.Native.Nat.{ℕ, _+_}
 use lib.Dec.{leb, eqb, ltb}
-use Rattle.layout.specs.Result.{Result, done, refused, if_then_else_, _and_, _>>=_}
+use Rattle.layout.specs.Result.{_and_, Result, done, refused, _>>=_}
 use Rattle.layout.specs.Octets.{null16}
-use Rattle.layout.specs.Book.{present}
 use Rattle.layout.specs.BookRules.{word}
 use Rattle.layout.specs.Contracts.{refusal}
-use Rattle.layout.specs.Message.{blockLength, checkHeader, countGood, surplusOf, templateId, versionOf}
+use Rattle.layout.specs.Message.{blockLength, checkHeader, surplusOf, templateId, versionOf}
 use Rattle.prepared.specs.Positions.{isBig}
 use Rattle.prepared.specs.Books.{locationOf, templateAt}
 use Rattle.prepared.specs.declared.Located as Located
@@ -18,18 +17,6 @@ use Rattle.wire.specs.Headers.{IsHeader}
 use Rattle.wire.specs.declared.Header.{Header}
 use Rattle.messages.specs.declared.Opened as Opened
 use Rattle.messages.specs.declared.Opened.{Opened}
-use Rattle.messages.specs.declared.Surplus as Surplus
-use Rattle.messages.specs.declared.Surplus.{Surplus}
-
--- Before an element with this since `seen` were counted that are present at version v, and with it r.
-pub record Counts (v seen since r : ℕ) : Type 0 where
-  pub more : (ss : List ℕ) → seen + present v (since ∷ ss) ≡ r + present v ss
-  pub few : r ≤ seen + 1
-
--- Of the elements with these sinces the header counts n.
-unfoldable pub leftOver : ℕ → ℕ → List ℕ → ℕ → Surplus
-leftOver version v ss n =
-    if countGood version v ss n then Surplus.the-variants.Is (n - present v ss) else Surplus.the-variants.Wrong
 
 -- The block of the template, or 13.
 unfoldable pub known : Located → Result ℕ

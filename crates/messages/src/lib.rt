@@ -1,117 +1,24 @@
 // Opens a message by a prepared book: what its root block is, or the refusal 10 to 15.
+use counts::Surplus;
 use layout::Refusal;
 use prepared::Located;
 use prepared::number;
 use wire::Header;
 use wire::Walked;
 ghost use mathlib.Core.Path.{_≡_};
-ghost use mathlib.Core.Bool.{true};
-ghost use Prim.Native.Nat.{_-_, _≤_};
-ghost use Rattle.layout.specs.Book.{dataSinces, groupSinces, present};
 ghost use Rattle.layout.specs.Contracts.{refusal};
-ghost use Rattle.layout.specs.Result.{if_then_else_, _and_};
-ghost use Rattle.prepared.specs.Positions.{BlockAt, IsBlock, innerAt, isBig, shapeAt, versionAt};
+ghost use Rattle.layout.specs.Result.{_and_};
+ghost use Rattle.prepared.specs.Positions.{BlockAt, IsBlock, isBig};
 ghost use Rattle.prepared.specs.Books.{HoldsBook, locationOf};
 ghost use Rattle.wire.specs.Headers.{IsHeader};
-ghost use Rattle.walk.specs.Walks.{Lent};
-ghost use Rattle.messages.specs.Openings.{Counts, OpensBy, isOwn, leftOver, openAt, opened};
-
-// ---- the groups and data that the header counts
+ghost use Rattle.wire.specs.Walks.{Lent};
+ghost use Rattle.messages.specs.Openings.{OpensBy, isOwn, openAt, opened};
 
 fn both(a: bool, b: bool) -> bool
     ensures { λ r. ⌜ r ≡ (a and b) ⌝ }
 {
     if a { b } else { false }
 }
-
-// How many groups or data the wire has more than are present, or that the header's count of them is wrong.
-enum Surplus {
-    Is(usize),
-    Wrong,
-}
-
-// The header counts n of which `here` are present, if its count is good.
-fn over(good: bool, n: usize, here: usize) -> Surplus
-    requires { ⌜ (good ≡ true → here ≤ n) ⌝ }
-    ensures { λ r. ⌜ r ≡ (if good then Surplus.Is (n - here) else Surplus.Wrong) ⌝ }
-{
-    if good {
-        return Surplus::Is(n - here);
-    }
-    Surplus::Wrong
-}
-
-// One element more is seen, and counted if it is present at version v.
-fn count(seen: usize, since: usize, v: usize) -> usize
-    requires { ⌜ seen ≤ 65535 ⌝ }
-    ensures { λ r. ⌜ Counts v seen since r ⌝ }
-{
-    if since <= v {
-        return seen + 1;
-    }
-    seen
-}
-
-// How many data of the block at a are present at version v.
-fn datas_here(p: &[u64], a: usize, v: usize) -> usize
-    requires { ⌜ IsBlock (now p) a ⌝ }
-    ensures { λ r. ⌜ r ≡ present v (dataSinces (shapeAt (now (p .entry)) a .datas)) ⌝ }
-{
-    let mut left = number(p, a + 5);
-    let mut d = number(p, a + 10);
-    let mut seen = 0;
-    while 0 < left {
-        seen = count(seen, number(p, d + 1), v);
-        d = d + 2;
-        left = left - 1;
-    }
-    seen
-}
-
-// How many groups of the template's block at a are present at version v.
-fn groups_here(p: &[u64], a: usize, v: usize) -> usize
-    requires { ⌜ BlockAt (now p) 4 a ⌝ }
-    ensures { λ r. ⌜ r ≡ present v (groupSinces (innerAt (now (p .entry)) 4 a)) ⌝ }
-{
-    let mut left = number(p, a + 4);
-    let mut g = number(p, a + 9);
-    let mut seen = 0;
-    while 0 < left {
-        prepared::open_row(p, g, left, 4);
-        seen = count(seen, number(p, g + 1), v);
-        g = number(p, g + 8);
-        left = left - 1;
-    }
-    seen
-}
-
-// Of the data of the block at a the header counts n: to a newer version than the book's all are present.
-fn datas_over(p: &[u64], a: usize, v: usize, n: usize) -> Surplus
-    requires { ⌜ IsBlock (now p) a ⌝ }
-    ensures { λ r. ⌜ r ≡ leftOver (versionAt (now (p .entry))) v (dataSinces (shapeAt (now (p .entry)) a .datas)) n ⌝ }
-{
-    if number(p, 1) < v {
-        let all = number(p, a + 5);
-        return over(all <= n, n, all);
-    }
-    let here = datas_here(p, a, v);
-    over(n == here, n, here)
-}
-
-// Of the groups of the template's block at a it counts n.
-fn groups_over(p: &[u64], a: usize, v: usize, n: usize) -> Surplus
-    requires { ⌜ BlockAt (now p) 4 a ⌝ }
-    ensures { λ r. ⌜ r ≡ leftOver (versionAt (now (p .entry))) v (groupSinces (innerAt (now (p .entry)) 4 a)) n ⌝ }
-{
-    if number(p, 1) < v {
-        let all = number(p, a + 4);
-        return over(all <= n, n, all);
-    }
-    let here = groups_here(p, a, v);
-    over(n == here, n, here)
-}
-
-// ---- the root block
 
 // The root block of a message: where its template's block stands, the message's version, the root's octets, and how
 // many surplus groups and data follow its own; or the refusal.
@@ -140,10 +47,10 @@ fn open_by(p: &[u64], a: usize, h: Header) -> Opened
     if h.length < prepared::need(p, a, h.version) {
         return refuse(14, 0);
     }
-    let Surplus::Is(groups) = groups_over(p, a, h.version, h.groups) else {
+    let Surplus::Is(groups) = counts::groups_over(p, a, 4, h.version, h.groups) else {
         return refuse(15, 8);
     };
-    let Surplus::Is(datas) = datas_over(p, a, h.version, h.datas) else {
+    let Surplus::Is(datas) = counts::datas_over(p, a, h.version, h.datas) else {
         return refuse(15, 10);
     };
     Opened::At {

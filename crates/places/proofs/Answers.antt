@@ -2,26 +2,27 @@
 use mathlib.Core.Path.{_∙_, _≡_, ap, refl, sym}
 use mathlib.Core.Bool.{Bool, false≢true, true}
 use mathlib.Core.List.{List, [], _∷_}
-use Prim.Native.Nat.{ℕ, suc, _+_, _-_, _≤_, _<_}
+use Prim.Native.Nat.{ℕ, suc, _-_, _≤_, _<_}
 use native.Mathlib.Omega.{arith}
 use lib.Dec.{leb}
 use lib.ListN.{length}
-use borrow.Author.Tests.{le-leb, leb-false, leb-true}
-use Rattle.layout.specs.Result.{Result, _>>=_, done, must, refused}
-use Rattle.layout.specs.Book.{Data, Groups, Shape, need}
-use Rattle.layout.specs.Message.{Entry, readBlock, readDatas, readGroups, skipDatas}
+use borrow.Author.Tests.{leb-false, leb-true}
+use Rattle.layout.specs.Result.{Result, done, refused}
+use Rattle.layout.specs.Book.{Groups, Shape, need}
+use Rattle.layout.specs.Message.{Entry}
 use Rattle.layout.specs.Reading.{groupHas, hasElement, hasPlace, stepsOf}
 use Rattle.layout.specs.Values.{Step, Values, answerAt, elementOf, entry}
 use Rattle.layout.specs.declared.Answer.{Answer}
 use Rattle.layout.specs.declared.Element.{Element}
-use Rattle.layout.proofs.Results.{done-inj, each-way, inv-bind, inv-both}
+use Rattle.layout.proofs.Results.{each-way}
 use Rattle.prepared.specs.Positions.{BlockAt, manyGroups, innerAt, isBig, shapeAt}
-use Rattle.places.specs.Spots.{Spot, blockIn, nowhere, spotIn, stepSpot}
+use Rattle.walk.specs.Walks.{entryBy, groupsBy}
+use Rattle.places.specs.Spots.{blockIn, nowhere, spotIn, stepSpot}
 use Rattle.places.specs.Seeks.{stepAt, stepsFrom}
 use Rattle.places.specs.Elements.{Accepted, Done, blockAfter, elementRead, entryRead}
+use Rattle.places.specs.declared.Spot.{Spot}
 use Rattle.places.proofs.Blocks.{first-inside, has-inside, has-none}
-use Rattle.places.proofs.Elements.{more-data}
-use Rattle.places.proofs.Leads.{Leads, block-read, missing, row-leads, there}
+use Rattle.places.proofs.Leads.{Leads, block-less, missing, row-leads, there}
 use Rattle.places.proofs.Places.{opens, row-drops-all, steps-next}
 
 -- ---- the block that the steps lead to, where the template has the place
@@ -64,92 +65,56 @@ block-there p depth a stands (s ∷ ps) x has =
 pub data Answers (p : List ℕ) (depth a : ℕ) (m : List ℕ) (v : ℕ) (spot : Spot) (x : Element) (answer : Result Answer)
     : Type 0 where
   lacks : spot ≡ nowhere → answer ≡ refused 31 0 → Answers p depth a m v spot x answer
-  stands : 0 < spot .0 → Accepted p depth a m v 0 (spot .1) (spot .0)
-      → hasElement x (shapeAt p a) (innerAt p depth a) ≡ true
-      → answer ≡ done (elementRead x (entryRead p depth a m v 0 (spot .1) (spot .0)))
-      → Answers p depth a m v spot x answer
+  stands : 0 < spot .start → Accepted p depth a m v spot → hasElement x (shapeAt p a) (innerAt p depth a) ≡ true
+      → answer ≡ done (elementRead x (entryRead p depth a m v spot)) → Answers p depth a m v spot x answer
 
 -- A path from a template's block whose groups were read, with n surplus ones, where the template has the place.
 module _ (p : List ℕ) (root : ℕ) (block : BlockAt p 4 root) (m : List ℕ) (short : length m ≤ 65535) (v : ℕ)
     (path : List ℕ) (some : 2 ≤ length path) (x : Element)
     (has : hasPlace (stepsOf path) x (shapeAt p root) (innerAt p 4 root) ≡ true) where
-  abbrev spotOf : ℕ → Spot
-  spotOf at = stepSpot (isBig p) m v (stepAt path 0) (spotIn (isBig p) m v (stepsFrom path 2)) (innerAt p 4 root) at
+  abbrev pathSpot : ℕ → Spot
+  pathSpot at = stepSpot p m v (stepAt path 0) (spotIn p m v (stepsFrom path 2)) (innerAt p 4 root) 4 at
 
   told : (ask : Element → Result Answer) (spot : Spot) → BlockThere p 4 root (stepsOf path) x
-      → Leads (isBig p) m v (blockIn (stepsOf path) (shapeAt p root, innerAt p 4 root)) spot ask
+      → Leads p m v (blockIn (stepsOf path) (shapeAt p root, innerAt p 4 root)) (4 - length (stepsOf path)) spot ask
       → Answers p (4 - length (stepsOf path)) (blockAfter p (stepsOf path) root) m v spot x (ask x)
   unfolding elementRead
   told ask spot b (missing z a) = lacks z (a x)
-  told ask spot b (there e far enough reads a) =
+  told ask spot b (there e far enough few reads a) =
       let is = rw (b .is) at reads in
       let entry : Done _ = record { value = e; is = is } in
-      stands far (record { stands = b .stands; short = short; enough = rw (b .is) at enough; reads = entry }) (b .has)
-      (a x ∙ rw is refl)
+      let ok : Accepted _ _ _ _ _ _ =
+      record { stands = b .stands; short = short; enough = rw (b .is) at enough; few = few; reads = entry } in
+      stands far ok (b .has) (a x ∙ rw is refl)
 
-  pub path-answers : (n at : ℕ) (r : Values × ℕ) → readGroups (isBig p) m v (innerAt p 4 root) n at ≡ done r
+  pub path-answers : (n at : ℕ) (r : Values × ℕ) → groupsBy p m v (innerAt p 4 root) 4 n at ≡ done r
       → (fs ds : List Answer) (rest : Values)
-      → Answers p (4 - length (stepsOf path)) (blockAfter p (stepsOf path) root) m v (spotOf at) x
+      → Answers p (4 - length (stepsOf path)) (blockAfter p (stepsOf path) root) m v (pathSpot at) x
       (answerAt (stepsOf path) x (entry fs (r .0) ds rest))
   path-answers n at r h fs ds rest =
       let is : stepsOf path ≡ stepAt path 0 ∷ stepsFrom path 2 = steps-next path 0 some in
-      told (λ y. answerAt (stepsOf path) y (entry fs (r .0) ds rest)) (spotOf at)
+      told (λ y. answerAt (stepsOf path) y (entry fs (r .0) ds rest)) (pathSpot at)
       (block-there p 4 root block (stepsOf path) x has)
-      (rw is (row-leads (isBig p) m v (shapeAt p root, innerAt p 4 root) (stepAt path 0) (stepsFrom path 2) n at r h
+      (rw is (row-leads p m v (shapeAt p root, innerAt p 4 root) (stepAt path 0) (stepsFrom path 2) 4 n at r h
       fs ds rest))
 
--- ---- without steps: an entry with surplus data is the same without them
+-- ---- without steps: an entry with k surplus data is the same without them
 
-module _ (big : Bool) (m : List ℕ) (v : ℕ) where
-  -- Where the data end without the surplus ones.
-  record Less (ds : List Data) (at : ℕ) (r : List Answer × ℕ) : Type 0 where
-    pub end : ℕ
-    pub reads : readDatas big m v ds 0 at ≡ done (r .0, end)
-
-  none-left : (at : ℕ) (r : List Answer) → [] ≡ r → readDatas big m v [] 0 at ≡ done (r, at)
-  unfolding readDatas skipDatas _>>=_
-  none-left at r e = rw (← e) refl
-
-  datas-less : (ds : List Data) (n at : ℕ) (r : List Answer × ℕ) → readDatas big m v ds n at ≡ done r → Less ds at r
-  unfolding readDatas
-  datas-less [] n at r h =
-      let q = inv-bind _ _ _ h in
-      record { end = at; reads = none-left at (r .0) (ap (λ (e : List Answer × ℕ). e .0) (done-inj (q .next))) }
-  datas-less (d ∷ ds) n at r h =
-      let a = inv-both _ _ _ _ h in
-      let on = datas-less ds n (a .value .1) (a .other) (a .second) in
-      record {
-        end = on .end;
-        reads = more-data _ _ (a .first) _ _ (on .reads) _
-            (ap (λ (e : List Answer × ℕ). (e .0, on .end)) (a .is));
-      }
-
-  -- Where the entry ends without them.
-  record Whole (s : Shape) (f : ℕ → Result (Values × ℕ)) (l at : ℕ) (e : Entry) : Type 0 where
-    pub end : ℕ
-    pub reads : readBlock big m v s f 0 l at ≡ done (e .0, e .1, e .2, end)
-
-  block-less : (s : Shape) (f : ℕ → Result (Values × ℕ)) (n l at : ℕ) (e : Entry)
-      → readBlock big m v s f n l at ≡ done e → Whole s f l at e
-  unfolding readBlock must _>>=_
-  block-less s f n l at e h =
-      let b = block-read big m v s f n l at e h in
-      let d = datas-less (s .datas) n (b .row .1) (e .2, e .3) (b .datas) in
-      record {
-        end = d .end;
-        reads = rw (le-leb (at + l) (length m) (b .fits), b .groups, d .reads, b .fields, b .same) refl;
-      }
-
--- The entry itself, with k surplus data.
-module _ (p : List ℕ) (depth a : ℕ) (block : BlockAt p depth a) (m : List ℕ) (short : length m ≤ 65535) (v n k l at : ℕ)
-    (enough : need v (shapeAt p a) ≤ l) (e : Entry)
-    (reads : readBlock (isBig p) m v (shapeAt p a) (readGroups (isBig p) m v (innerAt p depth a) n) k l at
+module _ (p : List ℕ) (depth a : ℕ) (block : BlockAt p depth a) (m : List ℕ) (short : length m ≤ 65535) (v : ℕ)
+    (spot : Spot) (k : ℕ) (enough : need v (shapeAt p a) ≤ spot .length) (few : spot .groups ≤ 65535) (e : Entry)
+    (reads : entryBy p m v (shapeAt p a) (innerAt p depth a) depth (spot .groups) k (spot .length) (spot .start)
     ≡ done e) where
-  pub root-accepted : Accepted p depth a m v n l at
+  pub root-accepted : Accepted p depth a m v spot
   root-accepted =
-      let whole = block-less (isBig p) m v _ _ _ _ _ _ reads in
-      record { stands = block; short = short; enough = enough; reads = record { value = _; is = whole .reads } }
+      let less = block-less (isBig p) m v _ _ _ _ _ _ reads in
+      record {
+        stands = block;
+        short = short;
+        enough = enough;
+        few = few;
+        reads = record { value = _; is = less .reads };
+      }
 
-  pub root-answers : (x : Element) → elementRead x (entryRead p depth a m v n l at) ≡ elementOf x (e .0) (e .1) (e .2)
+  pub root-answers : (x : Element) → elementRead x (entryRead p depth a m v spot) ≡ elementOf x (e .0) (e .1) (e .2)
   unfolding elementRead
   root-answers x = rw (block-less (isBig p) m v _ _ _ _ _ _ reads .reads) refl

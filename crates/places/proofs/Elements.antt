@@ -11,7 +11,7 @@ use Rattle.layout.specs.Result.{Each, Result, _>>=_, done, if_then_else_}
 use Rattle.layout.specs.Octets.{number16}
 use Rattle.layout.specs.Book.{Field, Groups, Shape, more, need}
 use Rattle.layout.specs.BookRules.{parseDatas, parseFields, word}
-use Rattle.layout.specs.Message.{readData, readDatas, readField, readGroups, skipDatas, skipGroups}
+use Rattle.layout.specs.Message.{inRow, readData, readDatas, readField}
 use Rattle.layout.specs.Reading.{hasElement}
 use Rattle.layout.specs.Values.{Values, elementOf, groupOf, nil}
 use Rattle.layout.specs.declared.Answer.{Answer}
@@ -22,21 +22,22 @@ use Rattle.layout.specs.declared.Answer.the-variants.{Absent, Group, Octets}
 use Rattle.layout.proofs.Results.{and-right, done-inj, inv-bind, inv-both, inv-must}
 use Rattle.prepared.specs.Names.{listsAt}
 use Rattle.prepared.specs.Positions.{BlockAt, fieldAt, manyDatas, manyFields, fieldsFrom, manyGroups, groupsFrom}
-use Rattle.prepared.specs.Positions.{innerAt, isBig, shapeAt, tableFrom}
-use Rattle.wire.specs.Walks.{skipEnd, walked}
+use Rattle.prepared.specs.Positions.{innerAt, isBig, isCounted, shapeAt, tableFrom}
+use Rattle.wire.specs.Walks.{walked}
 use Rattle.wire.specs.declared.Walked as Walked
 use Rattle.wire.proofs.Answers.{inv-to}
-use Rattle.walk.specs.Walks.{datasEnd, rowAt, valuesEnd}
-use Rattle.walk.proofs.Rows.{surplus-after}
+use Rattle.walk.specs.Walks.{datasEnd, groupsBy, rowAt, valuesEnd}
+use Rattle.walk.proofs.Groups.{row-step}
 use Rattle.fields.specs.Readable.{Fits, Readable}
 use Rattle.fields.proofs.Fields.{fields-fit}
 use Rattle.prepared.proofs.Open.{field-here}
 use Rattle.places.specs.Seeks.{rowAfter}
 use Rattle.places.specs.Elements.{Accepted, Done, countOf, dataRead, datasRead, elementRead, entryRead}
 use Rattle.places.specs.Elements.{groupRead, numberOf}
-use Rattle.places.proofs.Rows.{RowFrom, row-from}
+use Rattle.places.specs.declared.Spot.{Spot}
+use Rattle.places.proofs.Rows.{RowFrom, row-from, row-less}
 use Rattle.places.proofs.Places.{group-halves, group-is}
-use Rattle.places.proofs.Leads.{BlockRead, block-read, group-read}
+use Rattle.places.proofs.Leads.{BlockRead, block-read, dimension-some, group-read}
 use Rattle.places.proofs.Blocks.{has-element}
 
 -- What was done is not refused.
@@ -83,63 +84,65 @@ field-readable p depth a m v l at k stands enough fits less =
 
 -- ---- a group
 
-module _ (big : Bool) (m : List ℕ) (v : ℕ) where
-  gone : (since : ℕ) (r : Result (Answer × Values × ℕ)) (at : ℕ) (a : Answer × Values × ℕ) → v < since
-      → (if leb since v then r else done (Absent, nil, at)) ≡ done a → a .0 ≡ Absent
-  unfolding if_then_else_
-  gone since r at a l e = sym (ap (λ (d : Answer × Values × ℕ). d .0) (done-inj (rw (lt-leb since v l) at e)))
+gone : (v since : ℕ) (r : Result (Answer × Values × ℕ)) (at : ℕ) (a : Answer × Values × ℕ) → v < since
+    → (if leb since v then r else done (Absent, nil, at)) ≡ done a → a .0 ≡ Absent
+unfolding if_then_else_
+gone v since r at a l e = sym (ap (λ (d : Answer × Values × ℕ). d .0) (done-inj (rw (lt-leb since v l) at e)))
 
-  here : (since : ℕ) (r : Result (Answer × Values × ℕ)) (at : ℕ) (a : Answer × Values × ℕ) → since ≤ v
-      → (if leb since v then r else done (Absent, nil, at)) ≡ done a → r ≡ done a
-  unfolding if_then_else_
-  here since r at a l e = rw (le-leb since v l) at e
+here : (v since : ℕ) (r : Result (Answer × Values × ℕ)) (at : ℕ) (a : Answer × Values × ℕ) → since ≤ v
+    → (if leb since v then r else done (Absent, nil, at)) ≡ done a → r ≡ done a
+unfolding if_then_else_
+here v since r at a l e = rw (le-leb since v l) at e
 
-  -- A group with this since at `at` that was read is `is`.
-  pub record GroupHere (since at : ℕ) (is : Answer) : Type 0 where
-    pub absent : v < since → is ≡ Absent
-    pub fits : since ≤ v → at + 4 ≤ length m
-    pub counts : since ≤ v → is ≡ Group (number16 big m (at + 2))
+-- A group with this since at `at` that was read is `is`.
+pub record GroupHere (big : Bool) (m : List ℕ) (v since at : ℕ) (is : Answer) : Type 0 where
+  pub absent : v < since → is ≡ Absent
+  pub fits : since ≤ v → at + 4 ≤ length m
+  pub counts : since ≤ v → is ≡ Group (number16 big m (at + 2))
 
-  first-group : (i since : ℕ) (s : Shape) (inner rest : Groups) (n at : ℕ) (r : Values × ℕ)
-      → readGroups big m v (more i since s inner rest) n at ≡ done r → GroupHere since at (groupOf 0 (r .0))
-  unfolding readGroups groupOf
-  first-group i since s inner rest n at r h =
-      let a = inv-both _ _ _ _ h in
-      let is : groupOf 0 (r .0) ≡ a .value .0 = sym (ap (λ (d : Values × ℕ). groupOf 0 (d .0)) (a .is)) in
-      record {
-        absent = λ l. is ∙ gone since _ at _ l (a .first);
-        fits = λ l. group-read big m v s inner at _ (here since _ at _ l (a .first)) .is .fits;
-        counts = λ l.
-            let g = group-read big m v s inner at _ (here since _ at _ l (a .first)) in
-            is ∙ sym (g .itself) ∙ ap Group (g .is .entries);
-      }
+first-group : (p m : List ℕ) (v depth i since : ℕ) (s : Shape) (inner rest : Groups) (n at : ℕ) (r : Values × ℕ)
+    → groupsBy p m v (more i since s inner rest) depth n at ≡ done r
+    → GroupHere (isBig p) m v since at (groupOf 0 (r .0))
+unfolding groupOf
+first-group p m v depth i since s inner rest n at r h =
+    let a = inv-both _ _ _ _ (sym (row-step p m v depth n at _ i since s inner rest refl) ∙ h) in
+    let is : groupOf 0 (r .0) ≡ a .value .0 = sym (ap (λ (d : Values × ℕ). groupOf 0 (d .0)) (a .is)) in
+    record {
+      absent = λ l. is ∙ gone v since _ at _ l (a .first);
+      fits = λ l.
+          let g = group-read p m v s inner (depth - 1) at _ (here v since _ at _ l (a .first)) in
+          omega (arith, g .is .fits, dimension-some (isCounted p));
+      counts = λ l.
+          let g = group-read p m v s inner (depth - 1) at _ (here v since _ at _ l (a .first)) in
+          is ∙ sym (g .itself) ∙ ap Group (g .is .entries);
+    }
 
 -- Group k of the block at a, whose groups were read.
 module _ (p : List ℕ) (depth a : ℕ) (stands : BlockAt p depth a) (m : List ℕ) (v at k : ℕ) (less : k < manyGroups p a)
-    (read : Done (rowAt p depth (manyGroups p a) (groupsFrom p a) m v at)) where
-  abbrev from : RowFrom (isBig p) m v k (innerAt p depth a) 0 at (read .value)
-  from = row-from (isBig p) m v k (innerAt p depth a) 0 at (read .value) (read .is)
+    (read : Done (rowAt p depth (manyGroups p a) (groupsFrom p a) m v 0 at)) where
+  abbrev from : RowFrom p m v depth k (innerAt p depth a) 0 at (read .value)
+  from = row-from p m v depth k (innerAt p depth a) 0 at (read .value) (read .is)
 
-  pub groups-before : Done (rowAt p depth k (groupsFrom p a) m v at)
+  pub groups-before : Done (rowAt p depth k (groupsFrom p a) m v 0 at)
   groups-before =
       record { value = from .first; is = rw (group-halves p depth a k stands less .takes) at (from .passed) }
 
   pub group-here : (x j : ℕ)
-      → Walked.the-variants.To x j ≡ walked (valuesEnd 0) (rowAt p depth k (groupsFrom p a) m v at)
+      → Walked.the-variants.To x j ≡ walked (valuesEnd 0) (rowAt p depth k (groupsFrom p a) m v 0 at)
       → GroupHere (isBig p) m v (word p (rowAfter p k (groupsFrom p a) + 1)) x
-      (groupRead k (rowAt p depth (manyGroups p a) (groupsFrom p a) m v at))
+      (groupRead k (rowAt p depth (manyGroups p a) (groupsFrom p a) m v 0 at))
   unfolding groupRead
   group-here x j e =
       let before = rw (group-halves p depth a k stands less .takes) at (from .passed) in
       let to = inv-to (valuesEnd 0) _ x j e in
       let end : from .first .1 ≡ x = ap (λ (r : Values × ℕ). r .1) (done-inj (sym before ∙ to .is)) ∙ to .next in
       rw (read .is, from .group, ← end)
-      (first-group (isBig p) m v _ _ _ _ _ 0 _ _ (rw (group-is p depth a k stands less) at (from .reads)))
+      (first-group p m v depth _ _ _ _ _ 0 _ _ (rw (group-is p depth a k stands less) at (from .reads)))
 
 -- ---- data
 
 -- A data before others.
-pub more-data : (f : Result (Answer × ℕ)) (d : Answer × ℕ) → f ≡ done d → (k : ℕ → Result (List Answer × ℕ))
+more-data : (f : Result (Answer × ℕ)) (d : Answer × ℕ) → f ≡ done d → (k : ℕ → Result (List Answer × ℕ))
     (r : List Answer × ℕ) → k (d .1) ≡ done r → (whole : List Answer × ℕ) → (d .0 ∷ r .0, r .1) ≡ whole
     → (f >>= λ d. k (d .1) >>= λ q. done (d .0 ∷ q .0, q .1)) ≡ done whole
 unfolding _>>=_
@@ -156,7 +159,7 @@ module _ (big : Bool) (m : List ℕ) (v : ℕ) (p : List ℕ) where
     pub is : getD (r .0) k Absent ≡ one .0
 
   none-data : (a at : ℕ) → readDatas big m v (parseDatas p 0 a) 0 at ≡ done ([], at)
-  unfolding readDatas parseDatas skipDatas _>>=_
+  unfolding readDatas parseDatas inRow _>>=_
   none-data a at = refl
 
   data-from : (n k a at : ℕ) (r : List Answer × ℕ) → k < n → readDatas big m v (parseDatas p n a) 0 at ≡ done r
@@ -221,85 +224,70 @@ module _ (big : Bool) (m : List ℕ) (v : ℕ) (p : List ℕ) where
         ∙ to .next in
         rw (read .is, data-is .is, ← end) (one-data _ _ _ (data-is .reads))
 
--- The data come after the surplus groups.
+-- The data come after the groups and the surplus ones.
 module _ (p : List ℕ) (depth a : ℕ) (m : List ℕ) (v n at : ℕ) where
   abbrev datasOf : ℕ → Result (List Answer × ℕ)
   datasOf x = readDatas (isBig p) m v (shapeAt p a .datas) 0 x
 
   pub record DatasAfter : Type 0 where
-    pub row : Done (rowAt p depth (manyGroups p a) (groupsFrom p a) m v at)
-    pub rest : Done (skipGroups (isBig p) m n (row .value .1))
-    pub datas : Done (datasOf (rest .value))
-    pub same : datasRead p depth a m v n at ≡ datasOf (rest .value)
+    pub row : Done (rowAt p depth (manyGroups p a) (groupsFrom p a) m v n at)
+    pub datas : Done (datasOf (row .value .1))
+    pub same : datasRead p depth a m v n at ≡ datasOf (row .value .1)
 
   pub datas-after : Done (datasRead p depth a m v n at) → DatasAfter
   datas-after d =
-      let g = inv-bind (readGroups (isBig p) m v (innerAt p depth a) n at) _ (d .value) (d .is) in
-      let r =
-      inv-bind (readGroups (isBig p) m v (innerAt p depth a) 0 at) _ _
-      (sym (surplus-after (isBig p) m n v (innerAt p depth a) at) ∙ g .first) in
-      let x = inv-bind _ _ _ (r .next) in
-      let end : g .value .1 ≡ x .value = sym (ap (λ (d : Values × ℕ). d .1) (done-inj (x .next))) in
+      let g = inv-bind (groupsBy p m v (innerAt p depth a) depth n at) _ (d .value) (d .is) in
       record {
-        row = record { value = r .value; is = r .first };
-        rest = record { value = x .value; is = x .first };
-        datas = record { value = d .value; is = ap datasOf (sym end) ∙ g .next };
-        same = d .is ∙ sym (ap datasOf (sym end) ∙ g .next);
+        row = record { value = g .value; is = g .first };
+        datas = record { value = d .value; is = g .next };
+        same = d .is ∙ sym (g .next);
       }
 
   pub row-to : (d : DatasAfter) (x k : ℕ)
-      → Walked.the-variants.To x k ≡ walked (valuesEnd 0) (rowAt p depth (manyGroups p a) (groupsFrom p a) m v at)
+      → Walked.the-variants.To x k ≡ walked (valuesEnd 0) (rowAt p depth (manyGroups p a) (groupsFrom p a) m v n at)
       → x ≡ d .row .value .1
   row-to d x k e =
       let to = inv-to (valuesEnd 0) _ x k e in
       sym (to .next) ∙ ap (λ (r : Values × ℕ). r .1) (done-inj (sym (to .is) ∙ d .row .is))
 
-  pub rest-to : (d : DatasAfter) (x k : ℕ)
-      → Walked.the-variants.To x k ≡ walked skipEnd (skipGroups (isBig p) m n (d .row .value .1))
-      → x ≡ d .rest .value
-  rest-to d x k e =
-      let to = inv-to skipEnd _ x k e in
-      sym (to .next) ∙ done-inj (sym (to .is) ∙ d .rest .is)
-
 -- ---- the elements of an entry that was accepted
 
-module _ {p : List ℕ} {depth a : ℕ} {m : List ℕ} {v n l at : ℕ} (ok : Accepted p depth a m v n l at) where
-  abbrev parts : BlockRead (isBig p) m v (shapeAt p a) (readGroups (isBig p) m v (innerAt p depth a) n) 0 l at
-      (ok .reads .value)
+module _ {p : List ℕ} {depth a : ℕ} {m : List ℕ} {v : ℕ} {e : Spot} (ok : Accepted p depth a m v e) where
+  abbrev after : ℕ
+  after = e .start + e .length
+
+  abbrev parts : BlockRead (isBig p) m v (shapeAt p a) (groupsBy p m v (innerAt p depth a) depth (e .groups)) 0
+      (e .length) (e .start) (ok .reads .value)
   parts = block-read (isBig p) m v _ _ _ _ _ _ (ok .reads .is)
 
-  pub entry-fits : at + l ≤ length m
+  pub entry-fits : after ≤ length m
   entry-fits = parts .fits
 
   pub element-field : (k : ℕ) → k < manyFields p a
-      → elementRead (Element.Field k) (entryRead p depth a m v n l at)
-      ≡ readField (isBig p) m v at (fieldAt p (fieldsFrom p a + 7 * k))
+      → elementRead (Element.Field k) (entryRead p depth a m v e)
+      ≡ readField (isBig p) m v (e .start) (fieldAt p (fieldsFrom p a + 7 * k))
   unfolding elementRead elementOf
   element-field k less =
-      rw (ok .reads .is, ← (parts .fields)) (field-in (isBig p) m v at p (manyFields p a) k (fieldsFrom p a) less)
+      rw (ok .reads .is, ← (parts .fields))
+      (field-in (isBig p) m v (e .start) p (manyFields p a) k (fieldsFrom p a) less)
 
-  pub entry-row : Done (rowAt p depth (manyGroups p a) (groupsFrom p a) m v (at + l))
+  pub entry-row : Done (rowAt p depth (manyGroups p a) (groupsFrom p a) m v 0 after)
   entry-row =
-      let r = inv-bind (readGroups (isBig p) m v (innerAt p depth a) 0 (at + l)) _ _
-      (sym (surplus-after (isBig p) m n v (innerAt p depth a) (at + l)) ∙ parts .groups) in
-      record { value = r .value; is = r .first }
+      record { value = _; is = row-less p m v depth (innerAt p depth a) (e .groups) after _ (parts .groups) .reads }
 
-  pub element-group : (k : ℕ) → elementRead (Element.Group k) (entryRead p depth a m v n l at)
-      ≡ groupRead k (rowAt p depth (manyGroups p a) (groupsFrom p a) m v (at + l))
+  pub element-group : (k : ℕ) → elementRead (Element.Group k) (entryRead p depth a m v e)
+      ≡ groupRead k (rowAt p depth (manyGroups p a) (groupsFrom p a) m v 0 after)
   unfolding elementRead elementOf groupRead
   element-group k =
-      let r = inv-bind (readGroups (isBig p) m v (innerAt p depth a) 0 (at + l)) _ _
-      (sym (surplus-after (isBig p) m n v (innerAt p depth a) (at + l)) ∙ parts .groups) in
-      let x = inv-bind _ _ _ (r .next) in
-      let same : r .value .0 ≡ parts .row .0 = ap (λ (d : Values × ℕ). d .0) (done-inj (x .next)) in
-      rw (ok .reads .is, r .first) (ap (groupOf k) (sym (parts .same) ∙ sym same))
+      rw (ok .reads .is, row-less p m v depth (innerAt p depth a) (e .groups) after _ (parts .groups) .reads)
+      (ap (groupOf k) (sym (parts .same)))
 
-  pub entry-datas : Done (datasRead p depth a m v n (at + l))
+  pub entry-datas : Done (datasRead p depth a m v (e .groups) after)
   unfolding _>>=_
   entry-datas = record { value = (ok .reads .value .2, ok .reads .value .3); is = rw (parts .groups) (parts .datas) }
 
-  pub element-data : (k : ℕ) → elementRead (Element.Data k) (entryRead p depth a m v n l at)
-      ≡ dataRead k (datasRead p depth a m v n (at + l))
+  pub element-data : (k : ℕ) → elementRead (Element.Data k) (entryRead p depth a m v e)
+      ≡ dataRead k (datasRead p depth a m v (e .groups) after)
   unfolding elementRead elementOf dataRead _>>=_
   element-data k = rw (ok .reads .is, parts .groups, parts .datas) refl
 

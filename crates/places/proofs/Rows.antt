@@ -1,19 +1,21 @@
 -- A row of groups is its first g groups and the others; the entry of a group whose turn comes.
 use mathlib.Core.Path.{_∙_, _≡_, ap, refl, sym}
-use mathlib.Core.Bool.{Bool}
 use mathlib.Core.List.{List}
 use Prim.Native.Nat.{ℕ, zero, suc, _-_, _≤_, _<_}
 use native.Mathlib.Omega.{arith}
 use lib.Dec.{eqb, leb}
 use borrow.Author.Tests.{eqb-false, eqb-true, ne-eqb}
 use Rattle.layout.specs.Result.{Result, _>>=_, done, if_then_else_, refused}
-use Rattle.layout.specs.Book.{Groups, more, none}
-use Rattle.layout.specs.Message.{Entry, readEntries, readGroup, readGroups, skipGroups}
+use Rattle.layout.specs.Book.{Groups, groupSinces, more, none}
+use Rattle.layout.specs.Message.{Entry, inRow, inside, readEntries, readGroup, readGroups}
 use Rattle.layout.specs.Values.{Values, entriesFrom, entriesOf, entry, group, groupOf, nil}
 use Rattle.layout.specs.declared.Answer.{Answer}
 use Rattle.layout.specs.declared.Answer.the-variants.{Absent}
 use Rattle.layout.proofs.Results.{done-inj, each-way, inv-bind, inv-both}
-use Rattle.places.specs.Spots.{Spot, dropGroups, entriesSpot, endOfEntry, takeGroups}
+use Rattle.prepared.specs.Positions.{isBig, isCounted, versionAt}
+use Rattle.walk.specs.Walks.{groupsBy}
+use Rattle.places.specs.Spots.{dropGroups, entriesSpot, endOfEntry, takeGroups}
+use Rattle.places.specs.declared.Spot.{Spot}
 
 -- ---- groups
 
@@ -37,22 +39,24 @@ more-reads : (f : Result (Answer × Values × ℕ)) (a : Answer × Values × ℕ
 unfolding _>>=_
 more-reads f a e k r h = rw (e, h) refl
 
-module _ (big : Bool) (m : List ℕ) (v : ℕ) where
-  none-reads : (at : ℕ) → readGroups big m v none 0 at ≡ done (nil, at)
-  unfolding readGroups skipGroups _>>=_
+module _ (p m : List ℕ) (v depth : ℕ) where
+  abbrev row : Groups → ℕ → ℕ → Result (Values × ℕ)
+  row gs n at = groupsBy p m v gs depth n at
+
+  none-reads : (at : ℕ) → row none 0 at ≡ done (nil, at)
+  unfolding readGroups inRow _>>=_
   none-reads at = refl
 
   -- Group g of a row that was read is the first of those from it on.
   pub record RowFrom (g : ℕ) (gs : Groups) (n at : ℕ) (r : Values × ℕ) : Type 0 where
     pub first : Values × ℕ
     pub value : Values
-    pub passed : readGroups big m v (takeGroups g gs) 0 at ≡ done first
-    pub reads : readGroups big m v (dropGroups g gs) n (first .1) ≡ done (value, r .1)
+    pub passed : row (takeGroups g gs) 0 at ≡ done first
+    pub reads : row (dropGroups g gs) n (first .1) ≡ done (value, r .1)
     pub entries : entriesOf g (r .0) ≡ entriesOf 0 value
     pub group : groupOf g (r .0) ≡ groupOf 0 value
 
-  pub row-from : (g : ℕ) (gs : Groups) (n at : ℕ) (r : Values × ℕ) → readGroups big m v gs n at ≡ done r
-      → RowFrom g gs n at r
+  pub row-from : (g : ℕ) (gs : Groups) (n at : ℕ) (r : Values × ℕ) → row gs n at ≡ done r → RowFrom g gs n at r
   unfolding readGroups takeGroups dropGroups entriesOf groupOf
   row-from zero gs n at r h =
       record { first = (nil, at); value = r .0; passed = none-reads at; reads = h; entries = refl; group = refl }
@@ -81,28 +85,47 @@ module _ (big : Bool) (m : List ℕ) (v : ℕ) where
       }
 
   -- The others start where the first g end.
-  pub row-cut : (g : ℕ) (gs : Groups) (n at : ℕ) → ended (readGroups big m v gs n at)
-      ≡ (ended (readGroups big m v (takeGroups g gs) 0 at) >>= λ x. ended (readGroups big m v (dropGroups g gs) n x))
-  unfolding readGroups skipGroups takeGroups dropGroups ended _>>=_
+  pub row-cut : (g : ℕ) (gs : Groups) (n at : ℕ) → ended (row gs n at)
+      ≡ (ended (row (takeGroups g gs) 0 at) >>= λ x. ended (row (dropGroups g gs) n x))
+  unfolding readGroups inRow takeGroups dropGroups ended _>>=_
   row-cut zero gs n at = refl
   row-cut (suc g) none n at = refl
   row-cut (suc g) (more i since s inner rest) n at =
-      go (if leb since v then readGroup big m v s (readGroups big m v inner 0) at else done (Absent, nil, at))
-      (λ x. row-cut g rest n x)
+      go (if leb since v then readGroup (isCounted p) (versionAt p) (isBig p) m v s (groupSinces inner)
+      (groupsBy p m v inner (inside depth)) at else done (Absent, nil, at)) (λ x. row-cut g rest n x)
     where
       go : (f : Result (Answer × Values × ℕ))
-          → ((x : ℕ) → ended (readGroups big m v rest n x) ≡ (ended (readGroups big m v (takeGroups g rest) 0 x)
-          >>= λ x. ended (readGroups big m v (dropGroups g rest) n x)))
-          → ended (f >>= λ a. readGroups big m v rest n (a .2) >>= λ q. done (grouped a q))
-          ≡ (ended (f >>= λ a. readGroups big m v (takeGroups g rest) 0 (a .2) >>= λ q. done (grouped a q))
-          >>= λ x. ended (readGroups big m v (dropGroups g rest) n x))
+          → ((x : ℕ) → ended (row rest n x)
+          ≡ (ended (row (takeGroups g rest) 0 x) >>= λ x. ended (row (dropGroups g rest) n x)))
+          → ended (f >>= λ a. row rest n (a .2) >>= λ q. done (grouped a q))
+          ≡ (ended (f >>= λ a. row (takeGroups g rest) 0 (a .2) >>= λ q. done (grouped a q))
+          >>= λ x. ended (row (dropGroups g rest) n x))
       go (done a) on =
           rw (
-            ended-told (readGroups big m v rest n (a .2)) (group (a .0) (a .1)),
-            ended-told (readGroups big m v (takeGroups g rest) 0 (a .2)) (group (a .0) (a .1)),
+            ended-told (row rest n (a .2)) (group (a .0) (a .1)),
+            ended-told (row (takeGroups g rest) 0 (a .2)) (group (a .0) (a .1)),
           )
           (on (a .2))
-      go (refused k p) on = refl
+      go (refused k q) on = refl
+
+  -- Where it ends without the surplus groups.
+  pub record RowLess (gs : Groups) (at : ℕ) (r : Values × ℕ) : Type 0 where
+    pub end : ℕ
+    pub reads : row gs 0 at ≡ done (r .0, end)
+
+  pub row-less : (gs : Groups) (n at : ℕ) (r : Values × ℕ) → row gs n at ≡ done r → RowLess gs at r
+  unfolding readGroups
+  row-less none n at r h =
+      let e : nil ≡ r .0 = ap (λ (d : Values × ℕ). d .0) (done-inj (inv-bind _ _ _ h .next)) in
+      record { end = at; reads = rw (← e) (none-reads at) }
+  row-less (more i since s inner rest) n at r h =
+      let a = inv-both _ _ _ _ h in
+      let on = row-less rest n (a .value .2) (a .other) (a .second) in
+      record {
+        end = on .end;
+        reads = more-reads _ _ (a .first) _ _ (on .reads)
+            ∙ ap (λ (d : Values × ℕ). done (d .0, on .end)) (a .is);
+      }
 
 -- ---- entries
 

@@ -5,7 +5,7 @@ use Prim.Native.Nat.{ℕ, _≤_}
 use lib.ListN.{getD, length}
 use Rattle.layout.specs.Result.{Result, _>>=_, done, if_then_else_, refused}
 use Rattle.layout.specs.Book.{need}
-use Rattle.layout.specs.Message.{Entry, readBlock, readDatas, readGroups}
+use Rattle.layout.specs.Message.{Entry, readDatas}
 use Rattle.layout.specs.Reading.{hasPlace}
 use Rattle.layout.specs.Values.{Step, Values, elementOf, groupOf}
 use Rattle.layout.specs.declared.Answer.{Answer}
@@ -15,7 +15,9 @@ use Rattle.layout.specs.declared.Element.{Element}
 use Rattle.prepared.specs.Positions.{BlockAt, manyDatas, manyFields, manyGroups, groupsFrom, innerAt, isBig, shapeAt}
 use Rattle.prepared.specs.declared.Located.{Located}
 use Rattle.prepared.specs.declared.Located.the-variants.{At, Unknown}
+use Rattle.walk.specs.Walks.{entryBy, groupsBy}
 use Rattle.places.specs.Seeks.{rowAfter}
+use Rattle.places.specs.declared.Spot.{Spot}
 
 -- ---- whether the template has it
 
@@ -51,18 +53,19 @@ pub record Done {A : Type 0} (r : Result A) : Type 0 where
 module _ (p : List ℕ) (depth a : ℕ) (m : List ℕ) (v : ℕ) where
   abbrev pub datasRead : ℕ → ℕ → Result (List Answer × ℕ)
   datasRead n at =
-      readGroups (isBig p) m v (innerAt p depth a) n at >>= λ g. readDatas (isBig p) m v (shapeAt p a .datas) 0 (g .1)
+      groupsBy p m v (innerAt p depth a) depth n at >>= λ g. readDatas (isBig p) m v (shapeAt p a .datas) 0 (g .1)
 
-  -- An entry of the block at a, with l octets from `at` on.
-  abbrev pub entryRead : ℕ → ℕ → ℕ → Result Entry
-  entryRead n l at = readBlock (isBig p) m v (shapeAt p a) (readGroups (isBig p) m v (innerAt p depth a) n) 0 l at
+  -- An entry of the block at a that stands at the spot, without the surplus data that may follow it.
+  abbrev pub entryRead : Spot → Result Entry
+  entryRead e = entryBy p m v (shapeAt p a) (innerAt p depth a) depth (e .groups) 0 (e .length) (e .start)
 
   -- It was accepted.
-  pub record Accepted (n l at : ℕ) : Type 0 where
+  pub record Accepted (e : Spot) : Type 0 where
     pub stands : BlockAt p depth a
     pub short : length m ≤ 65535
-    pub enough : need v (shapeAt p a) ≤ l
-    pub reads : Done (entryRead n l at)
+    pub enough : need v (shapeAt p a) ≤ e .length
+    pub few : e .groups ≤ 65535
+    pub reads : Done (entryRead e)
 
 unfoldable pub groupRead : ℕ → Result (Values × ℕ) → Answer
 groupRead k (done r) = groupOf k (r .0)

@@ -1,5 +1,7 @@
 // What stands at one place of a message. The checking walk passes the place once, along a path of steps, and tells
 // where the entry starts that the path leads to; the element is read of that entry afterwards.
+use counts::Entries;
+use counts::Opened;
 use layout::Answer;
 use layout::Element;
 use layout::Refusal;
@@ -8,33 +10,36 @@ use prepared::number;
 use walk::pass_row;
 use walk::walk_datas;
 use walk::walk_row;
-use wire::Dimension;
 use wire::Walked;
 ghost use mathlib.Core.Path.{_≡_};
 ghost use mathlib.Core.Bool.{true};
 ghost use Prim.Native.Nat.{_+_, _-_, _*_, _≤_, _<_};
 ghost use lib.ListN.{length};
-ghost use Rattle.layout.specs.BookRules.{parseDatas, word};
+ghost use Rattle.layout.specs.BookRules.{parseDatas};
 ghost use Rattle.layout.specs.Contracts.{refusal};
 ghost use Rattle.layout.specs.Message.{readDatas};
 ghost use Rattle.layout.specs.Reading.{hasElement, stepsOf};
 ghost use Rattle.prepared.specs.Positions.{BlockAt, IsBlock, IsRow, manyDatas, manyGroups, groupsFrom, innerAt};
 ghost use Rattle.prepared.specs.Positions.{shapeAt};
-ghost use Rattle.walk.specs.Walks.{Lent, rowAt};
+ghost use Rattle.wire.specs.Walks.{Lent};
+ghost use Rattle.walk.specs.Walks.{Small, rowAt};
 ghost use Rattle.places.specs.Spots.{nowhere};
 ghost use Rattle.places.specs.Seeks.{Path, Within, entriesSought, foundAt, groupSought, innerSought, plainSpot};
 ghost use Rattle.places.specs.Seeks.{rowAfter, rowSought};
 ghost use Rattle.places.specs.Elements.{Accepted, Done, blockFor, countOf, dataRead, datasRead, elementRead};
 ghost use Rattle.places.specs.Elements.{entryRead, groupRead, numberOf};
 
-// What the walk past a row along a path comes to: where the row ends, and where the entry that the path leads to starts
-// and how many octets its block has, 0 and 0 if there is none; or the refusal.
+// Where the entry stands that a path leads to: where it starts, how many octets its block has, and how many surplus
+// groups follow its own. All are 0 where there is no such entry.
+pub struct Spot {
+    pub start: usize,
+    pub length: usize,
+    pub groups: usize,
+}
+
+// What the walk past a row along a path comes to: where the row ends, and the spot; or the refusal.
 pub enum Row {
-    To {
-        next: usize,
-        found: usize,
-        length: usize,
-    },
+    To { next: usize, spot: Spot },
     Refused(Refusal),
 }
 
@@ -44,21 +49,21 @@ fn refuse_row(number: u8, place: usize) -> Row
     Row::Refused(Refusal { number, place })
 }
 
-fn row_to(next: usize, found: usize, length: usize) -> Row
-    ensures { λ r. ⌜ r ≡ Row.To next found length ⌝ }
+fn no_spot() -> Spot
+    ensures { λ r. ⌜ r ≡ nowhere ⌝ }
 {
-    Row::To {
-        next,
-        found,
-        length,
+    Spot {
+        start: 0,
+        length: 0,
+        groups: 0,
     }
 }
 
-fn found_at(w: Walked, found: usize, length: usize) -> Row
-    ensures { λ r. ⌜ r ≡ foundAt w (found, length) ⌝ }
+fn found_at(w: Walked, spot: Spot) -> Row
+    ensures { λ r. ⌜ r ≡ foundAt w spot ⌝ }
 {
     match w {
-        Walked::To { next, .. } => row_to(next, found, length),
+        Walked::To { next, .. } => Row::To { next, spot },
         Walked::Refused(refusal) => Row::Refused(refusal),
     }
 }
@@ -92,109 +97,123 @@ fn turn_of(k: usize, e: usize) -> usize
 // step.
 fn plain_row(l: usize, k: usize, start: usize, e: usize, last: bool) -> Row
     requires { ⌜ start + l * k ≤ 65535 ⌝ }
-    ensures { λ r. ⌜ r ≡ Row.To (start + l * k) (plainSpot l k start e last .0) (plainSpot l k start e last .1) ⌝ }
+    ensures { λ r. ⌜ r ≡ Row.To (start + l * k) (plainSpot l k start e last) ⌝ }
 {
     let next = start + l * k;
-    if k <= e {
-        return row_to(next, 0, 0);
+    let mut spot = no_spot();
+    if e < k {
+        if last {
+            spot = Spot {
+                start: start + l * e,
+                length: l,
+                groups: 0,
+            };
+        }
     }
-    if last {
-        return row_to(next, start + l * e, l);
-    }
-    row_to(next, 0, 0)
+    Row::To { next, spot }
 }
 
-// The row of an entry of l octets at `at` of the block at a: along the path from number i on, if the entry is on it.
+// The row of the entry of the block at a that `entry` is the spot of: along the path from number i on, if the entry is
+// on it; else the spot is z.
 fn inner_row(
     p: &&[u64],
     a: usize,
     depth: usize,
     m: &&[u8],
     v: usize,
-    l: usize,
-    at: usize,
+    entry: Spot,
     path: &&[u64],
     i: usize,
     on: bool,
-    found: usize,
-    length: usize,
+    z: Spot,
 ) -> Row
-    requires { ⌜ BlockAt (now (now p)) depth a × Lent (now (now m)) (at + l) × Path (now (now path)) i ⌝ }
+    requires { ⌜ BlockAt (now (now p)) depth a × Lent (now (now m)) (entry .start + entry .length)
+        × (entry .groups ≤ 65535) × Path (now (now path)) i ⌝ }
     ensures { λ r. ⌜ r ≡ innerSought (now (now (p .entry))) depth a (now (now (m .entry))) v (now (now (path .entry))) i
-        l on (found, length) at ⌝ }
+        entry on z ⌝ }
     ensures { λ r. ⌜ Within (now (now (m .entry))) r ⌝ }
 {
     let s = *p;
     let first = number(s, a + 9);
     let n = number(s, a + 4);
+    let at = entry.start + entry.length;
     if on {
         let steps = *path;
         if i < steps.len() {
-            return seek_row(p, a, depth, m, v, at + l, path, i);
+            return seek_row(p, a, depth, m, v, entry.groups, at, path, i);
         }
-        return found_at(pass_row(p, first, n, depth, m, v, at + l), at, l);
+        return found_at(pass_row(p, first, n, depth, m, v, entry.groups, at), entry);
     }
-    found_at(pass_row(p, first, n, depth, m, v, at + l), found, length)
+    found_at(pass_row(p, first, n, depth, m, v, entry.groups, at), z)
 }
 
-// k entries of l octets of the block at a, the step at number i leading to one of them.
+// The entries of the block at a, the step at number i leading to one of them.
 fn seek_entries(
     p: &&[u64],
     a: usize,
     depth: usize,
     m: &&[u8],
     v: usize,
-    l: usize,
-    k: usize,
+    entries: Entries,
     start: usize,
     path: &&[u64],
     i: usize,
 ) -> Row
-    requires { ⌜ BlockAt (now (now p)) depth a × Lent (now (now m)) start × (l ≤ 65535) × (k ≤ 65535)
-        × Path (now (now path)) i × (i < length (now (now path))) ⌝ }
+    requires { ⌜ BlockAt (now (now p)) depth a × Lent (now (now m)) start × Small entries × Path (now (now path)) i
+        × (i < length (now (now path))) ⌝ }
     ensures { λ r. ⌜ r ≡ entriesSought (now (now (p .entry))) depth a (now (now (m .entry))) v (now (now (path .entry)))
-        i l (k - word (now (now (path .entry))) (i + 1)) nowhere k start ⌝ }
+        i entries start ⌝ }
     ensures { λ r. ⌜ Within (now (now (m .entry))) r ⌝ }
 {
     let s = *p;
     let t = *m;
     let steps = *path;
+    let l = entries.length;
+    let k = entries.count;
     let e = number(steps, i + 1);
-    if number(s, a + 7) == 0 {
+    if number(s, a + 7) + entries.surplus == 0 {
         if l * k <= t.len() - start {
             return plain_row(l, k, start, e, steps.len() == i + 2);
         }
     }
     let big = prepared::is_big(s);
+    let groups = counts::groups_in(entries.surplus);
+    let datas = counts::datas_in(entries.surplus);
     let turn = turn_of(k, e);
     let mut due = k;
     let mut at = start;
-    let mut found = 0;
-    let mut length = 0;
+    let mut spot = no_spot();
     while 0 < due {
         if t.len() - at < l {
             return refuse_row(16, at);
         }
-        let on = due == turn;
-        let inside = inner_row(p, a, depth, m, v, l, at, path, i + 2, on, found, length);
-        let Row::To {
-            next,
-            found: f,
-            length: long,
-        } = inside
-        else {
+        let entry = Spot {
+            start: at,
+            length: l,
+            groups,
+        };
+        let inside = inner_row(p, a, depth, m, v, entry, path, i + 2, due == turn, spot);
+        let Row::To { next, spot: found } = inside else {
             return inside;
         };
-        let datas = walk_datas(s, number(s, a + 10), number(s, a + 5), big, t, v, next);
-        let Walked::To { next: end, .. } = datas else {
-            return found_at(datas, 0, 0);
+        let rest = walk_datas(
+            s,
+            number(s, a + 10),
+            number(s, a + 5),
+            datas,
+            big,
+            t,
+            v,
+            next,
+        );
+        let Walked::To { next: end, .. } = rest else {
+            return found_at(rest, no_spot());
         };
         at = end;
-        found = f;
-        length = long;
+        spot = found;
         due = due - 1;
     }
-    row_to(at, found, length)
+    Row::To { next: at, spot }
 }
 
 // n groups in a row at a, the step at number i leading to the first of them.
@@ -205,36 +224,35 @@ fn seek_group(
     depth: usize,
     m: &&[u8],
     v: usize,
+    surplus: usize,
     at: usize,
     path: &&[u64],
     i: usize,
 ) -> Row
-    requires { ⌜ IsRow (now (now p)) depth n a × (0 < n) × (n ≤ 16) × Lent (now (now m)) at × Path (now (now path)) i
-        × (i < length (now (now path))) ⌝ }
+    requires { ⌜ IsRow (now (now p)) depth n a × (0 < n) × (n ≤ 16) × Lent (now (now m)) at × (surplus ≤ 65535)
+        × Path (now (now path)) i × (i < length (now (now path))) ⌝ }
     ensures { λ r. ⌜ r ≡ groupSought (now (now (p .entry))) depth a (now (now (m .entry))) v (now (now (path .entry))) i
-        n at ⌝ }
+        n surplus at ⌝ }
     ensures { λ r. ⌜ Within (now (now (m .entry))) r ⌝ }
 {
     let s = *p;
-    let t = *m;
     prepared::open_row(s, a, n, depth);
     let after = number(s, a + 8);
     if v < number(s, a + 1) {
-        return found_at(pass_row(p, after, n - 1, depth, m, v, at), 0, 0);
+        return found_at(
+            pass_row(p, after, n - 1, depth, m, v, surplus, at),
+            no_spot(),
+        );
     }
-    match wire::open_group(prepared::is_big(s), t, prepared::need(s, a, v), at) {
-        Dimension::Refused(refusal) => Row::Refused(refusal),
-        Dimension::Of { length, entries } => {
-            let inside = seek_entries(p, a, depth - 1, m, v, length, entries, at + 4, path, i);
-            let Row::To {
-                next,
-                found,
-                length: long,
-            } = inside
-            else {
+    match counts::open_group(p, a, depth - 1, m, v, prepared::need(s, a, v), at) {
+        Opened::Refused(refusal) => Row::Refused(refusal),
+        Opened::Of(entries) => {
+            let start = at + prepared::dimension_size(s);
+            let inside = seek_entries(p, a, depth - 1, m, v, entries, start, path, i);
+            let Row::To { next, spot } = inside else {
                 return inside;
             };
-            found_at(pass_row(p, after, n - 1, depth, m, v, next), found, long)
+            found_at(pass_row(p, after, n - 1, depth, m, v, surplus, next), spot)
         }
     }
 }
@@ -246,14 +264,15 @@ pub fn seek_row(
     depth: usize,
     m: &&[u8],
     v: usize,
+    surplus: usize,
     start: usize,
     path: &&[u64],
     i: usize,
 ) -> Row
-    requires { ⌜ BlockAt (now (now p)) depth a × Lent (now (now m)) start × Path (now (now path)) i
-        × (i < length (now (now path))) ⌝ }
+    requires { ⌜ BlockAt (now (now p)) depth a × Lent (now (now m)) start × (surplus ≤ 65535)
+        × Path (now (now path)) i × (i < length (now (now path))) ⌝ }
     ensures { λ r. ⌜ r ≡ rowSought (now (now (p .entry))) depth a (now (now (m .entry))) v (now (now (path .entry))) i
-        start ⌝ }
+        surplus start ⌝ }
     ensures { λ r. ⌜ Within (now (now (m .entry))) r ⌝ }
 {
     let s = *p;
@@ -262,14 +281,17 @@ pub fn seek_row(
     let n = number(s, a + 4);
     if n <= g {
         // A second caller of walk_row: so pass_row's test is joined to its callers, and not the loop to pass_row.
-        return found_at(walk_row(p, first, n, depth, m, v, start), 0, 0);
+        return found_at(
+            walk_row(p, first, n, depth, m, v, surplus, start),
+            no_spot(),
+        );
     }
-    let passed = pass_row(p, first, g, depth, m, v, start);
+    let passed = pass_row(p, first, g, depth, m, v, 0, start);
     let Walked::To { next, .. } = passed else {
-        return found_at(passed, 0, 0);
+        return found_at(passed, no_spot());
     };
     let group = skip_row(s, first, g, depth);
-    seek_group(p, group, n - g, depth, m, v, next, path, i)
+    seek_group(p, group, n - g, depth, m, v, surplus, next, path, i)
 }
 
 // ---- whether the template has the place
@@ -332,14 +354,14 @@ fn group_at(
     k: usize,
 ) -> Answer
     requires { ⌜ BlockAt (now (now p)) depth a × Lent (now (now m)) start × (k < manyGroups (now (now p)) a)
-        × Done (rowAt (now (now p)) depth (manyGroups (now (now p)) a) (groupsFrom (now (now p)) a) (now (now m)) v
+        × Done (rowAt (now (now p)) depth (manyGroups (now (now p)) a) (groupsFrom (now (now p)) a) (now (now m)) v 0
         start) ⌝ }
     ensures { λ r. ⌜ r ≡ groupRead k (rowAt (now (now (p .entry))) depth (manyGroups (now (now (p .entry))) a)
-        (groupsFrom (now (now (p .entry))) a) (now (now (m .entry))) v start) ⌝ }
+        (groupsFrom (now (now (p .entry))) a) (now (now (m .entry))) v 0 start) ⌝ }
 {
     let s = *p;
     let first = number(s, a + 9);
-    let passed = pass_row(p, first, k, depth, m, v, start);
+    let passed = pass_row(p, first, k, depth, m, v, 0, start);
     let Walked::To { next, .. } = passed else {
         return Answer::Absent;
     };
@@ -362,11 +384,11 @@ fn data_at(
     start: usize,
     k: usize,
 ) -> Answer
-    requires { ⌜ (from + 2 * n ≤ length (now p)) × (n ≤ 16) × (k < n) × Lent (now m) start
+    requires { ⌜ (from + 2 * n ≤ length (now p)) × (length (now p) ≤ 65535) × (n ≤ 16) × (k < n) × Lent (now m) start
         × Done (readDatas big (now m) v (parseDatas (now p) n from) 0 start) ⌝ }
     ensures { λ r. ⌜ r ≡ dataRead k (readDatas big (now (m .entry)) v (parseDatas (now (p .entry)) n from) 0 start) ⌝ }
 {
-    let passed = walk_datas(p, from, k, big, m, v, start);
+    let passed = walk_datas(p, from, k, 0, big, m, v, start);
     let Walked::To { next, .. } = passed else {
         return Answer::Absent;
     };
@@ -390,51 +412,54 @@ fn data_after(
     surplus: usize,
     k: usize,
 ) -> Answer
-    requires { ⌜ BlockAt (now (now p)) depth a × Lent (now (now m)) start × (k < manyDatas (now (now p)) a)
-        × Done (datasRead (now (now p)) depth a (now (now m)) v surplus start) ⌝ }
+    requires { ⌜ BlockAt (now (now p)) depth a × Lent (now (now m)) start × (surplus ≤ 65535)
+        × (k < manyDatas (now (now p)) a) × Done (datasRead (now (now p)) depth a (now (now m)) v surplus start) ⌝ }
     ensures { λ r. ⌜ r ≡ dataRead k (datasRead (now (now (p .entry))) depth a (now (now (m .entry))) v surplus
         start) ⌝ }
 {
     let s = *p;
     let t = *m;
     let big = prepared::is_big(s);
-    let row = pass_row(p, number(s, a + 9), number(s, a + 4), depth, m, v, start);
+    let row = pass_row(
+        p,
+        number(s, a + 9),
+        number(s, a + 4),
+        depth,
+        m,
+        v,
+        surplus,
+        start,
+    );
     let Walked::To { next, .. } = row else {
         return Answer::Absent;
     };
-    let rest = wire::skip_groups(big, t, surplus, next);
-    let Walked::To { next: datas, .. } = rest else {
-        return Answer::Absent;
-    };
-    data_at(s, number(s, a + 10), number(s, a + 5), big, t, v, datas, k)
+    data_at(s, number(s, a + 10), number(s, a + 5), big, t, v, next, k)
 }
 
-// The element x of an entry of the block at a that was accepted, with `length` octets from `at` on, the groups of the
-// book being followed by `surplus` more. It tests nothing again.
+// The element x of an entry of the block at a that was accepted and stands at the spot. It tests nothing again.
 pub fn element_at(
     p: &&[u64],
     a: usize,
     depth: usize,
     m: &&[u8],
     v: usize,
-    at: usize,
-    length: usize,
-    surplus: usize,
+    spot: Spot,
     x: Element,
 ) -> Answer
-    requires { ⌜ Accepted (now (now p)) depth a (now (now m)) v surplus length at
+    requires { ⌜ Accepted (now (now p)) depth a (now (now m)) v spot
         × (hasElement x (shapeAt (now (now p)) a) (innerAt (now (now p)) depth a) ≡ true) ⌝ }
     ensures { λ r. ⌜ r ≡ elementRead x
-        (entryRead (now (now (p .entry))) depth a (now (now (m .entry))) v surplus length at) ⌝ }
+        (entryRead (now (now (p .entry))) depth a (now (now (m .entry))) v spot) ⌝ }
 {
     let s = *p;
     let t = *m;
+    let start = spot.start + spot.length;
     match x {
         Element::Field(k) => {
             let table = number(s, a + 11) + 6 * k;
-            fields::read_field(s, a + 12 + 7 * k, table, t, v, at)
+            fields::read_field(s, a + 12 + 7 * k, table, t, v, spot.start)
         }
-        Element::Group(k) => group_at(p, a, depth, m, v, at + length, k),
-        Element::Data(k) => data_after(p, a, depth, m, v, at + length, surplus, k),
+        Element::Group(k) => group_at(p, a, depth, m, v, start, k),
+        Element::Data(k) => data_after(p, a, depth, m, v, start, spot.groups, k),
     }
 }

@@ -15,8 +15,9 @@ ghost use Rattle.layout.specs.Result.{if_then_else_};
 ghost use Rattle.layout.specs.Octets.{wordsOf};
 ghost use Rattle.layout.specs.Book.{need as needOf, needAfter};
 ghost use Rattle.layout.specs.BookRules.{climbing, headSize, word};
+ghost use Rattle.layout.specs.Message.{dimensionSize};
 ghost use Rattle.number_types.specs.Value.{orderOf};
-ghost use Rattle.book.specs.Rows.{listAt};
+ghost use Rattle.book.specs.Rows.{countedIn, listAt};
 ghost use Rattle.prepared.specs.Numbers.{bitOf, contentsFrom, listNumbers, listSize, listsFrom, listsNumbers};
 ghost use Rattle.prepared.specs.Numbers.{listsSize, maskOf, preparedOf, sizesOf};
 ghost use Rattle.prepare.specs.Prepares.{IsBook, Prepares};
@@ -28,11 +29,11 @@ ghost use Rattle.prepare.specs.Templates.{AreTemplates, IsBody, IsPrepar
 ghost use Rattle.prepare.specs.Templates.{laid, templateAt, templateSize, templatesAt};
 
 // How many words are a book's head; where the slots start among the prepared numbers, and the contents.
-const HEAD: usize = 6;
+const HEAD: usize = 7;
 
-const SLOTS: usize = 5;
+const SLOTS: usize = 6;
 
-const CONTENTS: usize = 69;
+const CONTENTS: usize = 70;
 
 // Where a block with its groups ends: the word after them, and the place after their numbers.
 pub struct Ends {
@@ -392,17 +393,29 @@ fn put_zeros(room: &mut [u64], start: usize, n: usize)
     }
 }
 
+// How many octets a dimension of the book's messages has.
+fn size_of(book: &[u8]) -> usize
+    requires { ⌜ GoodLists (now book) ⌝ }
+    ensures { λ r. ⌜ r ≡ dimensionSize (countedIn (now (book .entry))) ⌝ }
+{
+    if book::word(book, 6) == 4 {
+        return 8;
+    }
+    4
+}
+
 // All numbers of a book with n templates.
 fn put_book(book: &[u8], n: usize, room: &mut [u64])
     requires { ⌜ IsPreparable (now book) n × (listsFrom n + listsSize (listsIn (now book))
         + sizesOf (templatesAt (now book) n headSize) ≤ length (now room)) ⌝ }
     ensures { λ _. ⌜ now (room .exit) ≡ sets (now (room .entry)) 0 (preparedOf (bookAt (now (book .entry)))) ⌝ }
 {
-    room[0] = book::word(book, 0) as u64;
-    room[1] = book::word(book, 1) as u64;
-    room[2] = n as u64;
-    room[3] = book::word(book, 4) as u64;
-    room[4] = order_of(book) as u64;
+    let schema = book::word(book, 0);
+    let version = book::word(book, 1);
+    let lists = book::word(book, 4);
+    let order = order_of(book);
+    let counts = size_of(book);
+    put_six(room, 0, schema, version, n, lists, order, counts);
     put_zeros(room, SLOTS, 64);
     let mut at = put_lists(book, room, CONTENTS + 2 * n);
     let mut left = n;

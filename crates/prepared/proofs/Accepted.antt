@@ -1,7 +1,7 @@
 -- An accepted book fits: its counts and names are those of the parse, its rules were tested, and each part of it has at
 -- most two prepared numbers for each of its words.
 use mathlib.Core.Path.{_∙_, _≡_, ap, refl, subst}
-use mathlib.Core.Bool.{true}
+use mathlib.Core.Bool.{Bool, true}
 use mathlib.Core.List.{List, [], _∷_, map}
 use Prim.Native.Nat.{ℕ, zero, suc, _+_, _*_, _≤_}
 use native.Mathlib.Nat.{le-refl}
@@ -15,9 +15,9 @@ use Rattle.layout.specs.Book.{Book, Groups, Shape, Template, groupSinces, more,
 use Rattle.layout.specs.BookRules.{ContentsRow, bookOf, checkContents, contentsEnd, contentsSize, fieldsSince, formatOf}
 use Rattle.layout.specs.BookRules.{groupsGood, groupsSince, headSize, layoutGood, listsOf, nameListOf, parseBodies}
 use Rattle.layout.specs.BookRules.{parseBody, parseContents, parseDatas, parseFields, parseGroups, parseShape, rising}
-use Rattle.layout.specs.BookRules.{shapeGood, shapeSince, sinceGood, word}
+use Rattle.layout.specs.BookRules.{shapeGood, shapeSince, sinceGood, word, youngest}
 use Rattle.layout.proofs.Accepted.{each-good}
-use Rattle.layout.proofs.Results.{and-left, and-right, done-inj, inv-bind, inv-must, inv-refusal}
+use Rattle.layout.proofs.Results.{and-left, and-right, done-inj, either, inv-bind, inv-must, inv-refusal}
 use Rattle.book.proofs.Words.{length-words}
 use Rattle.prepared.specs.Numbers.{blockSize, count, groupsSize, listsSize, sizesOf}
 use Rattle.prepared.specs.Fits.{FitTemplates, Fits, FitsBook, FitsShape, IsNamed}
@@ -85,10 +85,10 @@ shape-few ls b few w r e =
       size = omega arith;
     })
 
-fits-shape : (ls : List NameList) (version low high w : ℕ) (r : Shape × ℕ × ℕ) (inner : Groups) → high ≤ version
-    → Few ls w r → count inner ≡ r .1 → shapeGood (r .0) ≡ true → shapeSince version low high (r .0) ≡ true
-    → FitsShape ls version (r .0) inner
-fits-shape ls version low high w r inner h few c l g =
+fits-shape : (ls : List NameList) (version low high top w : ℕ) (r : Shape × ℕ × ℕ) (inner : Groups) → high ≤ version
+    → top ≤ version → Few ls w r → count inner ≡ r .1 → shapeGood (r .0) ≡ true
+    → shapeSince version low high top (r .0) ≡ true → FitsShape ls version (r .0) inner
+fits-shape ls version low high top w r inner h t few c l g =
     record {
       fewFields = few .fields;
       fewGroups = omega (arith, few .groups);
@@ -96,7 +96,7 @@ fits-shape ls version low high w r inner h few c l g =
       named = few .named;
       good = l;
       sinces = fields-rise version low high _ h (and-left _ _ g);
-      dataSince = rising-up version high low _ h (and-right _ _ g);
+      dataSince = rising-up version top low _ t (and-right _ _ g);
     }
 
 -- ---- groups
@@ -112,21 +112,22 @@ unfolding Fits groupSinces groupsSize
 none-fit ls version zero w = record { fits = tt; counted = refl; size = omega arith }
 none-fit ls version (suc depth) w = record { fits = tt; counted = refl; size = omega arith }
 
-groups-fit : (ls : List NameList) (b : List ℕ) (version low high : ℕ) → high ≤ version → (depth n w : ℕ)
-    (r : Groups × ℕ) → parseGroups ls b depth n w ≡ done r → groupsGood (r .0) ≡ true
-    → groupsSince version low high (r .0) ≡ true → AreFit ls version depth n w r
-unfolding parseGroups groupSinces groupsGood groupsSince Fits groupsSize
-groups-fit ls b version low high h zero zero w r e = λ l g.
+groups-fit : (ls : List NameList) (b : List ℕ) (inGroups : Bool) (version low high : ℕ) → high ≤ version
+    → (depth n w : ℕ) (r : Groups × ℕ) → parseGroups ls b depth n w ≡ done r → groupsGood (r .0) ≡ true
+    → groupsSince inGroups version low high (r .0) ≡ true → AreFit ls version depth n w r
+unfolding parseGroups groupSinces groupsGood groupsSince youngest Fits groupsSize
+groups-fit ls b inGroups version low high h zero zero w r e = λ l g.
     subst (AreFit ls version 0 0 w) (done-inj e) (none-fit ls version 0 w)
-groups-fit ls b version low high h (suc depth) zero w r e = λ l g.
+groups-fit ls b inGroups version low high h (suc depth) zero w r e = λ l g.
     subst (AreFit ls version (suc depth) 0 w) (done-inj e) (none-fit ls version (suc depth) w)
-groups-fit ls b version low high h zero (suc n) w r e = λ l g. absurd (let z : _≡_ {A = ℕ} 0 1 = cc in omega arith)
-groups-fit ls b version low high h (suc depth) (suc n) w r e =
+groups-fit ls b inGroups version low high h zero (suc n) w r e = λ l g.
+    absurd (let z : _≡_ {A = ℕ} 0 1 = cc in omega arith)
+groups-fit ls b inGroups version low high h (suc depth) (suc n) w r e =
     let p = inv-bind _ _ _ e in
     let q = inv-bind _ _ _ (p .next) in
     let k = inv-bind _ _ _ (q .next) in
     let few = shape-few ls b 1 (w + 2) (p .value) (p .first) in
-    subst (λ (x : Groups × ℕ). groupsGood (x .0) ≡ true → groupsSince version low high (x .0) ≡ true
+    subst (λ (x : Groups × ℕ). groupsGood (x .0) ≡ true → groupsSince inGroups version low high (x .0) ≡ true
     → AreFit ls version (suc depth) (suc n) w x) (done-inj (k .next))
     (λ l g.
     let since = word b (w + 1) in
@@ -135,14 +136,16 @@ groups-fit ls b version low high h (suc depth) (suc n) w r e =
     let g₂ = and-right _ _ g₁ in
     let g₃ = and-right _ _ g₂ in
     let u : since ≤ version = omega (arith, leb-true since high (and-left _ _ g₁)) in
-    let inner = groups-fit ls b version since since u depth (p .value .1) (p .value .2) (q .value) (q .first)
+    let y : youngest inGroups version since ≤ version =
+    either (λ (x : ℕ). x ≤ version) inGroups version since (le-refl version) u in
+    let inner = groups-fit ls b inGroups version since _ y depth (p .value .1) (p .value .2) (q .value) (q .first)
     (and-left _ _ l₁) (and-left _ _ g₃) in
-    let rest = groups-fit ls b version since high h (suc depth) n (q .value .1) (k .value) (k .first)
+    let rest = groups-fit ls b inGroups version since high h (suc depth) n (q .value .1) (k .value) (k .first)
     (and-right _ _ l₁) (and-right _ _ g₃) in
     record {
       fits = (
         u,
-        fits-shape ls version since since (w + 2) (p .value) (q .value .0) u few (inner .counted) (and-left _ _ l)
+        fits-shape ls version since since _ (w + 2) (p .value) (q .value .0) u y few (inner .counted) (and-left _ _ l)
             (and-left _ _ g₂),
         inner .fits,
         rest .fits,
@@ -156,27 +159,27 @@ record BodyFits (ls : List NameList) (b : List ℕ) (version id : ℕ) (r : Shap
   fits : Fits ls version 5 (more id 0 (r .0) (r .1) none)
   size : groupsSize (more id 0 (r .0) (r .1) none) ≤ 2 * length b + 4
 
-body-fits : (ls : List NameList) (b : List ℕ) (version id : ℕ) (r : Shape × Groups) → parseBody ls b ≡ done r
-    → layoutGood (record { id = id; shape = r .0; groups = r .1 }) ≡ true
-    → sinceGood version (record { id = id; shape = r .0; groups = r .1 }) ≡ true → BodyFits ls b version id r
+body-fits : (ls : List NameList) (b : List ℕ) (inGroups : Bool) (version id : ℕ) (r : Shape × Groups)
+    → parseBody ls b ≡ done r → layoutGood (record { id = id; shape = r .0; groups = r .1 }) ≡ true
+    → sinceGood inGroups version (record { id = id; shape = r .0; groups = r .1 }) ≡ true → BodyFits ls b version id r
 unfolding parseBody Fits groupsSize
-body-fits ls b version id r e =
+body-fits ls b inGroups version id r e =
     let p = inv-bind _ _ _ e in
     let q = inv-bind _ _ _ (p .next) in
     let k = inv-bind _ _ _ (q .next) in
     let few = shape-few ls b 0 0 (p .value) (p .first) in
     let all = eqb-true (q .value .1) (length b) (inv-must _ _ _ _ (k .first)) in
     subst (λ (x : Shape × Groups). layoutGood (record { id = id; shape = x .0; groups = x .1 }) ≡ true
-    → sinceGood version (record { id = id; shape = x .0; groups = x .1 }) ≡ true → BodyFits ls b version id x)
+    → sinceGood inGroups version (record { id = id; shape = x .0; groups = x .1 }) ≡ true → BodyFits ls b version id x)
     (done-inj (k .next))
     (λ l g.
     let v = le-refl version in
-    let inner = groups-fit ls b version 0 version v 4 (p .value .1) (p .value .2) (q .value) (q .first)
+    let inner = groups-fit ls b inGroups version 0 version v 4 (p .value .1) (p .value .2) (q .value) (q .first)
     (and-right _ _ l) (and-right _ _ g) in
     record {
       fits = (
         omega arith,
-        fits-shape ls version 0 version 0 (p .value) (q .value .0) v few (inner .counted) (and-left _ _ l)
+        fits-shape ls version 0 version version 0 (p .value) (q .value .0) v v few (inner .counted) (and-left _ _ l)
             (and-left _ _ g),
         inner .fits,
         tt,
@@ -196,23 +199,25 @@ record TemplatesFit (ls : List NameList) (version low at to : ℕ) (rows : List 
   counted : length ts ≡ length rows
   size : 2 * at + sizesOf ts ≤ 2 * to + 4 * length ts
 
-bodies-fit : (ls : List NameList) (b : List ℕ) (version to low at n : ℕ) (rows : List ContentsRow) (ts : List Template)
-    → contentsEnd low at rows ≡ done to → parseBodies ls b n rows ≡ done ts → Each (λ t. layoutGood t ≡ true) ts
-    → Each (λ t. sinceGood version t ≡ true) ts → TemplatesFit ls version low at to rows ts
+bodies-fit : (ls : List NameList) (b : List ℕ) (inGroups : Bool) (version to low at n : ℕ) (rows : List ContentsRow)
+    (ts : List Template) → contentsEnd low at rows ≡ done to → parseBodies ls b n rows ≡ done ts
+    → Each (λ t. layoutGood t ≡ true) ts → Each (λ t. sinceGood inGroups version t ≡ true) ts
+    → TemplatesFit ls version low at to rows ts
 unfolding contentsEnd parseBodies Each FitTemplates sizesOf
-bodies-fit ls b version to low at n [] ts c e = λ l g.
+bodies-fit ls b inGroups version to low at n [] ts c e = λ l g.
     subst (TemplatesFit ls version low at to []) (done-inj e)
     (record { fits = tt; counted = refl; size = omega (arith, done-inj c) })
-bodies-fit ls b version to low at n (r ∷ rs) ts c e =
+bodies-fit ls b inGroups version to low at n (r ∷ rs) ts c e =
     let p = inv-bind _ _ _ e in
     let q = inv-bind _ _ _ (p .next) in
     let row = inv-bind _ _ _ c in
     let good = inv-must _ _ _ _ (row .first) in
-    subst (λ (xs : List Template). Each (λ t. layoutGood t ≡ true) xs → Each (λ t. sinceGood version t ≡ true) xs
-    → TemplatesFit ls version low at to (r ∷ rs) xs) (done-inj (q .next))
+    subst (λ (xs : List Template). Each (λ t. layoutGood t ≡ true) xs
+    → Each (λ t. sinceGood inGroups version t ≡ true) xs → TemplatesFit ls version low at to (r ∷ rs) xs)
+    (done-inj (q .next))
     (λ l g.
-    let body = body-fits ls _ version (r .id) (p .value) (inv-refusal _ _ _ _ (p .first)) (l .0) (g .0) in
-    let rest = bodies-fit ls b version to (suc (r .id)) (at + r .words) (suc n) rs (q .value) (row .next)
+    let body = body-fits ls _ inGroups version (r .id) (p .value) (inv-refusal _ _ _ _ (p .first)) (l .0) (g .0) in
+    let rest = bodies-fit ls b inGroups version to (suc (r .id)) (at + r .words) (suc n) rs (q .value) (row .next)
     (q .first) (l .1) (g .1) in
     record {
       fits = (
@@ -265,7 +270,7 @@ accepted-fits octets b e =
     let h₃ = and-right _ _ (and-right _ _ h₁) in
     let rows = inv-bind _ _ _ (p₃ .first) in
     let last = inv-bind _ _ _ (rows .next) in
-    let fit = bodies-fit ls ws version (rows .value) 0 (headSize + contentsSize ws) 0 _ ts (rows .first) (p₄ .first)
+    let fit = bodies-fit ls ws _ version (rows .value) 0 (headSize + contentsSize ws) 0 _ ts (rows .first) (p₄ .first)
     (each-good _ 5 0 ts (p₆ .value) (p₆ .first)) (each-good _ 6 0 ts (p₇ .value) (p₇ .first)) in
     let counted : length ts ≡ n = fit .counted ∙ contents-length ws n headSize in
     subst FitsBook (done-inj (p₇ .next))

@@ -13,7 +13,7 @@ use Rattle.prepared.specs.Positions.{nextFrom, tableFrom, versionAt}
 use Rattle.layout.proofs.Results.{none-left}
 
 -- Where a block stands, the numbers before the slots do.
-pub head-there : {p : List ℕ} {a : ℕ} → IsBlock p a → 4 < length p
+pub head-there : {p : List ℕ} {a : ℕ} → IsBlock p a → 5 < length p
 head-there b = omega (arith, b .fieldsFit)
 
 -- No groups are no tree.

@@ -9,7 +9,7 @@ use Rattle.layout.specs.Book.{Book, Template}
 use Rattle.layout.specs.BookRules.{bookOf, word}
 use Rattle.prepared.specs.Numbers.{contentsFrom, preparedOf, slots, slotsFrom}
 use Rattle.prepared.specs.Names.{listsAt}
-use Rattle.prepared.specs.Positions.{BlockAt, innerAt, isBig, shapeAt}
+use Rattle.prepared.specs.Positions.{BlockAt, innerAt, isBig, isCounted, shapeAt}
 use Rattle.prepared.specs.declared.Located as Located
 use Rattle.prepared.specs.declared.Located.{Located}
 
@@ -36,7 +36,7 @@ bookAt p =
     record {
       schema = word p 0;
       version = word p 1;
-      format = record { big = isBig p };
+      format = record { big = isBig p; inGroups = isCounted p };
       lists = listsAt p;
       templates = templatesAt p (word p 2) contentsFrom;
     }

@@ -9,6 +9,7 @@ use lib.ListN.{length}
 use Rattle.layout.specs.Types.{typeAt}
 use Rattle.layout.specs.Book.{Field, Shape, Groups, none, more, dataSinces, need, present}
 use Rattle.layout.specs.BookRules.{word, fieldAt as fieldBy, parseFields, parseDatas, shapeGood}
+use Rattle.layout.specs.Message.{dimensionSize}
 use Rattle.number_types.specs.Value.{coded}
 use Rattle.prepared.specs.Names.{HasNames, listsAt}
 use Rattle.prepared.specs.Numbers.{spread as spreadOf}
@@ -20,6 +21,14 @@ versionAt p = word p 1
 -- Whether its messages are big-endian.
 abbrev pub isBig : List ℕ → Bool
 isBig p = eqb (word p 4) 1
+
+-- Whether a dimension has counts.
+abbrev pub isCounted : List ℕ → Bool
+isCounted p = eqb (word p 5) 8
+
+-- How many octets a dimension has stands there.
+abbrev pub Sized : List ℕ → Type 0
+Sized p = word p 5 ≡ dimensionSize (isCounted p)
 
 -- The field at x, with the names that its list has here.
 abbrev pub fieldAt : List ℕ → ℕ → Field
@@ -70,6 +79,7 @@ module _ (p : List ℕ) (a : ℕ) where
   -- A block of an accepted book stands at a, and what was worked out of it is right.
   pub record IsBlock : Type 0 where
     pub short : length p ≤ 65535
+    pub sized : Sized p
     pub fewFields : manyFields ≤ 64
     pub fewGroups : manyGroups ≤ 16
     pub fewDatas : manyDatas ≤ 16

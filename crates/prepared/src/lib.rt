@@ -4,15 +4,17 @@ ghost use Prim.Native.Nat.{_+_, _<_, _≤_};
 ghost use lib.ListN.{length};
 ghost use Rattle.layout.specs.Book.{end, need as needOf};
 ghost use Rattle.layout.specs.BookRules.{word};
+ghost use Rattle.layout.specs.Message.{dimensionSize};
 ghost use Rattle.prepared.specs.Names.{hasLists};
-ghost use Rattle.prepared.specs.Positions.{IsBlock, IsField, IsRow, Opened, fieldAt, isBig, shapeAt};
+ghost use Rattle.prepared.specs.Positions.{IsBlock, IsField, IsRow, Opened, Sized, fieldAt, isBig, isCounted};
+ghost use Rattle.prepared.specs.Positions.{shapeAt};
 ghost use Rattle.prepared.specs.Needs.{FieldsUpTo};
 ghost use Rattle.prepared.specs.Books.{HoldsBook, locationOf};
 
 // Where the slots start, and the contents; how many numbers are a block's head.
-const SLOTS: usize = 5;
+const SLOTS: usize = 6;
 
-const CONTENTS: usize = 69;
+const CONTENTS: usize = 70;
 
 const HEAD: usize = 12;
 
@@ -52,6 +54,22 @@ pub fn is_big(p: &[u64]) -> bool
     ensures { λ r. ⌜ r ≡ isBig (now (p .entry)) ⌝ }
 {
     number(p, 4) == 1
+}
+
+// Whether a group's dimension has the counts of its block's groups and data.
+pub fn is_counted(p: &[u64]) -> bool
+    requires { ⌜ 5 < length (now p) ⌝ }
+    ensures { λ r. ⌜ r ≡ isCounted (now (p .entry)) ⌝ }
+{
+    number(p, 5) == 8
+}
+
+// How many octets a dimension has.
+pub fn dimension_size(p: &[u64]) -> usize
+    requires { ⌜ (5 < length (now p)) × Sized (now p) ⌝ }
+    ensures { λ r. ⌜ r ≡ dimensionSize (isCounted (now (p .entry))) ⌝ }
+{
+    number(p, 5)
 }
 
 // Does nothing. Its contract is a law: what the first of the n groups at a is good for.

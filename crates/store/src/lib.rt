@@ -1,10 +1,11 @@
 // Stores the listing of a message that was walked before: it is accepted and the room has space, so nothing is refused.
 // Each function but `store_entries` and `store_answer` has one caller.
+use counts::Entries;
 use layout::Answer;
 use prepared::number;
 use wire::Walked;
 ghost use mathlib.Core.Path.{_≡_};
-ghost use Prim.Native.Nat.{_+_, _≤_};
+ghost use Prim.Native.Nat.{_+_, _<_, _≤_};
 ghost use lib.ListN.{length};
 ghost use Rattle.layout.specs.Result.{Each};
 ghost use Rattle.layout.specs.Book.{need};
@@ -12,10 +13,11 @@ ghost use Rattle.layout.specs.Values.{recordOf};
 ghost use Rattle.layout.specs.Message.{readField};
 ghost use Rattle.prepared.specs.Names.{hasLists};
 ghost use Rattle.prepared.specs.Positions.{BlockAt, IsBlock, fieldAt, innerAt, isBig, shapeAt};
+ghost use Rattle.counts.specs.Groups.{limit};
 ghost use Rattle.fields.specs.Readable.{Fits, Readable};
-ghost use Rattle.walk.specs.Walks.{Lent};
+ghost use Rattle.wire.specs.Walks.{Lent};
 ghost use Rattle.prints.specs.Prints.{Accepted, Printed, Room, Stored, endOf};
-ghost use Rattle.store.specs.Stores.{datasPrint, entriesPrint, fieldsPrint, groupsPrint, surplusPrint};
+ghost use Rattle.store.specs.Stores.{datasPrint, fieldsPrint, groupsPrint, overPrint, sizedPrint, surplusPrint};
 
 // Where the pass stands in the message and in the room.
 pub struct Cursor {
@@ -104,24 +106,46 @@ fn store_fields(
 }
 
 // The octet after n surplus groups.
-fn pass_surplus(big: bool, m: &[u8], n: usize, at: usize) -> usize
-    requires { ⌜ Accepted (surplusPrint big (now m) n at) × (at ≤ length (now m)) ⌝ }
-    ensures { λ r. ⌜ (r ≡ endOf (surplusPrint big (now (m .entry)) n at)) × (r ≤ length (now (m .entry))) ⌝ }
+fn pass_groups(p: &[u64], depth: usize, m: &[u8], n: usize, at: usize) -> usize
+    requires { ⌜ Accepted (surplusPrint (now p) depth (now m) n at) × (5 < length (now p)) × (at ≤ length (now m)) ⌝ }
+    ensures { λ r. ⌜ (r ≡ endOf (surplusPrint (now (p .entry)) depth (now (m .entry)) n at)) × (r ≤ length
+        (now (m .entry))) ⌝ }
 {
-    let surplus = wire::skip_groups(big, m, n, at);
+    let big = prepared::is_big(p);
+    let surplus = surplus::skip_groups(prepared::is_counted(p), big, m, depth, n, at);
     let Walked::To { next, .. } = surplus else {
         return at;
     };
     next
 }
 
-// The data of the block at a.
-fn store_datas(p: &[u64], a: usize, m: &[u8], v: usize, room: &mut [u64], c: Cursor) -> Cursor
+// The octet after n surplus data.
+fn pass_datas(big: bool, m: &[u8], n: usize, at: usize) -> usize
+    requires { ⌜ Accepted (overPrint big (now m) n at) × (at ≤ length (now m)) ⌝ }
+    ensures { λ r. ⌜ (r ≡ endOf (overPrint big (now (m .entry)) n at)) × (r ≤ length (now (m .entry))) ⌝ }
+{
+    let surplus = surplus::skip_datas(big, m, n, at);
+    let Walked::To { next, .. } = surplus else {
+        return at;
+    };
+    next
+}
+
+// The data of the block at a, and past these n surplus ones.
+fn store_datas(
+    p: &[u64],
+    a: usize,
+    m: &[u8],
+    v: usize,
+    n: usize,
+    room: &mut [u64],
+    c: Cursor,
+) -> Cursor
     requires { ⌜ IsBlock (now p) a × Lent (now m) (c .at) ⌝ }
-    requires { ⌜ Room (datasPrint (isBig (now p)) (now m) v (shapeAt (now p) a .datas) (c .at)) (c .n) (length
+    requires { ⌜ Room (datasPrint (isBig (now p)) (now m) v (shapeAt (now p) a .datas) n (c .at)) (c .n) (length
         (now room)) ⌝ }
     ensures { λ r. ⌜ Stored (datasPrint (isBig (now (p .entry))) (now (m .entry)) v (shapeAt (now (p .entry)) a
-        .datas) (c .at)) (c .n) (now (room .entry)) (r .at) (r .n) (now (room .exit)) ⌝ }
+        .datas) n (c .at)) (c .n) (now (room .entry)) (r .at) (r .n) (now (room .exit)) ⌝ }
     ensures { λ r. ⌜ r .at ≤ length (now (m .entry)) ⌝ }
 {
     let big = prepared::is_big(p);
@@ -140,45 +164,47 @@ fn store_datas(p: &[u64], a: usize, m: &[u8], v: usize, room: &mut [u64], c: Cur
         let len = wire::data_length(big, m, here.at);
         here = store_answer(Answer::Octets { start, len }, start + len, room, here.n);
     }
-    here
+    Cursor {
+        at: pass_datas(big, m, n, here.at),
+        n: here.n,
+    }
 }
 
-// k entries of the block at a, with l octets each, `depth` more levels being left: their fields, their groups, past
-// which surplus ones stand, and their data.
+// The entries of the block at a, `depth` more levels being left: their fields, their groups, past which surplus ones
+// stand, and their data, past which surplus ones do.
 pub fn store_entries(
     p: &&[u64],
     a: usize,
     depth: usize,
     m: &&[u8],
     v: usize,
-    l: usize,
-    k: usize,
-    surplus: usize,
+    entries: Entries,
     room: &mut [u64],
     c: Cursor,
 ) -> Cursor
-    requires { ⌜ BlockAt (now (now p)) depth a × (need v (shapeAt (now (now p)) a) ≤ l) × (surplus ≤ 65535) ⌝ }
-    requires { ⌜ Room (entriesPrint (isBig (now (now p))) (now (now m)) v (shapeAt (now (now p)) a) (innerAt (now
-        (now p)) depth a) surplus l k (c .at)) (c .n) (length (now room)) ⌝ }
+    requires { ⌜ BlockAt (now (now p)) depth a × (need v (shapeAt (now (now p)) a) ≤ entries .length)
+        × (entries .surplus < limit) ⌝ }
+    requires { ⌜ Room (sizedPrint (now (now p)) depth a (now (now m)) v entries (c .at)) (c .n) (length (now room)) ⌝ }
     requires { ⌜ Lent (now (now m)) (c .at) ⌝ }
-    ensures { λ r. ⌜ Stored (entriesPrint (isBig (now (now (p .entry)))) (now (now (m .entry))) v (shapeAt (now (now
-        (p .entry))) a) (innerAt (now (now (p .entry))) depth a) surplus l k (c .at)) (c .n) (now (room .entry))
-        (r .at) (r .n) (now (room .exit)) ⌝ }
+    ensures { λ r. ⌜ Stored (sizedPrint (now (now (p .entry))) depth a (now (now (m .entry))) v entries (c .at)) (c .n)
+        (now (room .entry)) (r .at) (r .n) (now (room .exit)) ⌝ }
     ensures { λ r. ⌜ r .at ≤ length (now (now (m .entry))) ⌝ }
 {
     let s = *p;
     let t = *m;
-    let follow = number(s, a + 7) + surplus;
-    let mut due = k;
+    let follow = number(s, a + 7) + entries.surplus;
+    let groups = counts::groups_in(entries.surplus);
+    let datas = counts::datas_in(entries.surplus);
+    let mut due = entries.count;
     let mut here = c;
     while 0 < due {
         due = due - 1;
-        here = store_fields(s, a, t, v, l, room, here);
+        here = store_fields(s, a, t, v, entries.length, room, here);
         if follow == 0 {
             continue;
         }
-        let row = store_row(p, a, depth, m, v, surplus, room, here);
-        here = store_datas(s, a, t, v, room, row);
+        let row = store_row(p, a, depth, m, v, groups, room, here);
+        here = store_datas(s, a, t, v, datas, room, row);
     }
     here
 }
@@ -195,15 +221,14 @@ fn store_row(
     c: Cursor,
 ) -> Cursor
     requires { ⌜ BlockAt (now (now p)) depth a × Lent (now (now m)) (c .at) ⌝ }
-    requires { ⌜ Room (groupsPrint (isBig (now (now p))) (now (now m)) v (innerAt (now (now p)) depth a) surplus
+    requires { ⌜ Room (groupsPrint (now (now p)) depth (now (now m)) v (innerAt (now (now p)) depth a) surplus
         (c .at)) (c .n) (length (now room)) ⌝ }
-    ensures { λ r. ⌜ Stored (groupsPrint (isBig (now (now (p .entry)))) (now (now (m .entry))) v (innerAt (now (now
+    ensures { λ r. ⌜ Stored (groupsPrint (now (now (p .entry))) depth (now (now (m .entry))) v (innerAt (now (now
         (p .entry))) depth a) surplus (c .at)) (c .n) (now (room .entry)) (r .at) (r .n) (now (room .exit)) ⌝ }
     ensures { λ r. ⌜ r .at ≤ length (now (now (m .entry))) ⌝ }
 {
     let s = *p;
     let t = *m;
-    let big = prepared::is_big(s);
     let mut g = number(s, a + 9);
     let mut left = number(s, a + 4);
     let mut here = c;
@@ -216,24 +241,14 @@ fn store_row(
             here = store_answer(Answer::Absent, here.at, room, here.n);
             continue;
         }
-        let sizes = wire::sizes_at(big, t, here.at);
-        let count = Answer::Group(sizes.entries as u64);
-        let inside = store_answer(count, here.at + 4, room, here.n);
-        here = store_entries(
-            p,
-            block,
-            depth - 1,
-            m,
-            v,
-            sizes.length,
-            sizes.entries,
-            0,
-            room,
-            inside,
-        );
+        let entries = counts::entries_of(p, block, depth - 1, m, v, here.at);
+        let count = Answer::Group(entries.count as u64);
+        let start = here.at + prepared::dimension_size(s);
+        let inside = store_answer(count, start, room, here.n);
+        here = store_entries(p, block, depth - 1, m, v, entries, room, inside);
     }
     Cursor {
-        at: pass_surplus(big, t, surplus, here.at),
+        at: pass_groups(s, depth, t, surplus, here.at),
         n: here.n,
     }
 }

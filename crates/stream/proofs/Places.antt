@@ -6,11 +6,11 @@ use Prim.Native.Nat.{ℕ, _-_, _/_, _%_, _<_, _≤_}
 use native.Mathlib.Omega.{arith}
 use lib.Dec.{leb}
 use lib.ListN.{length}
-use borrow.Author.Tests.{le-leb, lt-leb, ne-eqb}
+use borrow.Author.Tests.{le-leb, lt-leb}
 use Rattle.layout.specs.Result.{Result, _>>=_, _and_, done, if_then_else_, must, refused}
 use Rattle.layout.specs.Book.{Book, Template}
 use Rattle.layout.specs.Contracts.{checked, found, refusal}
-use Rattle.layout.specs.Message.{headerSize, readMessage, templateOf}
+use Rattle.layout.specs.Message.{readMessage, templateOf}
 use Rattle.layout.specs.Reading.{checkIn, hasElement, hasPlace, placeAsked, placeIn, stepsOf, wholeSteps}
 use Rattle.layout.specs.Values.{Step, Values, answerAt, elementIn, nil}
 use Rattle.layout.specs.declared.Answer.{Answer}
@@ -21,14 +21,15 @@ use Rattle.prepared.specs.Positions.{innerAt, shapeAt}
 use Rattle.prepared.specs.Books.{bookAt}
 use Rattle.prepared.specs.declared.Located.the-variants as Located
 use Rattle.places.specs.Elements.{Accepted, blockAfter, blockFor, elementRead, entryRead}
-use Rattle.places.specs.Spots.{Spot, spotIn}
+use Rattle.places.specs.Spots.{spotIn}
+use Rattle.places.specs.declared.Spot.{Spot}
 use Rattle.places.specs.Seeks.{Path}
 use Rattle.places.proofs.Answers.{Answers, lacks, path-answers, root-accepted, root-answers, stands}
 use Rattle.places.proofs.Blocks.{steps-half, steps-many, steps-whole}
-use Rattle.whole.specs.Wholes.{rootAt}
+use Rattle.whole.specs.Wholes.{rootAt, rootSpot}
 use Rattle.whole.proofs.Entries.{Enters}
-use Rattle.stream.specs.Places.{noPlace, surplusIn}
-use Rattle.stream.proofs.Reading.{root-block, treeOf}
+use Rattle.stream.specs.Places.{noPlace}
+use Rattle.stream.proofs.Reading.{root-block, root-found, treeOf}
 
 -- A message that is read has a template.
 template-of : (b : Book) (m : List ℕ) (r : Values) → readMessage b m ≡ done r
@@ -72,7 +73,7 @@ unfolding if_then_else_
 known-has true a b e = (refl, cc)
 known-has false a b e = absurd (let z : _≡_ {A = ℕ} 0 1 = cc in omega arith)
 
-module _ {p m steps : List ℕ} {a v l g k f n : ℕ} (o : Enters p m steps a v l g k f n) (path : Path steps 0)
+module _ {p m steps : List ℕ} {a v k : ℕ} {spot : Spot} (o : Enters p m steps a v k spot) (path : Path steps 0)
     (x : Element) where
   abbrev ps : List Step
   ps = stepsOf steps
@@ -103,79 +104,67 @@ module _ {p m steps : List ℕ} {a v l g k f n : ℕ} (o : Enters p m steps a v 
 -- ---- the element
 
 -- Where the walk has found the entry that the steps lead to: what the code may ask of it, and that it is the answer.
-pub record Stands (p : List ℕ) (depth b : ℕ) (m : List ℕ) (v g n f : ℕ) (x : Element)
+pub record Stands (p : List ℕ) (depth b : ℕ) (m : List ℕ) (v : ℕ) (spot : Spot) (x : Element)
     (answer : Result Answer) : Type 0 where
-  pub accepted : Accepted p depth b m v g n f
+  pub accepted : Accepted p depth b m v spot
   pub has : hasElement x (shapeAt p b) (innerAt p depth b) ≡ true
-  pub is : answer ≡ done (elementRead x (entryRead p depth b m v g n f))
+  pub is : answer ≡ done (elementRead x (entryRead p depth b m v spot))
 
--- There is no such entry, or it stands there.
-pub data Sought (p : List ℕ) (depth b : ℕ) (m : List ℕ) (v g n f : ℕ) (x : Element)
-    (answer : Result Answer) : Type 0 where
-  missing : f ≡ 0 → answer ≡ refused 31 0 → Sought p depth b m v g n f x answer
-  there : 0 < f → Stands p depth b m v g n f x answer → Sought p depth b m v g n f x answer
-
-module _ {p : List ℕ} {depth b : ℕ} {m : List ℕ} {v g n f : ℕ} {x : Element} {answer : Result Answer} where
-  pub found-not : Sought p depth b m v g n f x answer → f ≡ 0 → found answer ≡ Found.Refused (refusal 31 0)
+module _ {p : List ℕ} {depth b : ℕ} {m : List ℕ} {v : ℕ} {spot : Spot} {x : Element} {answer : Result Answer} where
+  pub found-not : Answers p depth b m v spot x answer → spot .start ≡ 0 → found answer ≡ Found.Refused (refusal 31 0)
   unfolding found
-  found-not (missing e h) z = rw h refl
-  found-not (there far s) z = absurd (omega arith)
+  found-not (lacks e h) z = rw h refl
+  found-not (stands far ok has is) z = absurd (omega arith)
 
-  pub stands-there : Sought p depth b m v g n f x answer → (f ≡ 0 → ⊥) → Stands p depth b m v g n f x answer
-  stands-there (missing e h) z = absurd (z e)
-  stands-there (there far s) z = s
+  pub stands-there : Answers p depth b m v spot x answer → (spot .start ≡ 0 → ⊥) → Stands p depth b m v spot x answer
+  stands-there (lacks e h) z = absurd (z (ap (λ (y : Spot). y .start) e))
+  stands-there (stands far ok has is) z = record { accepted = ok; has = has; is = is }
 
 -- The root block itself.
-at-root : {p m : List ℕ} {a v l g k f n : ℕ} (o : Enters p m [] a v l g k f n) (x : Element)
-    → hasPlace [] x (shapeAt p a) (innerAt p 4 a) ≡ true → Sought p 4 a m v g n f x (answerAt [] x (treeOf o))
-unfolding hasPlace answerAt elementIn stepsOf spotIn
-at-root {p} {m} {a} {v} {l} {g} o x h =
+at-root : {p m : List ℕ} {a v k : ℕ} {spot : Spot} (o : Enters p m [] a v k spot) (x : Element)
+    → hasPlace [] x (shapeAt p a) (innerAt p 4 a) ≡ true → Answers p 4 a m v spot x (answerAt [] x (treeOf o))
+unfolding hasPlace answerAt elementIn
+at-root {p} {m} {a} {v} o x h =
     let r = root-block o in
     let e = o .opens in
-    let ok = root-accepted p 4 a (e .block) m (e .lent .short) v g (o .over) l headerSize (e .enough) (r .block)
+    let root = rootSpot (o .long) (o .surplus) in
+    let ok = root-accepted p 4 a (e .block) m (e .lent .short) v root (o .over) (e .enough) (e .few) (r .block)
     (r .is-block) in
-    let same = root-answers p 4 a (e .block) m (e .lent .short) v g (o .over) l headerSize (e .enough) (r .block)
+    let same = root-answers p 4 a (e .block) m (e .lent .short) v root (o .over) (e .enough) (e .few) (r .block)
     (r .is-block) x in
     let is = ap (λ (t : Values). elementIn x t) (sym (r .tree-is)) ∙ ap done (sym same) in
-    rw (o .start, o .octets) (there (omega arith) (record { accepted = ok; has = h; is = is }))
-
-from-answers : {p : List ℕ} {depth b : ℕ} {m : List ℕ} {v : ℕ} {s : Spot} {x : Element} {answer : Result Answer}
-    → Answers p depth b m v s x answer → Sought p depth b m v 0 (s .1) (s .0) x answer
-from-answers (lacks e h) = missing (ap (λ (y : Spot). y .0) e) h
-from-answers (stands far ok has is) = there far (record { accepted = ok; has = has; is = is })
+    rw (root-found o) (stands (omega arith) ok h is)
 
 -- An entry of a group.
-at-path : {p m : List ℕ} (s t : ℕ) (rest : List ℕ) {a v l g k f n : ℕ} (o : Enters p m (s ∷ t ∷ rest) a v l g k f n)
-    (x : Element) → let ps = stepsOf (s ∷ t ∷ rest) in
+at-path : {p m : List ℕ} (s t : ℕ) (rest : List ℕ) {a v k : ℕ} {spot : Spot}
+    (o : Enters p m (s ∷ t ∷ rest) a v k spot) (x : Element) → let ps = stepsOf (s ∷ t ∷ rest) in
     hasPlace ps x (shapeAt p a) (innerAt p 4 a) ≡ true
-    → Sought p (4 - length ps) (blockAfter p ps a) m v 0 n f x (answerAt ps x (treeOf o))
+    → Answers p (4 - length ps) (blockAfter p ps a) m v spot x (answerAt ps x (treeOf o))
 unfolding rootAt spotIn stepsOf
 at-path {p} {m} s t rest {a} {v} o x h =
-    rw (o .start, o .octets)
-    (from-answers (path-answers p a (o .opens .block) m (o .opens .lent .short) v (s ∷ t ∷ rest) (omega arith) x h 0 _
-    (o .groups, o .end) (inv-bind _ _ _ (o .root) .next) _ (o .datas) nil))
+    rw (o .spot)
+    (path-answers p a (o .opens .block) m (o .opens .lent .short) v (s ∷ t ∷ rest) (omega arith) x h (o .surplus) _
+    (o .groups, o .end) (inv-bind _ _ _ (o .root) .next) _ (o .datas) nil)
 
-sought-root : {p m : List ℕ} {a v l g k f n : ℕ} (o : Enters p m [] a v l g k f n) (x : Element)
+sought-root : {p m : List ℕ} {a v k : ℕ} {spot : Spot} (o : Enters p m [] a v k spot) (x : Element)
     → Path [] 0 → (b : ℕ) → Located.At b ≡ blockFor p 4 a (stepsOf []) x
-    → Sought p 4 b m v g n f x (placeIn (bookAt p) m [] x)
+    → Answers p 4 b m v spot x (placeIn (bookAt p) m [] x)
 unfolding blockAfter stepsOf
 sought-root o x path b e = let h = place-has o path x b e in rw (h .0, h .1) (at-root o x (h .2))
 
-sought-on : {p m : List ℕ} (s t : ℕ) (rest : List ℕ) {a v l g k f n : ℕ} (o : Enters p m (s ∷ t ∷ rest) a v l g k f n)
-    (x : Element) → let steps = s ∷ t ∷ rest in
+sought-on : {p m : List ℕ} (s t : ℕ) (rest : List ℕ) {a v k : ℕ} {spot : Spot}
+    (o : Enters p m (s ∷ t ∷ rest) a v k spot) (x : Element) → let steps = s ∷ t ∷ rest in
     Path steps 0 → (b : ℕ) → Located.At b ≡ blockFor p 4 a (stepsOf steps) x
-    → Sought p (4 - length steps / 2) b m v 0 n f x (placeIn (bookAt p) m steps x)
+    → Answers p (4 - length steps / 2) b m v spot x (placeIn (bookAt p) m steps x)
 sought-on s t rest o x path b e =
     let steps = s ∷ t ∷ rest in
     let h = place-has o path x b e in
     let half : 4 - length steps / 2 ≡ 4 - length (stepsOf steps) = omega (arith, steps-many steps, path .even) in
     rw (half, h .0, h .1) (at-path s t rest o x (h .2))
 
-pub sought : {p m : List ℕ} (steps : List ℕ) {a v l g k f n : ℕ} (o : Enters p m steps a v l g k f n) (x : Element)
+pub sought : {p m : List ℕ} (steps : List ℕ) {a v k : ℕ} {spot : Spot} (o : Enters p m steps a v k spot) (x : Element)
     → Path steps 0 → (b : ℕ) → Located.At b ≡ blockFor p 4 a (stepsOf steps) x
-    → Sought p (4 - length steps / 2) b m v (surplusIn steps g) n f x (placeIn (bookAt p) m steps x)
-unfolding surplusIn if_then_else_
+    → Answers p (4 - length steps / 2) b m v spot x (placeIn (bookAt p) m steps x)
 sought [] o x path b e = sought-root o x path b e
 sought (s ∷ []) o x path b e = absurd (omega (arith, path .even))
-sought (s ∷ t ∷ rest) o x path b e =
-    rw (ne-eqb (length (s ∷ t ∷ rest)) 0 (λ z. omega arith)) (sought-on s t rest o x path b e)
+sought (s ∷ t ∷ rest) o x path b e = sought-on s t rest o x path b e

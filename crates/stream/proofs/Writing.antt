@@ -17,7 +17,7 @@ use Rattle.layout.specs.declared.Counted.{Counted}
 use Rattle.layout.specs.declared.Counted.the-variants as Counted
 use Rattle.layout.specs.declared.Refusal.{Refusal}
 use Rattle.layout.proofs.Lengths.{written-long}
-use Rattle.prepared.specs.Positions.{BlockAt, IsRow, groupsAt, innerAt, shapeAt}
+use Rattle.prepared.specs.Positions.{BlockAt, IsRow, groupsAt, innerAt, isCounted, shapeAt}
 use Rattle.prepared.specs.Books.{IsPrepared, bookAt, locationOf, templateAt}
 use Rattle.prepared.specs.declared.Located.the-variants.{At, Unknown}
 use Rattle.prepared.proofs.Books.{holds-book}
@@ -75,7 +75,8 @@ laid-over xs before ys n long fits y =
 -- ---- by a block
 
 pub write-refused : (p : List ℕ) (a : ℕ) (l pool before : List ℕ) (z : Refusal)
-    → Refused z ≡ judged (listingEnd (shapeAt p a) (innerAt p 4 a) l) (judgeListing l pool (templateAt p a))
+    → Refused z
+    ≡ judged (listingEnd (isCounted p) (shapeAt p a) (innerAt p 4 a) l) (judgeListing l pool (templateAt p a))
     → WritesAs (writtenBy (bookAt p) (templateAt p a) l pool) before (Counted.Refused z) before
 unfolding writtenBy _>>=_
 write-refused p a l pool before z e = as-refused _ before _ _ (rw (inv-refused _ _ z e) refl)
@@ -83,13 +84,14 @@ write-refused p a l pool before z e = as-refused _ before _ _ (rw (inv-refused _
 -- The listing is good for the block at a: it comes to x, and its message has 12 + k octets, if that is not too long.
 pub record IsGood (p : List ℕ) (a : ℕ) (l pool before : List ℕ) (x k : ℕ) : Type 0 where
   pub block : BlockAt p 4 a
-  pub is : To x k ≡ judged (listingEnd (shapeAt p a) (innerAt p 4 a) l) (judgeListing l pool (templateAt p a))
+  pub is : To x k
+      ≡ judged (listingEnd (isCounted p) (shapeAt p a) (innerAt p 4 a) l) (judgeListing l pool (templateAt p a))
 
 module _ {p : List ℕ} {a : ℕ} {l pool before : List ℕ} {x k : ℕ} (good : IsGood p a l pool before x k) where
   abbrev written : ℕ → Result (List ℕ)
   written = writtenBy (bookAt p) (templateAt p a) l pool
 
-  read : Reached (listingEnd (shapeAt p a) (innerAt p 4 a) l) (judgeListing l pool (templateAt p a)) x k
+  read : Reached (listingEnd (isCounted p) (shapeAt p a) (innerAt p 4 a) l) (judgeListing l pool (templateAt p a)) x k
   read = inv-to _ _ x k (good .is)
 
   pub write-small : k ≤ 65536
@@ -98,7 +100,7 @@ module _ {p : List ℕ} {a : ℕ} {l pool before : List ℕ} {x k : ℕ} (good :
   abbrev message : List ℕ
   message = messageOctets (bookAt p) (templateAt p a) pool (read .value)
 
-  long : length message ≡ 12 + rowLength (shapeAt p a) (innerAt p 4 a) (read .value)
+  long : length message ≡ 12 + rowLength (isCounted p) (shapeAt p a) (innerAt p 4 a) (read .value)
   unfolding _and_
   long =
       written-long l pool (bookAt p) (templateAt p a) (read .value)

@@ -1,5 +1,6 @@
 // Reads and writes messages by a prepared book: at no book cost per message. Proved callers cannot misuse it: the
 // checker refuses a call whose numbers are not known to be those of an accepted book.
+use counts::Entries;
 use judges::Judged;
 use layout::Checked;
 use layout::Counted;
@@ -18,7 +19,7 @@ ghost use Rattle.layout.specs.Writing.{writeIn};
 ghost use Rattle.prepared.specs.Positions.{BlockAt, IsBlock, manyDatas, manyFields};
 ghost use Rattle.places.specs.Seeks.{Path};
 ghost use Rattle.whole.specs.Wholes.{most};
-ghost use Rattle.stream.specs.Places.{noPlace, surplusIn};
+ghost use Rattle.stream.specs.Places.{noPlace};
 ghost use Rattle.stream.specs.Written.{writtenBy};
 ghost use Rattle.prepared.specs.Books.{IsPrepared, bookAt, templateAt};
 
@@ -55,20 +56,23 @@ pub fn list(p: &[u64], m: &[u8], room: &mut [u64]) -> Counted
         Entered::At {
             block,
             version,
-            length,
-            groups,
             records,
-            ..
+            spot,
         } => {
             let all = count_records(p, block, records);
-            if room.len() / 3 < all {
+            if room.len() < 3 * all {
                 return Counted::Refused(Refusal {
                     number: 40,
                     place: all,
                 });
             }
+            let root = Entries {
+                length: spot.length,
+                count: 1,
+                surplus: 65536 * spot.groups,
+            };
             let start = Cursor { at: 12, n: 0 };
-            store::store_entries(&p, block, 4, &m, version, length, 1, groups, room, start);
+            store::store_entries(&p, block, 4, &m, version, root, room, start);
             Counted::Count(all)
         }
     }
@@ -90,16 +94,6 @@ pub fn no_place(answer: Checked) -> Found
     }
 }
 
-// How many surplus groups stand before the data of the block that the steps lead to: inside groups there are none.
-fn surplus_there(steps: &[u64], groups: usize) -> usize
-    ensures { λ r. ⌜ r ≡ surplusIn (now (steps .entry)) groups ⌝ }
-{
-    if steps.len() == 0 {
-        return groups;
-    }
-    0
-}
-
 // The answer for a place of at most four whole steps.
 fn place_on(p: &[u64], m: &[u8], steps: &[u64], x: Element) -> Found
     requires { ⌜ IsPrepared (now p) × Path (now steps) 0 ⌝ }
@@ -115,20 +109,17 @@ fn place_on(p: &[u64], m: &[u8], steps: &[u64], x: Element) -> Found
         Entered::At {
             block,
             version,
-            groups,
-            found,
-            long,
+            spot,
             ..
         } => {
             let Located::At(a) = places::find_place(p, block, steps, x) else {
                 return no_answer(30);
             };
-            if found == 0 {
+            if spot.start == 0 {
                 return no_answer(31);
             }
             let depth = 4 - steps.len() / 2;
-            let surplus = surplus_there(steps, groups);
-            Found::Is(places::element_at(&q, a, depth, &t, version, found, long, surplus, x))
+            Found::Is(places::element_at(&q, a, depth, &t, version, spot, x))
         }
     }
 }

@@ -13,7 +13,7 @@ use Rattle.layout.specs.Book.{Groups, Shape, none}
 use Rattle.layout.specs.BookRules.{word}
 use Rattle.layout.specs.Contracts.{refusal}
 use Rattle.layout.specs.Values.{Values, entry, measure, nil}
-use Rattle.layout.specs.Message.{Entry, readBlock, readDatas, readEntries, readField, readGroups, skipDatas, skipGroups}
+use Rattle.layout.specs.Message.{Entry, inRow, readBlock, readDatas, readEntries, readField, readGroups}
 use Rattle.layout.specs.declared.Refusal.{Refusal}
 use Rattle.layout.proofs.Results.{none-left, one-less, some-left}
 use Rattle.prepared.specs.Names.{listsAt}
@@ -24,7 +24,9 @@ use Rattle.prepared.proofs.Open.{no-datas-at, no-groups-at}
 use Rattle.wire.specs.Walks.{walked}
 use Rattle.wire.specs.declared.Walked.the-variants.{To, Refused}
 use Rattle.wire.proofs.Answers.{refused-on}
-use Rattle.walk.specs.Walks.{Bounded, datasEnd, entriesAt, entryEnd, valuesEnd}
+use Rattle.counts.specs.Groups.{datasIn, groupsIn}
+use Rattle.counts.specs.declared.Entries.{Entries}
+use Rattle.walk.specs.Walks.{Bounded, datasEnd, entriesAt, entryBy, entryEnd, valuesEnd}
 use Rattle.walk.proofs.Ways.{Answers, reached, then-to, told}
 use Rattle.walk.proofs.Blocks.{block-datas, block-groups, block-short, block-whole}
 
@@ -55,46 +57,48 @@ module _ (f : ℕ → Result Entry) (seen n at : ℕ) (h : 0 < n) where
 
 -- ---- entries of a block
 
--- Of n entries of l octets, with the block s and the groups gs, the first is at `at`.
-module _ (big : Bool) (m : List ℕ) (v : ℕ) (s : Shape) (gs : Groups) (l seen n at : ℕ) (h : 0 < n) where
-  abbrev entriesOf : Result (Values × ℕ)
-  entriesOf = readEntries n (readBlock big m v s (readGroups big m v gs 0) 0 l) at
+-- Of n entries of l octets, with the block s, whose groups f reads and k of whose data are surplus, the first stands at
+-- `at`.
+module _ (big : Bool) (m : List ℕ) (v : ℕ) (s : Shape) (f : ℕ → Result (Values × ℕ)) (k l seen n at : ℕ) (h : 0 < n)
+  where
+    abbrev entriesOf : Result (Values × ℕ)
+    entriesOf = readEntries n (readBlock big m v s f k l) at
 
-  pub entry-short : length m < at + l → walked (valuesEnd seen) entriesOf ≡ Refused (refusal 16 at)
-  entry-short e = entries-refused _ seen n at h _ (sym (block-short big m v s _ 0 l at e))
+    pub entry-short : length m < at + l → walked (valuesEnd seen) entriesOf ≡ Refused (refusal 16 at)
+    entry-short e = entries-refused _ seen n at h _ (sym (block-short big m v s f k l at e))
 
-  module _ (fit : at + l ≤ length m) where
-    pub entry-row : (z : Refusal) → Refused z ≡ walked (valuesEnd 0) (readGroups big m v gs 0 (at + l))
-        → walked (valuesEnd seen) entriesOf ≡ Refused z
-    entry-row z e = entries-refused _ seen n at h z (sym (block-groups big m v s _ 0 l at fit z e))
-
-    module _ (x k : ℕ) (g : To x k ≡ walked (valuesEnd 0) (readGroups big m v gs 0 (at + l))) where
-      pub entry-datas : (z : Refusal) → Refused z ≡ walked (datasEnd 0) (readDatas big m v (s .datas) 0 x)
+    module _ (fit : at + l ≤ length m) where
+      pub entry-row : (z : Refusal) → Refused z ≡ walked (valuesEnd 0) (f (at + l))
           → walked (valuesEnd seen) entriesOf ≡ Refused z
-      entry-datas z e = entries-refused _ seen n at h z (sym (block-datas big m v s _ 0 l at fit x k g z e))
+      entry-row z e = entries-refused _ seen n at h z (sym (block-groups big m v s f k l at fit z e))
 
-      pub entry-next : (y j i : ℕ) → To y j ≡ walked (datasEnd 0) (readDatas big m v (s .datas) 0 x)
-          → i ≡ length (s .fields) → walked (valuesEnd seen) entriesOf
-          ≡ walked (valuesEnd (seen + i + k + j))
-          (readEntries (n - 1) (readBlock big m v s (readGroups big m v gs 0) 0 l) y)
-      entry-next y j i e c =
-          let r : seen + i + k + j ≡ seen + (i + k + j) = omega arith in
-          rw r (entries-next _ seen n at h y (i + k + j) (sym (block-whole big m v s _ 0 l at fit x k g y j i e c)))
+      module _ (x j : ℕ) (g : To x j ≡ walked (valuesEnd 0) (f (at + l))) where
+        pub entry-datas : (z : Refusal) → Refused z ≡ walked (datasEnd 0) (readDatas big m v (s .datas) k x)
+            → walked (valuesEnd seen) entriesOf ≡ Refused z
+        entry-datas z e = entries-refused _ seen n at h z (sym (block-datas big m v s f k l at fit x j g z e))
+
+        pub entry-next : (y o i : ℕ) → To y o ≡ walked (datasEnd 0) (readDatas big m v (s .datas) k x)
+            → i ≡ length (s .fields) → walked (valuesEnd seen) entriesOf
+            ≡ walked (valuesEnd (seen + i + j + o)) (readEntries (n - 1) (readBlock big m v s f k l) y)
+        entry-next y o i e c =
+            let r : seen + i + j + o ≡ seen + (i + j + o) = omega arith in
+            rw r
+            (entries-next _ seen n at h y (i + j + o) (sym (block-whole big m v s f k l at fit x j g y o i e c)))
 
 -- ---- plain entries
 
 -- Blocks of l octets with neither groups nor data.
-module _ (big : Bool) (m : List ℕ) (v : ℕ) (s : Shape) (l : ℕ) (gs : Groups) (no-groups : gs ≡ none)
+module _ (p m : List ℕ) (v : ℕ) (s : Shape) (depth l : ℕ) (gs : Groups) (no-groups : gs ≡ none)
     (no-datas : s .datas ≡ []) where
   abbrev entryIs : ℕ → Result Entry
-  entryIs = readBlock big m v s (readGroups big m v gs 0) 0 l
+  entryIs = entryBy p m v s gs depth 0 0 l
 
   -- A plain block is its octets, and a record for each field.
   plain-entry : (at : ℕ) → at + l ≤ length m → walked entryEnd (entryIs at) ≡ To (at + l) (length (s .fields))
-  unfolding readBlock readGroups readDatas skipGroups skipDatas measure must _>>=_
+  unfolding readBlock readGroups readDatas inRow measure must _>>=_
   plain-entry at h =
       rw (le-leb (at + l) (length m) h, no-groups, no-datas)
-      (reached entryEnd _ refl (omega (arith, length-map (s .fields) (readField big m v at))))
+      (reached entryEnd _ refl (omega (arith, length-map (s .fields) (readField (isBig p) m v at))))
 
   -- Plain entries are their octets, where all of these are there.
   plain-entries : (k seen at : ℕ) → at + l * k ≤ length m
@@ -109,17 +113,20 @@ module _ (big : Bool) (m : List ℕ) (v : ℕ) (s : Shape) (l : ℕ) (gs : Group
       ∙ rw (one, ← on, ← more) (plain-entries k (seen + f) (at + l) (omega arith))
 
 -- Entries of a block that nothing follows are passed at once where all of them fit.
-pub plain-walked : (p : List ℕ) (depth a : ℕ) (m : List ℕ) (v l k start fields follow : ℕ) → IsBlock p a
-    → fields ≡ manyFields p a → follow ≡ word p (a + 7) → follow ≡ 0 → start + l * k ≤ length m
-    → Answers m start (96 * k) (walked (valuesEnd 0) (entriesAt p depth a m v l k start))
-    (To (start + l * k) (fields * k))
+pub plain-walked : (p : List ℕ) (depth a : ℕ) (m : List ℕ) (v : ℕ) (e : Entries) (start fields follow : ℕ) → IsBlock p a
+    → fields ≡ manyFields p a → follow ≡ word p (a + 7) → follow + e .surplus ≡ 0
+    → start + e .length * e .count ≤ length m
+    → Answers m start (96 * e .count) (walked (valuesEnd 0) (entriesAt p depth a m v e start))
+    (To (start + e .length * e .count) (fields * e .count))
 unfolding Bounded
-plain-walked p depth a m v l k start fields follow b f w z h =
-    let few : fields * k ≤ 64 * k = mul-le-mul-right k (omega (arith, f, b .fewFields)) in
+plain-walked p depth a m v e start fields follow b f w z h =
+    let few : fields * e .count ≤ 64 * e .count = mul-le-mul-right (e .count) (omega (arith, f, b .fewFields)) in
     let s = shapeAt p a in
-    let zero-plus : length (s .fields) * k ≡ 0 + length (s .fields) * k = omega arith in
+    let zero-plus : length (s .fields) * e .count ≡ 0 + length (s .fields) * e .count = omega arith in
     let q : fields ≡ length (s .fields) = f ∙ sym (fields-length (listsAt p) p (manyFields p a) (fieldsFrom p a)) in
-    let walk = plain-entries (isBig p) m v s l (innerAt p depth a)
+    let g : groupsIn (e .surplus) ≡ 0 = omega arith in
+    let d : datasIn (e .surplus) ≡ 0 = omega arith in
+    let walk = plain-entries p m v s depth (e .length) (innerAt p depth a)
     (no-groups-at p depth (manyGroups p a) (groupsFrom p a) (omega (arith, b .follow, w, z)))
-    (no-datas-at p (manyDatas p a) (datasFrom p a) (omega (arith, b .follow, w, z))) k 0 start h in
-    (rw (q, zero-plus) (sym walk), (omega arith, h, omega (arith, few)))
+    (no-datas-at p (manyDatas p a) (datasFrom p a) (omega (arith, b .follow, w, z))) (e .count) 0 start h in
+    (rw (q, zero-plus, g, d) (sym walk), (omega arith, h, omega (arith, few)))

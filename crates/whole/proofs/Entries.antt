@@ -7,9 +7,9 @@ use native.Mathlib.Omega.{arith}
 use borrow.Author.Tests.{leb-true, ltb-true}
 use Rattle.layout.specs.Result.{Result, _>>=_, done, orRefuse, refused}
 use Rattle.layout.specs.Octets.{null16}
-use Rattle.layout.specs.Book.{Template, groupSinces, need, present}
-use Rattle.layout.specs.Message.{blockLength, checkHeader, groupCount, headerSize, headerWhole, readMessage, surplusOf}
-use Rattle.layout.specs.Message.{templateOf, versionOf}
+use Rattle.layout.specs.Book.{Template, dataSinces, groupSinces, need, present}
+use Rattle.layout.specs.Message.{blockLength, checkHeader, dataCount, groupCount, headerSize, headerWhole, readMessage}
+use Rattle.layout.specs.Message.{surplusOf, templateOf, versionOf}
 use Rattle.layout.specs.Values.{Values}
 use Rattle.layout.specs.declared.Answer.{Answer}
 use Rattle.layout.proofs.Results.{and-left, and-right, done-inj, inv-bind, inv-both, inv-must}
@@ -18,11 +18,10 @@ use Rattle.prepared.specs.Books.{HoldsBook, bookAt, templateAt}
 use Rattle.prepared.specs.declared.Located.{Located}
 use Rattle.prepared.specs.declared.Located.the-variants as Located
 use Rattle.prepared.proofs.Found.{found}
-use Rattle.wire.specs.Walks.{walked}
+use Rattle.wire.specs.Walks.{Lent, walked}
 use Rattle.wire.specs.declared.Walked.{Walked}
 use Rattle.wire.specs.declared.Walked.the-variants as Walked
-use Rattle.walk.specs.Walks.{Lent}
-use Rattle.places.specs.Spots.{Spot}
+use Rattle.places.specs.declared.Spot.{Spot}
 use Rattle.messages.specs.Openings.{known, knownAt, openAt, opened}
 use Rattle.messages.specs.declared.Opened.{Opened}
 use Rattle.messages.specs.declared.Opened.the-variants as Opened
@@ -35,8 +34,8 @@ use Rattle.whole.proofs.Messages.{message-read}
 
 -- ---- a message that was opened
 
--- What it is good for: v is its version, and l the octets of its root block.
-pub record Lends (p m : List ℕ) (a v l g : ℕ) : Type 0 where
+-- What it is good for: v is its version, l the octets of its root block, and g groups and d data of it are surplus.
+pub record Lends (p m : List ℕ) (a v l g d : ℕ) : Type 0 where
   pub version : v ≡ versionOf (isBig p) m
   pub long : l ≡ blockLength (isBig p) m
   pub block : BlockAt p 4 a
@@ -45,6 +44,7 @@ pub record Lends (p m : List ℕ) (a v l g : ℕ) : Type 0 where
   pub short : l ≤ 65535
   pub enough : need v (shapeAt p a) ≤ l
   pub few : g ≤ 65535
+  pub fewDatas : d ≤ 65535
 
 inv-known : (r : Located) (b : ℕ) → known r ≡ done b → r ≡ Located.At b
 unfolding known
@@ -52,17 +52,19 @@ inv-known (Located.At a) b e = cc
 inv-known Located.Unknown b e = absurd (let z : _≡_ {A = ℕ} 0 1 = cc in omega arith)
 
 surplus-enough : (big : Bool) (version : ℕ) (t : Template) (m : List ℕ) (x : ℕ × ℕ) → surplusOf big version t m ≡ done x
-    → (need (versionOf big m) (t .shape) ≤ blockLength big m) × (x .0 ≤ groupCount big m)
+    → (need (versionOf big m) (t .shape) ≤ blockLength big m) × (x .0 ≤ groupCount big m) × (x .1 ≤ dataCount big m)
 unfolding surplusOf
 surplus-enough big version t m x e =
     let first = inv-bind _ _ _ e in
     let last = done-inj (inv-bind _ _ _ (inv-bind _ _ _ (first .next) .next) .next) in
     let here = present (versionOf big m) (groupSinces (t .groups)) in
+    let datas = present (versionOf big m) (dataSinces (t .shape .datas)) in
     let is : groupCount big m - here ≡ x .0 = ap (λ (y : ℕ × ℕ). y .0) last in
-    (leb-true _ _ (inv-must _ _ _ _ (first .first)), omega (arith, is))
+    let are : dataCount big m - datas ≡ x .1 = ap (λ (y : ℕ × ℕ). y .1) last in
+    (leb-true _ _ (inv-must _ _ _ _ (first .first)), omega (arith, is), omega (arith, are))
 
 header-lends : (big : Bool) (schema : ℕ) (m : List ℕ) → checkHeader big schema m ≡ done tt
-    → Lent m headerSize × (blockLength big m ≤ 65535) × (groupCount big m ≤ 65535)
+    → Lent m headerSize × (blockLength big m ≤ 65535) × (groupCount big m ≤ 65535) × (dataCount big m ≤ 65535)
 unfolding checkHeader headerWhole
 header-lends big schema m e =
     let first = inv-bind _ _ _ e in
@@ -70,14 +72,17 @@ header-lends big schema m e =
     let whole = inv-bind _ _ _ (inv-bind _ _ _ (first .next) .first) in
     let fifth = inv-bind _ _ _ (inv-bind _ _ _ (inv-bind _ _ _ (inv-bind _ _ _ (whole .next) .next) .next) .next) in
     let less = ltb-true (blockLength big m) null16 (inv-must _ _ _ _ (whole .first)) in
-    let few = ltb-true (groupCount big m) null16 (inv-must _ _ _ _ (fifth .first)) in (
+    let sixth = inv-bind _ _ _ (fifth .next) in
+    let few = ltb-true (groupCount big m) null16 (inv-must _ _ _ _ (fifth .first)) in
+    let datas = ltb-true (dataCount big m) null16 (inv-must _ _ _ _ (sixth .first)) in (
       record { short = leb-true _ _ (and-right _ _ t); inside = leb-true _ _ (and-left _ _ t) },
       omega (arith, less),
       omega (arith, few),
+      omega (arith, datas),
     )
 
 lends : (p m : List ℕ) → HoldsBook p → (o : ℕ × ℕ × ℕ) → openAt p m ≡ done o
-    → Lends p m (o .0) (versionOf (isBig p) m) (blockLength (isBig p) m) (o .1)
+    → Lends p m (o .0) (versionOf (isBig p) m) (blockLength (isBig p) m) (o .1) (o .2)
 unfolding openAt knownAt orRefuse
 lends p m book o e =
     let header = inv-bind _ _ _ e in
@@ -85,7 +90,8 @@ lends p m book o e =
     let f = found p book _ _ (inv-known _ _ (place .first)) in
     let h = header-lends _ _ m (header .first) in
     let s = surplus-enough _ _ _ m _ (place .second) in
-    subst (λ (o : ℕ × ℕ × ℕ). Lends p m (o .0) (versionOf (isBig p) m) (blockLength (isBig p) m) (o .1)) (place .is)
+    subst (λ (o : ℕ × ℕ × ℕ). Lends p m (o .0) (versionOf (isBig p) m) (blockLength (isBig p) m) (o .1) (o .2))
+    (place .is)
     (record {
       version = refl;
       long = refl;
@@ -95,10 +101,11 @@ lends p m book o e =
       short = h .1;
       enough = s .0;
       few = omega (arith, s .1, h .2);
+      fewDatas = omega (arith, s .2, h .3);
     })
 
 unfoldable pub OpenedAs : List ℕ → List ℕ → Opened → Type 0
-OpenedAs p m (Opened.At a v l g d) = Lends p m a v l g
+OpenedAs p m (Opened.At a v l g d) = Lends p m a v l g d
 OpenedAs p m (Opened.Refused z) = Unit {0}
 
 pub opened-as : (p m : List ℕ) → HoldsBook p → (r : Opened) → r ≡ opened (isBig p) m (openAt p m) → OpenedAs p m r
@@ -111,22 +118,23 @@ opened-as p m book r e = rw e (go (openAt p m) refl)
 -- ---- a message that was entered
 
 -- It was opened, its root was walked and what follows it, and so it was read.
-pub record Enters (p m path : List ℕ) (a v l g k f n : ℕ) : Type 0 where
+pub record Enters (p m path : List ℕ) (a v k : ℕ) (s : Spot) : Type 0 where
+  pub long : ℕ
+  pub surplus : ℕ
+  pub over : ℕ
   pub groups : Values
   pub datas : List Answer
-  pub over : ℕ
   pub end : ℕ
   pub last : ℕ
-  pub opens : Lends p m a v l g
-  pub root : rootAt p a m v l ≡ done (groups, end)
-  pub rest : restAt p a m v g over end ≡ done (datas, last)
-  pub read : readMessage (bookAt p) m ≡ done (treeAt p m (a, g, groups, datas))
+  pub opens : Lends p m a v long surplus over
+  pub root : rootAt p a m v long surplus ≡ done (groups, end)
+  pub rest : restAt p a m v over end ≡ done (datas, last)
+  pub read : readMessage (bookAt p) m ≡ done (treeAt p m (a, surplus, groups, datas))
   pub records : k ≡ recordsIn path groups
-  pub start : f ≡ spotAt p a m v l path .0
-  pub octets : n ≡ spotAt p a m v l path .1
+  pub spot : s ≡ spotAt p a m v long surplus path
 
 unfoldable pub EnteredAs : List ℕ → List ℕ → List ℕ → Entered → Type 0
-EnteredAs p m path (Entered.At a v l g k f n) = Enters p m path a v l g k f n
+EnteredAs p m path (Entered.At a v k s) = Enters p m path a v k s
 EnteredAs p m path (Entered.Refused z) = readMessage (bookAt p) m ≡ refused (z .number) (z .place)
 
 module _ (p m path : List ℕ) (book : HoldsBook p) where
@@ -143,9 +151,11 @@ module _ (p m path : List ℕ) (book : HoldsBook p) where
       let is = done-inj (s .next) in
       subst (λ (w : ℕ × ℕ × Values × List Answer). EnteredAs p m path (entered p m path (done w))) is
       (record {
+        long = blockLength (isBig p) m;
+        surplus = o .value .1;
+        over = o .value .2;
         groups = r .value .0;
         datas = s .value .0;
-        over = o .value .2;
         end = r .value .1;
         last = s .value .1;
         opens = lends p m book (o .value) (o .first);
@@ -153,8 +163,7 @@ module _ (p m path : List ℕ) (book : HoldsBook p) where
         rest = s .first;
         read = read-as (o .value .0, o .value .1, r .value .0, s .value .0) (e ∙ ap done (sym is));
         records = refl;
-        start = refl;
-        octets = refl;
+        spot = refl;
       })
   walked-as (refused n q) e = message-read p m book ∙ rw e refl
 
@@ -163,45 +172,45 @@ module _ (p m path : List ℕ) (book : HoldsBook p) where
 
 -- ---- the message, by the stages' answers
 
-unfoldable pub afterRest : ℕ → ℕ → ℕ → ℕ → ℕ → ℕ → ℕ → Walked → Entered
-afterRest a v l g k f n (Walked.To y j) = Entered.At a v l g k f n
-afterRest a v l g k f n (Walked.Refused z) = Entered.Refused z
+unfoldable pub afterRest : ℕ → ℕ → ℕ → Spot → Walked → Entered
+afterRest a v k s (Walked.To y j) = Entered.At a v k s
+afterRest a v k s (Walked.Refused z) = Entered.Refused z
 
 module _ (p m path : List ℕ) where
-  unfoldable pub afterRoot : ℕ → ℕ → ℕ → ℕ → ℕ → Root → Entered
-  afterRoot a v l g d (Root.To x k f n) = afterRest a v l g k f n (walked restEnd (restAt p a m v g d x))
-  afterRoot a v l g d (Root.Refused z) = Entered.Refused z
+  unfoldable pub afterRoot : ℕ → ℕ → ℕ → Root → Entered
+  afterRoot a v d (Root.To x k s) = afterRest a v k s (walked restEnd (restAt p a m v d x))
+  afterRoot a v d (Root.Refused z) = Entered.Refused z
 
   unfoldable pub afterOpened : Opened → Entered
-  afterOpened (Opened.At a v l g d) = afterRoot a v l g d (rooted path (spotAt p a m v l path) (rootAt p a m v l))
+  afterOpened (Opened.At a v l g d) = afterRoot a v d (rooted path (spotAt p a m v l g path) (rootAt p a m v l g))
   afterOpened (Opened.Refused z) = Entered.Refused z
 
   abbrev version : ℕ
   version = versionOf (isBig p) m
 
-  abbrev long : ℕ
-  long = blockLength (isBig p) m
+  abbrev length : ℕ
+  length = blockLength (isBig p) m
 
-  abbrev spot : ℕ → Spot
-  spot a = spotAt p a m version long path
+  abbrev found-at : ℕ → ℕ → Spot
+  found-at a g = spotAt p a m version length g path
 
   by-rest : (a g : ℕ) (gs : Values) (s : Result (List Answer × ℕ))
       → entered p m path (s >>= λ s. done (a, g, gs, s .0))
-      ≡ afterRest a version long g (recordsIn path gs) (spot a .0) (spot a .1) (walked restEnd s)
+      ≡ afterRest a version (recordsIn path gs) (found-at a g) (walked restEnd s)
   unfolding entered afterRest walked _>>=_
   by-rest a g gs (done s) = refl
   by-rest a g gs (refused n q) = refl
 
   by-root : (a g d : ℕ) (r : Result (Values × ℕ))
-      → entered p m path (r >>= λ r. restAt p a m version g d (r .1) >>= λ s. done (a, g, r .0, s .0))
-      ≡ afterRoot a version long g d (rooted path (spot a) r)
+      → entered p m path (r >>= λ r. restAt p a m version d (r .1) >>= λ s. done (a, g, r .0, s .0))
+      ≡ afterRoot a version d (rooted path (found-at a g) r)
   unfolding entered afterRoot rooted _>>=_
   by-root a g d (done r) = by-rest a g (r .0) _
   by-root a g d (refused n q) = refl
 
   by-opened : (o : Result (ℕ × ℕ × ℕ))
-      → entered p m path (o >>= λ o. rootAt p (o .0) m version long
-      >>= λ r. restAt p (o .0) m version (o .1) (o .2) (r .1) >>= λ s. done (o .0, o .1, r .0, s .0))
+      → entered p m path (o >>= λ o. rootAt p (o .0) m version length (o .1)
+      >>= λ r. restAt p (o .0) m version (o .2) (r .1) >>= λ s. done (o .0, o .1, r .0, s .0))
       ≡ afterOpened (opened (isBig p) m o)
   unfolding entered afterOpened opened _>>=_
   by-opened (done o) = by-root (o .0) (o .1) (o .2) _

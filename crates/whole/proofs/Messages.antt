@@ -7,12 +7,11 @@ use Rattle.layout.specs.BookRules.{word}
 use Rattle.layout.specs.Message.{blockLength, readBlock}
 use Rattle.layout.specs.Message.{readMessage, readRoot, readWhole, surplusOf, templateId, versionOf}
 use Rattle.layout.proofs.Results.{bind-assoc, bind-done}
-use Rattle.prepared.specs.Positions.{innerAt, isBig}
+use Rattle.prepared.specs.Positions.{isBig, versionAt}
 use Rattle.prepared.specs.Books.{HoldsBook, bookAt, locationOf, templateAt}
 use Rattle.prepared.specs.declared.Located.{Located}
 use Rattle.prepared.specs.declared.Located.the-variants as Located
 use Rattle.prepared.proofs.Found.{found, not-found}
-use Rattle.walk.proofs.Rows.{surplus-after}
 use Rattle.messages.specs.Openings.{known, knownAt, openAt}
 use Rattle.whole.specs.Wholes.{restAt, rootAt, treeAt, wholeAt}
 
@@ -26,13 +25,12 @@ bind-same (done a) k h e = e a
 bind-same (refused n q) k h e = refl
 
 module _ (p m : List ℕ) where
-  pub root-read : (a : ℕ) (x : ℕ × ℕ) → readWhole (isBig p) (templateAt p a) m x
-      ≡ (rootAt p a m (versionOf (isBig p) m) (blockLength (isBig p) m)
-      >>= λ r. restAt p a m (versionOf (isBig p) m) (x .0) (x .1) (r .1)
+  pub root-read : (a : ℕ) (x : ℕ × ℕ) → readWhole (bookAt p .format) (versionAt p) (templateAt p a) m x
+      ≡ (rootAt p a m (versionOf (isBig p) m) (blockLength (isBig p) m) (x .0)
+      >>= λ r. restAt p a m (versionOf (isBig p) m) (x .1) (r .1)
       >>= λ s. done (treeAt p m (a, x .0, r .0, s .0)))
   unfolding readWhole readBlock rootAt restAt
-  root-read a (g, d) =
-      rw (surplus-after (isBig p) m g (versionOf (isBig p) m) (innerAt p 4 a) _) (simp (bind-assoc, bind-done) refl)
+  root-read a (g, d) = simp (bind-assoc, bind-done) refl
 
   module _ (book : HoldsBook p) where
     by-place : (r : Located) → locationOf p (templateId (isBig p) m) ≡ r

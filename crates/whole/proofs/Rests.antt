@@ -8,10 +8,10 @@ use lib.Dec.{eqb}
 use lib.ListN.{length}
 use Rattle.layout.specs.Result.{Result, _>>=_, done, must, refused}
 use Rattle.layout.specs.Contracts.{refusal}
-use Rattle.layout.specs.Message.{readDatas, skipGroups}
+use Rattle.layout.specs.Message.{readDatas}
 use Rattle.layout.specs.declared.Answer.{Answer}
 use Rattle.prepared.specs.Positions.{isBig, shapeAt}
-use Rattle.wire.specs.Walks.{skipEnd, walked}
+use Rattle.wire.specs.Walks.{walked}
 use Rattle.wire.specs.declared.Walked.{Walked}
 use Rattle.wire.specs.declared.Walked.the-variants.{To, Refused}
 use Rattle.walk.specs.Walks.{datasEnd}
@@ -38,9 +38,8 @@ unfolding walked must ends _>>=_
 at-end true ds y = ap (To y) (omega arith)
 at-end false ds y = refl
 
-pub rest-by : (p : List ℕ) (a : ℕ) (m : List ℕ) (v n k at : ℕ)
-    → walked restEnd (restAt p a m v n k at)
-    ≡ after (walked skipEnd (skipGroups (isBig p) m n at)) λ x _.
-    after (walked (datasEnd 0) (readDatas (isBig p) m v (shapeAt p a .datas) k x)) λ y c. ends (eqb y (length m)) y c
+pub rest-by : (p : List ℕ) (a : ℕ) (m : List ℕ) (v k at : ℕ)
+    → walked restEnd (restAt p a m v k at)
+    ≡ after (walked (datasEnd 0) (readDatas (isBig p) m v (shapeAt p a .datas) k at)) λ y c. ends (eqb y (length m)) y c
 unfolding restAt
-rest-by p a m v n k at = after-bind _ skipEnd _ _ _ λ x. after-bind _ (datasEnd 0) _ _ _ λ d. at-end _ (d .0) (d .1)
+rest-by p a m v k at = after-bind _ (datasEnd 0) _ _ _ λ d. at-end _ (d .0) (d .1)

@@ -1,57 +1,27 @@
-// Walks a whole message by a prepared book: 10 to 20, how many records it has, and where the entry starts that a path
+// Walks a whole message by a prepared book: 10 to 22, how many records it has, and where the entry starts that a path
 // leads to.
 use layout::Refusal;
 use messages::Opened;
 use places::Row;
+use places::Spot;
 use prepared::number;
 use wire::Walked;
 ghost use mathlib.Core.Path.{_≡_};
 ghost use Prim.Native.Nat.{_≤_};
 ghost use Rattle.layout.specs.Contracts.{refusal};
-ghost use Rattle.layout.specs.Message.{readDatas};
-ghost use Rattle.prepared.specs.Positions.{BlockAt, IsBlock, isBig, shapeAt};
+ghost use Rattle.prepared.specs.Positions.{BlockAt, IsBlock};
 ghost use Rattle.prepared.specs.Books.{HoldsBook};
-ghost use Rattle.wire.specs.Walks.{walked};
-ghost use Rattle.walk.specs.Walks.{Lent, datasEnd};
+ghost use Rattle.wire.specs.Walks.{Lent, walked};
 ghost use Rattle.places.specs.Seeks.{Path};
 ghost use Rattle.whole.specs.Wholes.{Ends, Few, entered, restAt, restEnd, rootAt, rooted, spotAt, wholeAt};
 
-// The data of the root block at a, and k surplus data.
-fn walk_all_datas(p: &[u64], a: usize, m: &[u8], v: usize, k: usize, at: usize) -> Walked
-    requires { ⌜ IsBlock (now p) a × Lent (now m) at ⌝ }
-    ensures { λ r. ⌜ r ≡ walked (datasEnd 0) (readDatas (isBig (now (p .entry))) (now (m .entry)) v
-        (shapeAt (now (p .entry)) a .datas) k at) ⌝ }
+// What follows the groups of the root block at a: its data, surplus data, the message's end.
+fn walk_rest(p: &[u64], a: usize, m: &[u8], v: usize, datas: usize, at: usize) -> Walked
+    requires { ⌜ IsBlock (now p) a × (datas ≤ 65535) × Lent (now m) at ⌝ }
+    ensures { λ r. ⌜ r ≡ walked restEnd (restAt (now (p .entry)) a (now (m .entry)) v datas at) ⌝ }
 {
     let big = prepared::is_big(p);
-    let own = walk::walk_datas(p, number(p, a + 10), number(p, a + 5), big, m, v, at);
-    let Walked::To { next, records } = own else {
-        return own;
-    };
-    let surplus = wire::skip_datas(big, m, k, next);
-    let Walked::To { next: end, .. } = surplus else {
-        return surplus;
-    };
-    Walked::To { next: end, records }
-}
-
-// What follows the groups of the root block at a: the surplus groups, its data, the surplus data, the message's end.
-fn walk_rest(
-    p: &[u64],
-    a: usize,
-    m: &[u8],
-    v: usize,
-    groups: usize,
-    datas: usize,
-    at: usize,
-) -> Walked
-    requires { ⌜ IsBlock (now p) a × Lent (now m) at ⌝ }
-    ensures { λ r. ⌜ r ≡ walked restEnd (restAt (now (p .entry)) a (now (m .entry)) v groups datas at) ⌝ }
-{
-    let surplus = wire::skip_groups(prepared::is_big(p), m, groups, at);
-    let Walked::To { next, .. } = surplus else {
-        return surplus;
-    };
-    let rest = walk_all_datas(p, a, m, v, datas, next);
+    let rest = walk::walk_datas(p, number(p, a + 10), number(p, a + 5), datas, big, m, v, at);
     let Walked::To { next: last, .. } = rest else {
         return rest;
     };
@@ -62,22 +32,30 @@ fn walk_rest(
 }
 
 // The octets of the root block and its groups: where they end; how many records the groups have, where no path is to be
-// followed; and where the entry starts that the path leads to, and its block's octets.
+// followed; and the spot of the entry that the path leads to.
 pub enum Root {
     To {
         next: usize,
         records: usize,
-        found: usize,
-        length: usize,
+        spot: Spot,
     },
     Refused(Refusal),
 }
 
-// The groups of the root block at a, which has l octets.
-fn walk_root(p: &&[u64], a: usize, m: &&[u8], v: usize, l: usize, path: &&[u64]) -> Root
-    requires { ⌜ BlockAt (now (now p)) 4 a × Lent (now (now m)) 12 × (l ≤ 65535) × Path (now (now path)) 0 ⌝ }
+// The groups of the root block at a, which has l octets and surplus groups behind its own.
+fn walk_root(
+    p: &&[u64],
+    a: usize,
+    m: &&[u8],
+    v: usize,
+    l: usize,
+    groups: usize,
+    path: &&[u64],
+) -> Root
+    requires { ⌜ BlockAt (now (now p)) 4 a × Lent (now (now m)) 12 × (l ≤ 65535) × (groups ≤ 65535)
+        × Path (now (now path)) 0 ⌝ }
     ensures { λ r. ⌜ r ≡ rooted (now (now (path .entry))) (spotAt (now (now (p .entry))) a (now (now (m .entry))) v l
-        (now (now (path .entry)))) (rootAt (now (now (p .entry))) a (now (now (m .entry))) v l) ⌝ }
+        groups (now (now (path .entry)))) (rootAt (now (now (p .entry))) a (now (now (m .entry))) v l groups) ⌝ }
     ensures { λ r. ⌜ Ends (now (now (m .entry))) r ⌝ }
 {
     let s = *p;
@@ -90,43 +68,46 @@ fn walk_root(p: &&[u64], a: usize, m: &&[u8], v: usize, l: usize, path: &&[u64])
         });
     }
     if steps.len() == 0 {
-        return match walk::pass_row(p, number(s, a + 9), number(s, a + 4), 4, m, v, 12 + l) {
+        return match walk::pass_row(
+            p,
+            number(s, a + 9),
+            number(s, a + 4),
+            4,
+            m,
+            v,
+            groups,
+            12 + l,
+        ) {
             Walked::To { next, records } => Root::To {
                 next,
                 records,
-                found: 12,
-                length: l,
+                spot: Spot {
+                    start: 12,
+                    length: l,
+                    groups,
+                },
             },
             Walked::Refused(refusal) => Root::Refused(refusal),
         };
     }
-    match places::seek_row(p, a, 4, m, v, 12 + l, path, 0) {
-        Row::To {
-            next,
-            found,
-            length,
-        } => Root::To {
+    match places::seek_row(p, a, 4, m, v, groups, 12 + l, path, 0) {
+        Row::To { next, spot } => Root::To {
             next,
             records: 0,
-            found,
-            length,
+            spot,
         },
         Row::Refused(refusal) => Root::Refused(refusal),
     }
 }
 
-// A message that was walked: where its template's block stands; its version; the root's octets, and how many surplus
-// groups follow its own; how many records its groups have, where no path was to be followed; where the entry starts
-// that the path leads to, 0 if there is none, and its block's octets. Or the refusal.
+// A message that was walked: where its template's block stands; its version; how many records its groups have, where no
+// path was to be followed; the spot of the entry that the path leads to. Or the refusal.
 pub enum Entered {
     At {
         block: usize,
         version: usize,
-        length: usize,
-        groups: usize,
         records: usize,
-        found: usize,
-        long: usize,
+        spot: Spot,
     },
     Refused(Refusal),
 }
@@ -146,23 +127,19 @@ pub fn enter(p: &&[u64], m: &&[u8], path: &&[u64]) -> Entered
             length,
             groups,
             datas,
-        } => match walk_root(p, block, m, version, length, path) {
+        } => match walk_root(p, block, m, version, length, groups, path) {
             Root::Refused(refusal) => Entered::Refused(refusal),
             Root::To {
                 next,
                 records,
-                found,
-                length: long,
-            } => match walk_rest(*p, block, *m, version, groups, datas, next) {
+                spot,
+            } => match walk_rest(*p, block, *m, version, datas, next) {
                 Walked::Refused(refusal) => Entered::Refused(refusal),
                 Walked::To { .. } => Entered::At {
                     block,
                     version,
-                    length,
-                    groups,
                     records,
-                    found,
-                    long,
+                    spot,
                 },
             },
         },

@@ -1,5 +1,7 @@
 -- What walking a part of a message comes to, by the definition's answer.
+use mathlib.Core.List.{List}
 use Prim.Native.Nat.{ℕ, _≤_}
+use lib.ListN.{length}
 use Rattle.layout.specs.Result.{Result, done, refused}
 use Rattle.layout.specs.Contracts.{refusal}
 use Rattle.layout.specs.Message.{headerSize}
@@ -25,3 +27,8 @@ headerEnd u = (headerSize, 0)
 unfoldable pub Inside : ℕ → ℕ → Walked → Type 0
 Inside len at (To x k) = (at ≤ x) × (x ≤ len)
 Inside len at (Refused r) = Unit {0}
+
+-- A message that is not too long, and a place in it.
+pub record Lent (m : List ℕ) (at : ℕ) : Type 0 where
+  pub short : length m ≤ 65535
+  pub inside : at ≤ length m

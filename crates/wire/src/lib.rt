@@ -1,14 +1,15 @@
-// What stands in a message whatever the book's templates: the header, dimensions, data, and the surplus of a newer
-// version. `big` is the order of the message's numbers.
+// What stands in a message whatever the book's templates: the header, the numbers of a dimension, data. `big` is the
+// order of the message's numbers.
 use layout::Refusal;
 ghost use mathlib.Core.Path.{_≡_};
 ghost use Prim.Native.Nat.{_+_, _≤_};
+ghost use lib.Dec.{ltb};
 ghost use lib.ListN.{length};
 ghost use Rattle.layout.specs.Contracts.{refusal};
-ghost use Rattle.layout.specs.Message.{readData, skipDatas, readDimension, skipGroups};
+ghost use Rattle.layout.specs.Message.{readData};
+ghost use Rattle.layout.specs.Result.{_and_};
 ghost use Rattle.ordered.specs.Order.{SpeltBy};
-ghost use Rattle.wire.specs.Walks.{walked, dataEnd, skipEnd, Inside};
-ghost use Rattle.wire.specs.Dimensions.{dimensioned};
+ghost use Rattle.wire.specs.Walks.{walked, dataEnd, Inside};
 ghost use Rattle.wire.specs.Headers.{ChecksHeader, IsHeader};
 
 // What walking a part of a message comes to: the octet after it and its number of records, or the refusal.
@@ -67,36 +68,13 @@ pub fn read_data(big: bool, m: &[u8], at: usize) -> Walked
     data_in(false, m, at)
 }
 
-// n surplus data.
-pub fn skip_datas(big: bool, m: &[u8], n: usize, at: usize) -> Walked
-    requires { ⌜ at ≤ length (now m) ⌝ }
-    ensures { λ r. ⌜ r ≡ walked skipEnd (skipDatas big (now (m .entry)) n at) ⌝ }
-    ensures { λ r. ⌜ Inside (length (now (m .entry))) at r ⌝ }
-{
-    let mut x = at;
-    let mut left = n;
-    while 0 < left {
-        let data = read_data(big, m, x);
-        let Walked::To { next, .. } = data else {
-            return data;
-        };
-        x = next;
-        left = left - 1;
-    }
-    Walked::To {
-        next: x,
-        records: 0,
-    }
-}
-
-// The numbers of a dimension: the octets of a block, and the entries.
+// The first two numbers of a dimension: the octets of a block, and the entries.
 pub struct Sizes {
     pub length: usize,
     pub entries: usize,
 }
 
-// The dimension that stands at `at`, whatever it says.
-pub fn sizes_at(big: bool, m: &[u8], at: usize) -> Sizes
+fn sizes_in(big: bool, m: &[u8], at: usize) -> Sizes
     requires { ⌜ at + 4 ≤ length (now m) ⌝ }
     ensures { λ r. ⌜ SpeltBy big 2 (now (m .entry)) at (r .length)
         × SpeltBy big 2 (now (m .entry)) (at + 2) (r .entries) ⌝ }
@@ -107,94 +85,26 @@ pub fn sizes_at(big: bool, m: &[u8], at: usize) -> Sizes
     }
 }
 
-// What the dimension of a group says: the octets of a block and the entries, or the refusal.
-pub enum Dimension {
-    Of { length: usize, entries: usize },
-    Refused(Refusal),
-}
-
-fn no_dimension(number: u8, place: usize) -> Dimension
-    ensures { λ r. ⌜ r ≡ Dimension.Refused (refusal number place) ⌝ }
-{
-    Dimension::Refused(Refusal { number, place })
-}
-
-// The dimension at `at`: a block length of at least `least`, and an entry count.
-fn dimension_in(big: bool, m: &[u8], least: usize, at: usize) -> Dimension
-    requires { ⌜ at ≤ length (now m) ⌝ }
-    ensures { λ r. ⌜ r ≡ dimensioned (readDimension big (now (m .entry)) least at) ⌝ }
-{
-    if m.len() - at < 4 {
-        return no_dimension(16, at);
-    }
-    let sizes = sizes_at(big, m, at);
-    if 65535 <= sizes.length {
-        return no_dimension(17, at);
-    }
-    if 65535 <= sizes.entries {
-        return no_dimension(17, at);
-    }
-    if sizes.length < least {
-        return no_dimension(18, at);
-    }
-    Dimension::Of {
-        length: sizes.length,
-        entries: sizes.entries,
-    }
-}
-
-// The same, by a path for each order.
-pub fn open_group(big: bool, m: &[u8], least: usize, at: usize) -> Dimension
-    requires { ⌜ at ≤ length (now m) ⌝ }
-    ensures { λ r. ⌜ r ≡ dimensioned (readDimension big (now (m .entry)) least at) ⌝ }
+// The two that stand at `at`, whatever they say, by a path for each order.
+pub fn sizes_at(big: bool, m: &[u8], at: usize) -> Sizes
+    requires { ⌜ at + 4 ≤ length (now m) ⌝ }
+    ensures { λ r. ⌜ SpeltBy big 2 (now (m .entry)) at (r .length)
+        × SpeltBy big 2 (now (m .entry)) (at + 2) (r .entries) ⌝ }
 {
     if big {
-        return dimension_in(true, m, least, at);
+        return sizes_in(true, m, at);
     }
-    dimension_in(false, m, least, at)
+    sizes_in(false, m, at)
 }
 
-// One surplus group, passed as a dimension and block length times entries.
-fn skip_group(big: bool, m: &[u8], at: usize) -> Walked
-    requires { ⌜ at ≤ length (now m) ⌝ }
-    ensures { λ r. ⌜ r ≡ walked skipEnd (skipGroups big (now (m .entry)) 1 at) ⌝ }
-    ensures { λ r. ⌜ Inside (length (now (m .entry))) at r ⌝ }
+// Whether neither is 65535.
+pub fn are_whole(sizes: Sizes) -> bool
+    ensures { λ r. ⌜ r ≡ (ltb (sizes .length) 65535 and ltb (sizes .entries) 65535) ⌝ }
 {
-    match open_group(big, m, 0, at) {
-        Dimension::Refused(refusal) => Walked::Refused(refusal),
-        Dimension::Of { length, entries } => {
-            let size = length * entries;
-            if m.len() - at - 4 < size {
-                return refuse(16, at);
-            }
-            Walked::To {
-                next: at + 4 + size,
-                records: 0,
-            }
-        }
+    if sizes.length < 65535 {
+        return sizes.entries < 65535;
     }
-}
-
-// n surplus groups.
-pub fn skip_groups(big: bool, m: &[u8], n: usize, at: usize) -> Walked
-    requires { ⌜ at ≤ length (now m) ⌝ }
-    ensures { λ r. ⌜ r ≡ walked skipEnd (skipGroups big (now (m .entry)) n at) ⌝ }
-    ensures { λ r. ⌜ Inside (length (now (m .entry))) at r ⌝ }
-{
-    let mut x = at;
-    let mut left = n;
-    while 0 < left {
-        let group = skip_group(big, m, x);
-        let Walked::To { next, .. } = group else {
-            return group;
-        };
-        x = next;
-        left = left - 1;
-    }
-    Walked::To {
-        next: x,
-        records: 0,
-    }
+    false
 }
 
 // The numbers of a header.

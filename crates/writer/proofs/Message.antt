@@ -1,4 +1,5 @@
--- The parts, one after the other, are the message that the definition says; and its header in the code's terms.
+-- The parts, one after the other, are the message that the definition says; and its header and dimensions in the
+-- code's terms.
 use mathlib.Core.Path.{_≡_, refl, sym, ap, _∙_}
 use mathlib.Core.Bool.{Bool}
 use mathlib.Core.List.{List, [], _∷_, _++_, append-assoc, append-nil}
@@ -12,9 +13,9 @@ use Rattle.layout.specs.Octets.{octetsOf}
 use Rattle.layout.specs.Book.{Book, Data, Field, Groups, Shape, Template, end, more, none}
 use Rattle.layout.specs.Values.{Values, entry, nil}
 use Rattle.layout.specs.Message.{Entry}
-use Rattle.layout.specs.Writing.{blockOctets, dataOctets, entriesIn, headerOf, judgeBlock}
-use Rattle.layout.specs.Writing.{judgeDatas, judgeEntries, judgeFields, judgeGroups, judgeListing}
-use Rattle.layout.specs.Writing.{messageOctets, numbers16, rowOctets, second}
+use Rattle.layout.specs.Writing.{blockOctets, countsOf, dataOctets, entriesIn, headerOf, judgeBlock, judgeDatas}
+use Rattle.layout.specs.Writing.{judgeEntries, judgeFields, judgeGroups, judgeListing, messageOctets, numbers16}
+use Rattle.layout.specs.Writing.{rowOctets, second}
 use Rattle.layout.specs.declared.Answer.{Answer}
 use Rattle.layout.proofs.Results.{done-inj}
 use Rattle.layout.proofs.Stands.{length-numbers, length-octets}
@@ -26,7 +27,7 @@ use Rattle.writer.specs.Zeros.{Ready, Zeros, ZerosFrom}
 use Rattle.writer.specs.Parts.{dataPart, datasPart, entriesPart, fieldsPart, groupsPart, messagePart, valuePart}
 use Rattle.writer.proofs.Zeros.{zeros-past, zeros-start}
 
--- ---- the header
+-- ---- numbers of a header or a dimension
 
 module _ (big : Bool) where
   pub two-numbers : (d : List ℕ) (at x y : ℕ)
@@ -43,16 +44,10 @@ module _ (big : Bool) where
   numbers-append (x ∷ xs) ys =
       rw (numbers-append xs ys) (sym (append-assoc (octetsOf big 2 x) (numbers16 big xs) (numbers16 big ys)))
 
-  numbers-laid : (d : List ℕ) (at : ℕ) (xs ys : List ℕ)
-      → sets (sets d at (numbers16 big xs)) (at + 2 * length xs) (numbers16 big ys)
-      ≡ sets d at (numbers16 big (xs ++ ys))
-  numbers-laid d at xs ys = rw (numbers-append xs ys, sets-append d at, length-numbers big xs) refl
-
-  pub header-laid : (d r₁ r₂ r₃ : List ℕ) (a b c e f g : ℕ) → r₁ ≡ sets d 0 (numbers16 big (a ∷ b ∷ []))
-      → r₂ ≡ sets r₁ 4 (numbers16 big (c ∷ e ∷ [])) → r₃ ≡ sets r₂ 8 (numbers16 big (f ∷ g ∷ []))
-      → r₃ ≡ sets d 0 (numbers16 big (a ∷ b ∷ c ∷ e ∷ f ∷ g ∷ []))
-  header-laid d r₁ r₂ r₃ a b c e f g p q s =
-      s ∙ rw (q, p, numbers-laid d 0 (a ∷ b ∷ []) (c ∷ e ∷ [])) (numbers-laid d 0 (a ∷ b ∷ c ∷ e ∷ []) (f ∷ g ∷ []))
+  -- Numbers after numbers.
+  pub numbers-laid : (d : List ℕ) (at : ℕ) (xs ys : List ℕ) {r₁ r₂ : List ℕ} → r₁ ≡ sets d at (numbers16 big xs)
+      → r₂ ≡ sets r₁ (at + 2 * length xs) (numbers16 big ys) → r₂ ≡ sets d at (numbers16 big (xs ++ ys))
+  numbers-laid d at xs ys p q = q ∙ rw (p, numbers-append xs ys, sets-append d at, length-numbers big xs) refl
 
 -- ---- one part after the other: what is judged good is written as the definition says
 
@@ -73,12 +68,14 @@ module _ (big : Bool) (l pool : List ℕ) where
       step _ _ _ is λ a one next. step _ _ _ next λ z rest e.
       rw (one, datas-are ds (i + 1) z (rw (add-one i) rest), ← (done-inj e)) (simp append-assoc)
 
+module _ (counted big : Bool) (l pool : List ℕ) where
   -- The entries of a block s with groups gs, which f judges and `row` writes.
   module _ (s : Shape) (gs : Groups) (f : ℕ → Result (Values × ℕ)) (row : ℕ → Printed)
-      (rows : (i : ℕ) (r : Values × ℕ) → f i ≡ done r → row i ≡ got (r .1) (rowOctets big pool s gs (r .0))) where
+      (rows : (i : ℕ) (r : Values × ℕ) → f i ≡ done r
+      → row i ≡ got (r .1) (rowOctets counted big pool s gs (r .0))) where
     entries-are : (k i : ℕ) (r : Values × ℕ)
         → judgeEntries l pool k (judgeBlock l pool s f) i ≡ done r
-        → entriesPart big l pool s row k i ≡ got (r .1) (rowOctets big pool s gs (r .0))
+        → entriesPart big l pool s row k i ≡ got (r .1) (rowOctets counted big pool s gs (r .0))
     unfolding judgeEntries judgeBlock entriesPart andThen prepend rowOctets
     entries-are zero i r is = rw (← (done-inj is)) refl
     entries-are (suc k) i r is =
@@ -86,15 +83,15 @@ module _ (big : Bool) (l pool : List ℕ) where
         step _ _ _ one λ fs fields two. step _ _ _ two λ g groups three. step _ _ _ three λ ds datas whole.
         step _ _ _ (rw (← (done-inj whole)) at next) λ z rest e.
         rw (
-          fields-are (s .length) 0 (s .fields) i fs fields,
+          fields-are big l pool (s .length) 0 (s .fields) i fs fields,
           rows (fs .1) g groups,
-          datas-are (s .datas) (g .1) ds datas,
+          datas-are big l pool (s .datas) (g .1) ds datas,
           entries-are k (ds .1) z rest,
           ← (done-inj e),
         ) (simp append-assoc)
 
   groups-are : (s : Shape) (gs : Groups) (i : ℕ) (r : Values × ℕ) → judgeGroups l pool gs i ≡ done r
-      → groupsPart big l pool gs i ≡ got (r .1) (rowOctets big pool s gs (r .0))
+      → groupsPart counted big l pool gs i ≡ got (r .1) (rowOctets counted big pool s gs (r .0))
   unfolding judgeGroups groupsPart andThen prepend rowOctets entriesIn if_then_else_ _and_
   groups-are s none i r is = rw (← (done-inj is)) refl
   groups-are s (more id since sh inner rest) i r is =
@@ -114,12 +111,15 @@ module _ (l pool : List ℕ) (b : Book) (t : Template) where
   abbrev big : Bool
   big = b .format .big
 
+  abbrev counted : Bool
+  counted = b .format .inGroups
+
   abbrev header : List ℕ
   header = numbers16 big (headerOf b t)
 
   -- The root, which is one entry, and with the header before it.
   abbrev entryPart : Printed
-  entryPart = entriesPart big l pool (t .shape) (groupsPart big l pool (t .groups)) 1 0
+  entryPart = entriesPart big l pool (t .shape) (groupsPart counted big l pool (t .groups)) 1 0
 
   abbrev pub rootPart : Printed
   rootPart = prepend header entryPart
@@ -130,8 +130,8 @@ module _ (l pool : List ℕ) (b : Book) (t : Template) where
   unfolding judgeEntries messageOctets prepend _>>=_
   root-entry e is =
       let gs = t .groups in
-      rw (entries-are big l pool (t .shape) gs (judgeGroups l pool gs) (groupsPart big l pool gs)
-      (groups-are big l pool (t .shape) gs) 1 0 (entry (e .0) (e .1) (e .2) nil, e .3) (rw is refl)) refl
+      rw (entries-are counted big l pool (t .shape) gs (judgeGroups l pool gs) (groupsPart counted big l pool gs)
+      (groups-are counted big l pool (t .shape) gs) 1 0 (entry (e .0) (e .1) (e .2) nil, e .3) (rw is refl)) refl
 
   -- The message of a listing that was judged.
   module _ (r : Values) (is : judgeListing l pool t ≡ done r) where
@@ -151,7 +151,7 @@ module _ (l pool : List ℕ) (b : Book) (t : Template) where
     root-is : (y : ℕ) × (rootPart ≡ got y (messageOctets b t pool r))
     unfolding judgeListing
     root-is =
-        step _ _ _ is λ e one next. passed _ _ _ _ _ next λ counted whole.
+        step _ _ _ is λ e one next. passed _ _ _ _ _ next λ all whole.
         (e .3, root-entry e one ∙ ap (λ (z : Values). got (e .3) (messageOctets b t pool z)) (done-inj whole))
 
   message-judged : Accepted (messagePart l pool b t) → Done (judgeListing l pool t)
@@ -173,12 +173,14 @@ module _ (l pool : List ℕ) (b : Book) (t : Template) where
 
     -- The header stands, and the root is to come.
     pub root-headed : {d′ : List ℕ} → d′ ≡ sets d 0 header → Going rootPart entryPart 0 d 12 d′
+    unfolding countsOf
     root-headed q = rw (length-numbers big (headerOf b t)) at (going-put (going-none root-room) header refl q)
 
     pub header-fits : 12 ≤ length d
     header-fits = omega (arith, root-headed refl .room .fits, length-sets d 0 header)
 
     pub header-zeros : {d′ : List ℕ} → d′ ≡ sets d 0 header → ZerosFrom 12 d′
+    unfolding countsOf
     header-zeros q =
         let long = length-numbers big (headerOf b t) in
         zeros-past (zeros-start (y .zeros)) header (omega arith) q

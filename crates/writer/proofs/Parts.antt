@@ -1,7 +1,7 @@
 -- What each part of a listing writes, taken apart in the code's terms. That it was judged good is known: no test is
 -- made.
 use mathlib.Core.Path.{_≡_, refl, sym, ap, _∙_}
-use mathlib.Core.List.{List, [], _∷_, _++_, append-nil}
+use mathlib.Core.List.{List, [], _++_, append-nil}
 use mathlib.Core.Bool.{Bool, true, false}
 use Prim.Native.Nat.{ℕ, zero, suc, _+_, _-_, _*_, _/_, _≤_, _<_}
 use native.Mathlib.Nat.{sub-zero}
@@ -16,7 +16,7 @@ use Rattle.layout.specs.Octets.{null16, octetsOf}
 use Rattle.layout.specs.Types.{typeAt}
 use Rattle.layout.specs.Book.{Field, Groups, Shape, end, isArray, more, size}
 use Rattle.layout.specs.BookRules.{fieldsGood, lengthGood, parseFields, word}
-use Rattle.layout.specs.Writing.{fieldOctets, first, isGroup, isNumber, isThere, judgeData, judgeField}
+use Rattle.layout.specs.Writing.{dimensionOf, fieldOctets, first, isGroup, isNumber, isThere, judgeData, judgeField}
 use Rattle.layout.specs.Writing.{numbers16, second, spanOf, third}
 use Rattle.layout.specs.declared.Answer.{Answer}
 use Rattle.layout.proofs.Results.{and-left, and-right, each-way, none-left, one-less, or-right, some-left}
@@ -31,8 +31,7 @@ use Rattle.prepared.proofs.Open.{no-groups-at}
 use Rattle.prints.specs.Prints.{Accepted, Printed, Room, Stored, andThen, endOf, got, not, numbersOf, prepend, printed}
 use Rattle.prints.proofs.Going.{Done, was-done}
 use Rattle.writer.proofs.Zeros.{part-put, partOf}
-use Rattle.writer.specs.Parts.{dataPart, datasPart, entriesPart, fieldsPart, groupsPart, numberOr}
-use Rattle.writer.specs.Parts.{valuePart}
+use Rattle.writer.specs.Parts.{dataPart, datasPart, entriesPart, fieldsPart, groupsPart, numberOr, valuePart}
 
 -- ---- records
 
@@ -271,9 +270,11 @@ module _ (big : Bool) (l pool : List ℕ) where
     unfolding entriesPart
     entries-end k i h = rw (none-left h) refl
 
-  -- ---- groups in a row
+-- ---- groups in a row
 
-  pub groups-end : (p : List ℕ) (depth n a i : ℕ) → n ≤ 0 → groupsPart big l pool (groupsAt p depth n a) i ≡ got i []
+module _ (counted big : Bool) (l pool : List ℕ) where
+  pub groups-end : (p : List ℕ) (depth n a i : ℕ) → n ≤ 0
+      → groupsPart counted big l pool (groupsAt p depth n a) i ≡ got i []
   unfolding groupsPart
   groups-end p depth n a i h = rw (no-groups-at p depth n a h) refl
 
@@ -281,15 +282,15 @@ module _ (big : Bool) (l pool : List ℕ) where
   module _ (gs : Groups) (s : Shape) (inner rest : Groups) (i : ℕ) where
     abbrev groupThen : Printed
     groupThen =
-        andThen (got (i + 1) (numbers16 big (s .length ∷ second l i ∷ [])))
-        (λ j. andThen (entriesPart big l pool s (groupsPart big l pool inner) (second l i) j)
-        (groupsPart big l pool rest))
+        andThen (got (i + 1) (numbers16 big (dimensionOf counted s inner (second l i))))
+        (λ j. andThen (entriesPart big l pool s (groupsPart counted big l pool inner) (second l i) j)
+        (groupsPart counted big l pool rest))
 
     pub record GroupOpen : Type 0 where
       pub there : i < length l / 3
-      pub same : groupsPart big l pool gs i ≡ groupThen
+      pub same : groupsPart counted big l pool gs i ≡ groupThen
 
-    pub group-open : {id since : ℕ} → gs ≡ more id since s inner rest → Accepted (groupsPart big l pool gs i)
+    pub group-open : {id since : ℕ} → gs ≡ more id since s inner rest → Accepted (groupsPart counted big l pool gs i)
         → GroupOpen
     unfolding groupsPart if_then_else_ endOf numbersOf
     group-open is r = go (isGroup l i and ltb (second l i) null16) refl (rw is at r)

@@ -8,9 +8,9 @@ use lib.ListN.{length, replicate}
 use Rattle.layout.specs.Result.{_and_, if_then_else_}
 use Rattle.layout.specs.Octets.{null16, octetsOf}
 use Rattle.layout.specs.Book.{Book, Field, Groups, Shape, Template, end, more, none}
-use Rattle.layout.specs.Writing.{fieldOctets, first, isGroup, judgeData, judgeField, judgeListing, messageOctets}
-use Rattle.layout.specs.Writing.{numbers16, second, spanOctets, spanOf}
-use Rattle.prepared.specs.Positions.{innerAt, isBig, shapeAt}
+use Rattle.layout.specs.Writing.{dimensionOf, fieldOctets, first, isGroup, judgeData, judgeField, judgeListing}
+use Rattle.layout.specs.Writing.{messageOctets, numbers16, second, spanOctets, spanOf}
+use Rattle.prepared.specs.Positions.{innerAt, isBig, isCounted, shapeAt}
 use Rattle.prints.specs.Prints.{Printed, andThen, got, not, prepend, printed}
 
 -- The number of record i, or x where it is null.
@@ -43,17 +43,23 @@ module _ (big : Bool) (l pool : List ℕ) where
       andThen (fieldsPart (s .length) 0 (s .fields) i)
       (λ j. andThen (row j) (λ d. andThen (datasPart (length (s .datas)) d) (entriesPart s row k)))
 
+-- `counted`: whether dimensions have four numbers.
+module _ (counted big : Bool) (l pool : List ℕ) where
   unfoldable pub groupsPart : Groups → ℕ → Printed
   groupsPart none i = got i []
   groupsPart (more id since s inner rest) i =
       if isGroup l i and ltb (second l i) null16
-      then andThen (got (i + 1) (numbers16 big (s .length ∷ second l i ∷ [])))
-      (λ j. andThen (entriesPart s (groupsPart inner) (second l i) j) (groupsPart rest)) else not
+      then andThen (got (i + 1) (numbers16 big (dimensionOf counted s inner (second l i))))
+      (λ j. andThen (entriesPart big l pool s (groupsPart inner) (second l i) j) (groupsPart rest)) else not
 
--- k entries of the block at a of a prepared book.
+-- k entries of the block at a of a prepared book, and the dimension of so many at record i.
 abbrev pub entriesAt : List ℕ → List ℕ → List ℕ → ℕ → ℕ → ℕ → ℕ → Printed
 entriesAt l pool p depth a k i =
-    entriesPart (isBig p) l pool (shapeAt p a) (groupsPart (isBig p) l pool (innerAt p depth a)) k i
+    entriesPart (isBig p) l pool (shapeAt p a) (groupsPart (isCounted p) (isBig p) l pool (innerAt p depth a)) k i
+
+abbrev pub dimensionAt : List ℕ → ℕ → ℕ → ℕ → ℕ → Printed
+dimensionAt p depth a k i =
+    got (i + 1) (numbers16 (isBig p) (dimensionOf (isCounted p) (shapeAt p a) (innerAt p depth a) k))
 
 -- The whole message.
 unfoldable pub messagePart : List ℕ → List ℕ → Book → Template → Printed

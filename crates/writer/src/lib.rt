@@ -10,11 +10,12 @@ ghost use lib.Seq.{sets};
 ghost use Rattle.layout.specs.BookRules.{word};
 ghost use Rattle.layout.specs.Writing.{headerOf, numbers16};
 ghost use Rattle.prepared.specs.Books.{bookAt, templateAt};
-ghost use Rattle.prepared.specs.Positions.{BlockAt, IsBlock, IsField, fieldAt, manyDatas, innerAt, isBig, shapeAt};
-ghost use Rattle.prints.specs.Prints.{Printed, Room, Stored, numbersOf};
+ghost use Rattle.prepared.specs.Positions.{BlockAt, IsBlock, IsField, fieldAt, innerAt, isBig, isCounted, manyDatas};
+ghost use Rattle.prepared.specs.Positions.{shapeAt};
+ghost use Rattle.prints.specs.Prints.{Room, Stored, numbersOf};
 ghost use Rattle.writer.specs.Heads.{IsHead};
 ghost use Rattle.writer.specs.Zeros.{Ready, ZerosFrom};
-ghost use Rattle.writer.specs.Parts.{dataPart, datasPart, entriesAt, fieldsPart, groupsPart};
+ghost use Rattle.writer.specs.Parts.{dataPart, datasPart, dimensionAt, entriesAt, fieldsPart, groupsPart};
 ghost use Rattle.writer.specs.Parts.{messagePart, numberOr, valuePart};
 
 // Where the pass stands: the number of the next record, and how many octets of the room are taken.
@@ -227,19 +228,21 @@ fn put_two(big: bool, room: &mut [u8], at: usize, x: u64, y: u64)
     ordered::put2(big, room, at + 2, y);
 }
 
-// The dimension of the group at a, which has k entries.
-fn put_dimension(p: &[u64], a: usize, k: u64, room: &mut [u8], c: Cursor) -> Cursor
-    requires { ⌜ IsBlock (now p) a × (c .record + 1 < 2 ^ 64) ⌝ }
-    requires { ⌜ Room (Printed.got (c .record + 1) (numbers16 (isBig (now p)) (word (now p) (a + 2) ∷ k ∷ []))) (c .at)
-        (length (now room)) ⌝ }
-    ensures { λ r. ⌜ Stored (Printed.got (c .record + 1) (numbers16 (isBig (now (p .entry))) (word (now (p .entry))
-        (a + 2) ∷ k ∷ []))) (c .at) (now (room .entry)) (r .record) (r .at) (now (room .exit)) ⌝ }
+// The dimension of the group at a, which has k entries, `depth` more levels being left.
+fn put_dimension(p: &[u64], a: usize, depth: usize, k: u64, room: &mut [u8], c: Cursor) -> Cursor
+    requires { ⌜ BlockAt (now p) depth a × (c .record + 1 < 2 ^ 64) ⌝ }
+    requires { ⌜ Room (dimensionAt (now p) depth a k (c .record)) (c .at) (length (now room)) ⌝ }
+    ensures { λ r. ⌜ Stored (dimensionAt (now (p .entry)) depth a k (c .record)) (c .at) (now (room .entry)) (r .record)
+        (r .at) (now (room .exit)) ⌝ }
 {
     let big = prepared::is_big(p);
     put_two(big, room, c.at, p[a + 2], k);
+    if prepared::is_counted(p) {
+        put_two(big, room, c.at + 4, p[a + 4], p[a + 5]);
+    }
     Cursor {
         record: c.record + 1,
-        at: c.at + 4,
+        at: c.at + prepared::dimension_size(p),
     }
 }
 
@@ -301,11 +304,11 @@ fn write_row(
     c: Cursor,
 ) -> Cursor
     requires { ⌜ BlockAt (now (now p)) depth a × ZerosFrom (c .at) (now room) ⌝ }
-    requires { ⌜ Room (groupsPart (isBig (now (now p))) (now (now listing)) (now (now pool)) (innerAt (now (now p))
-        depth a) (c .record)) (c .at) (length (now room)) ⌝ }
-    ensures { λ r. ⌜ Stored (groupsPart (isBig (now (now (p .entry)))) (now (now (listing .entry))) (now (now (pool
-        .entry))) (innerAt (now (now (p .entry))) depth a) (c .record)) (c .at) (now (room .entry)) (r .record) (r .at)
-        (now (room .exit)) ⌝ }
+    requires { ⌜ Room (groupsPart (isCounted (now (now p))) (isBig (now (now p))) (now (now listing)) (now (now pool))
+        (innerAt (now (now p)) depth a) (c .record)) (c .at) (length (now room)) ⌝ }
+    ensures { λ r. ⌜ Stored (groupsPart (isCounted (now (now (p .entry)))) (isBig (now (now (p .entry)))) (now (now
+        (listing .entry))) (now (now (pool .entry))) (innerAt (now (now (p .entry))) depth a) (c .record)) (c .at)
+        (now (room .entry)) (r .record) (r .at) (now (room .exit)) ⌝ }
 {
     let s = *p;
     let t = *listing;
@@ -314,12 +317,13 @@ fn write_row(
     let mut here = c;
     while 0 < left {
         prepared::open_row(s, g, left, depth);
+        let below = depth - 1;
         let block = g;
         g = number(s, block + 8);
         left = left - 1;
         let k = number_of(t, here.record, 1);
-        let inside = put_dimension(s, block, k, room, here);
-        here = write_entries(p, block, depth - 1, k, listing, pool, room, inside);
+        let inside = put_dimension(s, block, below, k, room, here);
+        here = write_entries(p, block, below, k, listing, pool, room, inside);
     }
     here
 }

@@ -2,17 +2,23 @@
 //!
 //! Prints what the fill says, or the refusal. Exit status: 0 read, 1 refused, 2 without two files.
 
-use siphonbard::{Answer, Book, Element, Refusal};
+use siphonbard::{Answer, Book, Element, Refusal, Step};
 use std::ffi::OsString;
 use std::{env, fs, process};
 
-/// The template of a fill, and its elements in the order of a listing: fields, the group of mills, a note.
+/// The template of a fill, and its elements in the order of a listing: fields, the group of mills, a note. In a mill's
+/// entry there may be a group of deliveries.
 const FILL: u16 = 1;
 const FIELDS: [&str; 6] = ["order", "price", "delivery week", "side", "conditions", "filled quantity"];
 const MILL: [&str; 2] = ["  mill", "  share"];
+const DELIVERY: [&str; 2] = ["    week", "    tonnes"];
 
-/// The filled quantity is this field of the root block. Only the newer book has it.
+/// The filled quantity is this field of the root block. The oldest book lacks it.
 const QUANTITY: usize = 5;
+
+/// The deliveries are this group of a mill. Only the newest book has them.
+const FIRST_MILL: Step = Step { group: 0, entry: 0 };
+const DELIVERIES: usize = 0;
 
 fn main() {
     let paths: Vec<OsString> = env::args_os().skip(1).collect();
@@ -29,24 +35,39 @@ fn read_fill(book: &[u8], message: &[u8]) -> Result<(), Refusal> {
     let book = Book::checked(book)?;
     let records = book.list_all(message)?;
     let quantity = book.place(message, &[], Element::Field(QUANTITY));
-    let fields = match quantity {
-        Err(Refusal { number: Refusal::PLACE_UNKNOWN, .. }) => &FIELDS[..QUANTITY],
-        _ => &FIELDS[..],
-    };
-    show(fields, &records, message);
+    let fields = if is_known(quantity) { &FIELDS[..] } else { &FIELDS[..QUANTITY] };
+    let deliveries = is_known(book.place(message, &[FIRST_MILL], Element::Group(DELIVERIES)));
+    show(fields, deliveries, &records, message);
     println!("filled quantity, asked alone: {}", said(quantity.map(|answer| words(answer, message))));
     println!("written back: {}", said(written_back(&book, &records, message)));
     Ok(())
 }
 
+/// Whether the book has the element that was asked for, whatever the message has.
+fn is_known(asked: Result<Answer, Refusal>) -> bool {
+    !matches!(asked, Err(Refusal { number: Refusal::PLACE_UNKNOWN, .. }))
+}
+
 /// A line for each record of the listing, with its element's name.
-fn show(fields: &[&str], records: &[Answer], message: &[u8]) {
-    let mills = records.get(fields.len()).and_then(Answer::entries).unwrap_or(0) as usize;
-    let entries = MILL.iter().cycle().take(2 * mills);
-    let names = fields.iter().chain(&["mills"]).chain(entries).chain(&["note"]);
-    for (name, &answer) in names.zip(records) {
-        println!("{name:17}{}", words(answer, message));
+fn show(fields: &[&str], deliveries: bool, records: &[Answer], message: &[u8]) {
+    let mut rest = records.iter();
+    // A line for each name, and how many entries the last one has, if it is a group.
+    let mut lines = |names: &[&str]| {
+        let mut entries = 0;
+        for (name, &answer) in names.iter().zip(&mut rest) {
+            println!("{name:17}{}", words(answer, message));
+            entries = answer.entries().unwrap_or(0);
+        }
+        entries
+    };
+    lines(fields);
+    for _ in 0..lines(&["mills"]) {
+        lines(&MILL);
+        for _ in 0..if deliveries { lines(&["  deliveries"]) } else { 0 } {
+            lines(&DELIVERY);
+        }
     }
+    lines(&["note"]);
 }
 
 fn words(answer: Answer, message: &[u8]) -> String {

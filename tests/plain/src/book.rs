@@ -1,6 +1,6 @@
 //! The schema book as a tree, read from its octets: refusals 1 to 4. `rules` has 5 and 6.
 
-use crate::{byte_order, refusal, rules, word, NameList, Refusal, NULL16};
+use crate::{byte_order, dimension, refusal, rules, word, NameList, Refusal, NULL16};
 
 #[derive(Clone, Debug, PartialEq, Eq)]
 pub struct Book {
@@ -8,6 +8,8 @@ pub struct Book {
     pub version: u16,
     /// Of its messages, 0 or 1 if the head holds.
     pub byte_order: u16,
+    /// How many numbers a group's dimension has, 2 or 4 if the head holds.
+    pub dimension: u16,
     pub templates: Vec<Template>,
     pub lists: Vec<NameList>,
 }
@@ -51,9 +53,10 @@ pub struct Group {
     pub block: Block,
 }
 
-const HEAD_WORDS: usize = 6;
+const HEAD_WORDS: usize = 7;
 const ROW_WORDS: usize = 3;
-const DEPTH: usize = 4;
+/// Of the deepest group; a root group's is 1.
+pub(crate) const DEPTH: usize = 4;
 
 impl Book {
     /// The book that the octets are, or the lowest number found in any template or list, and the first that has it.
@@ -72,9 +75,10 @@ impl Book {
         for (number, row) in contents.lists.iter().enumerate() {
             lists.push(NameList::read(row.id, row.words).ok_or(refusal(4, templates.len() + number))?);
         }
-        let book = Book { schema: words[0], version: words[1], byte_order: words[5], templates, lists };
+        let (schema, version, byte_order, dimension) = (words[0], words[1], words[5], words[6]);
+        let book = Book { schema, version, byte_order, dimension, templates, lists };
         book.each(5, |block| rules::shape_holds(block, &book))?;
-        book.each(6, |block| rules::sinces_hold(block, book.version, None))?;
+        book.each(6, |block| rules::sinces_hold(block, &book, None))?;
         Ok(book)
     }
 
@@ -97,7 +101,8 @@ impl Book {
         let mut first = HEAD_WORDS + ROW_WORDS * bodies.len();
         let total = first + bodies.iter().map(|(_, body)| body.len()).sum::<usize>();
         let (templates, lists) = (self.templates.len() as u16, self.lists.len() as u16);
-        let mut words = vec![self.schema, self.version, templates, total as u16, lists, self.byte_order];
+        let mut words = vec![self.schema, self.version, templates, total as u16, lists];
+        words.extend([self.byte_order, self.dimension]);
         for (id, body) in &bodies {
             words.extend([*id, first as u16, body.len() as u16]);
             first += body.len();
@@ -127,7 +132,8 @@ impl<'a> Contents<'a> {
         let (templates, lists) = (usize::from(words[2]), usize::from(words[4]));
         let start = HEAD_WORDS + ROW_WORDS * (templates + lists);
         let ids_hold = words[0] != NULL16 && words[1] != NULL16;
-        let head_holds = usize::from(words[3]) == words.len() && ids_hold && words[5] <= byte_order::BIG;
+        let format_holds = words[5] <= byte_order::BIG && [dimension::TWO, dimension::FOUR].contains(&words[6]);
+        let head_holds = usize::from(words[3]) == words.len() && ids_hold && format_holds;
         if !head_holds || !(1..=64).contains(&templates) || start > words.len() {
             return Err(refusal(2, 0));
         }

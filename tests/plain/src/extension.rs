@@ -1,14 +1,14 @@
 //! When a newer book legally extends an older one.
 
-use crate::{Block, Book, Field};
+use crate::{Block, Book, Data, Field, Group};
 
 pub fn extends(newer: &Book, older: &Book) -> bool {
     let books = Books { newer, older };
     let templates_stand = older.templates.iter().all(|template| {
-        newer.template(template.id).map_or(false, |same| books.root_extends(&same.block, &template.block))
+        newer.template(template.id).map_or(false, |same| books.extends(&same.block, &template.block, true))
     });
-    let same = newer.schema == older.schema && newer.byte_order == older.byte_order;
-    same && newer.version > older.version && templates_stand
+    let same_format = newer.byte_order == older.byte_order && newer.dimension == older.dimension;
+    newer.schema == older.schema && same_format && newer.version > older.version && templates_stand
 }
 
 struct Books<'a> {
@@ -22,36 +22,35 @@ impl Books<'_> {
         since > self.older.version
     }
 
-    fn root_extends(&self, newer: &Block, older: &Block) -> bool {
-        let groups = newer.groups.iter().skip(older.groups.len());
-        let data = newer.data.iter().skip(older.data.len());
-        self.extends(newer, older)
-            && groups.into_iter().all(|group| {
-                let plain = group.block.groups.is_empty() && group.block.data.is_empty();
-                let young = group.block.fields.iter().all(|field| self.is_young(field.since));
-                plain && young && self.is_young(group.since)
-            })
-            && data.into_iter().all(|data| self.is_young(data.since))
-    }
-
-    /// What holds of every block: older elements come first and are as they were, and added fields are younger.
-    fn extends(&self, newer: &Block, older: &Block) -> bool {
-        let fields = newer.fields.iter().skip(older.fields.len());
-        newer.length >= older.length
+    /// Older elements come first and are as they were, and added ones are younger. Groups and data are added only where
+    /// the block `grows`: the root, and where dimensions count them every block.
+    fn extends(&self, newer: &Block, older: &Block, grows: bool) -> bool {
+        let kept = newer.length >= older.length
             && newer.fields.starts_with(&older.fields)
             && older.fields.iter().all(|field| self.keeps_list(field))
             && newer.data.starts_with(&older.data)
-            && newer.groups.len() >= older.groups.len()
-            && fields.into_iter().all(|field| self.is_young(field.since))
-            && older.groups.iter().zip(&newer.groups).all(|(old, new)| {
-                let same = old.id == new.id && old.since == new.since;
-                same && self.inner_extends(&new.block, &old.block)
-            })
+            && newer.groups.len() >= older.groups.len();
+        let added = || {
+            let (groups, data) = (&newer.groups[older.groups.len()..], &newer.data[older.data.len()..]);
+            (grows || groups.is_empty() && data.is_empty())
+                && self.are_young(&newer.fields[older.fields.len()..], groups, data)
+        };
+        let extended = |(old, new): (&Group, &Group)| {
+            let same = old.id == new.id && old.since == new.since;
+            same && self.extends(&new.block, &old.block, self.older.is_counted())
+        };
+        kept && added() && older.groups.iter().zip(&newer.groups).all(extended)
     }
 
-    /// Inside groups only fields may be added.
-    fn inner_extends(&self, newer: &Block, older: &Block) -> bool {
-        newer.groups.len() == older.groups.len() && newer.data == older.data && self.extends(newer, older)
+    /// Added elements, with all that is inside added groups: groups and data only where dimensions count them.
+    fn are_young(&self, fields: &[Field], groups: &[Group], data: &[Data]) -> bool {
+        let inside = |Block { fields, groups, data, .. }: &Block| {
+            let may_be = self.older.is_counted() || groups.is_empty() && data.is_empty();
+            may_be && self.are_young(fields, groups, data)
+        };
+        fields.iter().all(|field| self.is_young(field.since))
+            && groups.iter().all(|group| self.is_young(group.since) && inside(&group.block))
+            && data.iter().all(|data| self.is_young(data.since))
     }
 
     /// The list of an older field keeps its kind and its numbers, to which more may be added.

@@ -6,6 +6,7 @@ mod answers;
 mod as_written;
 mod book;
 pub mod byte_order;
+pub mod dimension;
 pub mod extension;
 pub mod lists;
 pub mod message;

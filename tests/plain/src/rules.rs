@@ -69,14 +69,17 @@ fn list_holds(field: &Field, book: &Book) -> bool {
 }
 
 /// Sinces of a block, here and in every group. `own` is the since of the group whose block it is; the root has none.
-pub fn sinces_hold(block: &Block, version: u16, own: Option<u16>) -> bool {
+/// Data and groups inside a group are as old as it, or younger where dimensions count them.
+pub fn sinces_hold(block: &Block, book: &Book, own: Option<u16>) -> bool {
     let fields: Vec<u16> = block.fields.iter().map(|field| field.since).collect();
     let groups: Vec<u16> = block.groups.iter().map(|group| group.since).collect();
     let data: Vec<u16> = block.data.iter().map(|data| data.since).collect();
     let never_falls = |sinces: &[u16]| sinces.windows(2).all(|pair| pair[0] <= pair[1]);
-    let never_above = |sinces: &[u16]| sinces.iter().all(|&since| since <= version);
+    let never_above = |sinces: &[u16]| sinces.iter().all(|&since| since <= book.version);
     let by_themselves = [&fields, &groups, &data].iter().all(|sinces| never_falls(sinces) && never_above(sinces));
-    let by_group =
-        own.map_or(true, |own| fields.first() == Some(&own) && groups.iter().chain(&data).all(|&since| since == own));
-    by_themselves && by_group && block.groups.iter().all(|group| sinces_hold(&group.block, version, Some(group.since)))
+    let by_group = own.map_or(true, |own| {
+        let may_have = |&since: &u16| since == own || book.is_counted() && since > own;
+        fields.first() == Some(&own) && groups.iter().chain(&data).all(may_have)
+    });
+    by_themselves && by_group && block.groups.iter().all(|group| sinces_hold(&group.block, book, Some(group.since)))
 }

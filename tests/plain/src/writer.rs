@@ -87,8 +87,9 @@ impl<'a> Writer<'a> {
         self.put(&octets);
         for group in &block.groups {
             let entries = self.entries()?;
-            self.number16(group.block.length);
-            self.number16(entries);
+            for number in self.book.dimension_of(&group.block, entries) {
+                self.number16(number);
+            }
             for _ in 0..entries {
                 self.block(&group.block)?;
             }

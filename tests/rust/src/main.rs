@@ -14,6 +14,7 @@ mod report;
 mod robust;
 mod rooms;
 mod turned;
+mod wire;
 
 use report::Report;
 use std::os::raw::{c_char, c_int};

@@ -15,8 +15,8 @@ use crate::readers::{lent, Free, Plain, Reader, Stream};
 use crate::report::{hex, same, Report};
 use plain::{refusal, word, Draft, Place, Record, Refusal};
 
-const CASES: &[u8] = include_bytes!("../../cases/order.cases");
-const EXPECTED: &str = include_str!("../../cases/order.expected");
+const CASES: &[u8] = include_bytes!("../../cases/dims.cases");
+const EXPECTED: &str = include_str!("../../cases/dims.expected");
 
 const LIST: u8 = 0;
 pub const PLACE: u8 = 2;

@@ -13,7 +13,7 @@ use Rattle.book.proofs.check_block.Statement.{statement}
 use Rattle.book.proofs.check_block.Tie as tie
 
 returns : tie.Need-returns
-returns c = sym (block-short _ _ _ _ _ _ _ (omega (arith, length-words (c .before .before .before .args .body .now))))
+returns c = sym (block-short _ _ _ _ _ _ _ _ (omega (arith, length-words (c .before .before .before .args .body .now))))
 
 -- The block's four words are there, and what its counts are is the test.
 there : (c : tie.After-counts-good) → let a = c .before .before .before .before .before .before .before .args in
@@ -23,7 +23,7 @@ there c = omega (arith, length-words (c .before .before .before .before .before 
 counts : (c : tie.After-counts-good) (t : Bool) → c .counts-good .result ≡ t
     → let a = c .before .before .before .before .before .before .before .args in
     countsGood (listsOf (wordsOf (a .book .now))) (wordsOf (a .body .now)) (a .few) (a .w) (a .version) (a .low)
-    (a .high) ≡ t
+    (a .high) (a .top) ≡ t
 counts c t e =
     rw (
       c .before .word3 .ensures .value,
@@ -37,7 +37,7 @@ returns-2 c =
     let k = c .before .before in
     let size = rw (k .before .word3 .ensures .value, k .before .before .before .word .ensures .value) at
     (c .if3 .taken) in
-    sym (block-long _ _ _ _ _ _ _ (there k) (counts k _ (c .before .if2 .taken))
+    sym (block-long _ _ _ _ _ _ _ _ (there k) (counts k _ (c .before .if2 .taken))
     (omega (arith, size, length-words (k .before .before .before .before .before .before .before .args .body .now))))
 
 returns-3 : tie.Need-returns-3
@@ -57,11 +57,11 @@ returns-3 c =
       k .before .before .word2 .ensures .value,
       k .before .before .before .word .ensures .value,
     )
-    (sym (block-whole _ _ _ _ _ _ _ (there k) (counts k _ (room .before .if2 .taken))
+    (sym (block-whole _ _ _ _ _ _ _ _ (there k) (counts k _ (room .before .if2 .taken))
     (omega (arith, size, length-words (k .before .before .before .before .before .before .before .args .body .now)))))
 
 returns-4 : tie.Need-returns-4
-returns-4 c = sym (block-counts _ _ _ _ _ _ _ (there (c .before)) (counts (c .before) _ (c .if2 .left)))
+returns-4 c = sym (block-counts _ _ _ _ _ _ _ _ (there (c .before)) (counts (c .before) _ (c .if2 .left)))
 
 pub check-block-spec : {M : Type 1} → statement M
 check-block-spec =

@@ -9,6 +9,7 @@ use Rattle.layout.specs.Octets.{wordsOf}
 use Rattle.layout.specs.BookRules.{eachMust, headSize, listGood, listsOf, parseBodies, parseBody, parseContents, word}
 use Rattle.layout.specs.Contracts.{checked}
 use Rattle.book.specs.Answers.{bodiesOf, bodyOf, ruled}
+use Rattle.book.specs.Rows.{countedIn}
 use Rattle.book.proofs.Words.{words-between}
 use Rattle.book.proofs.Rows.{Head, body-lies, head-says}
 use Rattle.book.proofs.Bodies.{bodies-broken, bodies-end, bodies-next, bodies-stop}
@@ -20,7 +21,7 @@ Inv-loop book version left₀ t₀ w₀ five₀ six₀ left t w five six =
     let b = wordsOf book in
     (t + left ≡ word b 2) × (w ≡ headSize + 3 * t)
     × (checked (bodiesOf b)
-    ≡ checked (ruled (eachMust listGood 4 (word b 2) (listsOf b)) version t five six
+    ≡ checked (ruled (eachMust listGood 4 (word b 2) (listsOf b)) (countedIn book) version t five six
     (parseBodies (listsOf b) b t (parseContents b left w))))
 
 abbrev μ-loop : tie.MeasureT-loop
@@ -45,8 +46,9 @@ lies c =
 
 -- The words of the part that was lent are the body's.
 says : (c : tie.After-check-body Inv-loop μ-loop) → let read = c .before .before in let i = read .before .before in
-    let b = wordsOf (i .before .before .before .before .before .args .book .now) in let w = i .before .loop .w in
-    c .check-body .result ≡ bodyOf (i .before .before .before .word .result)
+    let book = i .before .before .before .before .before .args .book .now in
+    let b = wordsOf book in let w = i .before .loop .w in
+    c .check-body .result ≡ bodyOf (countedIn book) (i .before .before .before .word .result)
     (parseBody (listsOf b) (take (word b (w + 2)) (drop (word b (w + 1)) b)))
 says c =
     let read = c .before .before in
@@ -62,7 +64,7 @@ returns c =
     c .refuse .ensures
     ∙ sym (i .before .loop .inv .2
     ∙ ap (λ (x : Result (Unit {0})). checked x)
-    (bodies-broken _ _ _ _ _ _ _ _ _ (i .loop-test .taken) (sym (told .enum-told .given .1) ∙ says body)))
+    (bodies-broken _ _ _ _ _ _ _ _ _ _ (i .loop-test .taken) (sym (told .enum-told .given .1) ∙ says body)))
 
 loop-again : tie.Need-loop-again Inv-loop μ-loop
 loop-again c =
@@ -74,7 +76,7 @@ loop-again c =
       omega arith,
       omega arith,
       inv .2 ∙ ap (λ (x : Result (Unit {0})). checked x)
-          (bodies-next _ _ _ _ _ _ _ _ _ (i .loop-test .taken) (omega (arith, head start .few)) _
+          (bodies-next _ _ _ _ _ _ _ _ _ _ (i .loop-test .taken) (omega (arith, head start .few)) _
           (sym (whole .body .given .1) ∙ says body))
           ∙ rw (c .first-of2 .ensures, c .before .first-of .ensures) refl,
     )
@@ -83,7 +85,7 @@ returns-2 : tie.Need-returns-2 Inv-loop μ-loop
 returns-2 c =
     let lists = c .before .before .before in
     let i = lists .before .before in
-    c .verdict .ensures ∙ sym (i .loop .inv .2 ∙ bodies-end _ _ _ _ _ _ _ _ _ (omega arith)
+    c .verdict .ensures ∙ sym (i .loop .inv .2 ∙ bodies-end _ _ _ _ _ _ _ _ _ _ (omega arith)
     (sym (c .before .enum-told2 .given .1) ∙ lists .check-lists .ensures))
 
 returns-3 : tie.Need-returns-3 Inv-loop μ-loop
@@ -91,7 +93,7 @@ returns-3 c =
     let refusal = c .before in
     let lists = refusal .before .before in
     let i = lists .before .before in
-    sym (i .loop .inv .2 ∙ bodies-stop _ _ _ _ _ _ _ _ _ (omega arith) _
+    sym (i .loop .inv .2 ∙ bodies-stop _ _ _ _ _ _ _ _ _ _ (omega arith) _
     (sym (refusal .refusal .given .1) ∙ lists .check-lists .ensures))
 
 pub check-bodies-spec : {M : Type 1} → statement M

@@ -22,8 +22,8 @@ ends : (c : tie.After-contents-end) → let b = wordsOf (c .before .before .befo
 ends c =
     let k = c .before in
     let n = k .before in
-    let q : 6 + 3 * n .word .result + 3 * k .word2 .result ≡ 6 + 3 * (n .word .result + k .word2 .result) =
-    omega arith in
+    let q : headSize + 3 * n .word .result + 3 * k .word2 .result
+    ≡ headSize + 3 * (n .word .result + k .word2 .result) = omega arith in
     c .contents-end .ensures .0 ∙ rw (q, k .word2 .ensures .value, n .word .ensures .value) refl
 
 returns : tie.Need-returns

@@ -15,8 +15,9 @@ returns c =
 
 returns-2 : tie.Need-returns-2
 returns-2 c =
-    let n = c .before .before .before .before .before .before .before .before .before .before in
-    rw (length-words (n .before .before .before .before .args .book .now)) (cc)
+    let rest = c .before .before .before .before .before .before .before .before .before .before in
+    let start = rest .before .before .before .before .before .before .before in
+    rw (length-words (start .args .book .now)) (cc)
 
 pub head-good-spec : {M : Type 1} → statement M
 head-good-spec =
@@ -24,4 +25,4 @@ head-good-spec =
     returns (λ c κs. search needs) (λ c κs. search needs) (λ c. search needs) (λ c. search needs) (λ c. search needs)
     (λ c κs. search needs) (λ c κs. search needs) (λ c κs. search needs) (λ c κs. search needs)
     (λ c κs. search needs) (λ c κs. search needs) (λ c κs. search needs) (λ c κs. search needs) (λ c κs. search needs)
-    (λ c κs. search needs) returns-2)
+    (λ c κs. search needs) (λ c κs. search needs) (λ c κs. search needs) (λ c κs. search needs) returns-2)

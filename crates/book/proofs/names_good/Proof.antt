@@ -5,9 +5,8 @@ use native.Mathlib.Omega.{arith}
 use borrow.Author.Needs.{needs}
 use lib.ListN.{length}
 use Rattle.layout.specs.Lists.{findNames, namesOf}
-use Rattle.layout.specs.BookRules.{fieldAt, headSize, listsOf}
+use Rattle.layout.specs.BookRules.{fieldAt, headSize, listsOf, word}
 use Rattle.layout.specs.Octets.{wordsOf}
-use Rattle.layout.specs.BookRules.{word}
 use Rattle.book.specs.Rows.{listAt}
 use Rattle.book.proofs.Rows.{Head, Listed, head-says, list-lies, listRow, listed-at, not-listed}
 use Rattle.book.proofs.NameLists.{names-array, names-fit, names-free, names-missing}

@@ -8,8 +8,9 @@ use borrow.Author.Tests.{not-false, not-true}
 use borrow.Fn.Kinds.{In, Out}
 use borrow.Fn.PlainCycle.{Measures, is, falls, and}
 use Rattle.layout.specs.Writing.{judgeGroups}
-use Rattle.prepared.specs.Positions.{BlockAt, IsRow, groupsAt, innerAt, shapeAt}
-use Rattle.prepared.proofs.Open.{no-groups-at}
+use Rattle.prepared.specs.Positions.{BlockAt, IsRow, groupsAt, innerAt, isCounted, shapeAt}
+use Rattle.prepared.proofs.Open.{head-there, no-groups-at}
+use Rattle.prepared.proofs.dimension_size.Reads as dimension-size-reads
 use Rattle.prepared.proofs.number.Reads as number-reads
 use Rattle.prepared.proofs.open_row.Reads as open-row-reads
 use Rattle.judges.specs.Judges.{entriesAt, judged, limit, rowEnd}
@@ -40,7 +41,7 @@ row-μ κs a = 2 * a .1 .1 .0
 abbrev entries-Inv : entries-lts.InvT-loop
 entries-Inv p a depth listing pool k start s t o due₀ i₀ seen₀ due i seen =
     BlockAt (p .now) depth a × (seen ≤ limit) × (due ≤ k)
-    × (judged (rowEnd (shapeAt (p .now) a) (innerAt (p .now) depth a) 0)
+    × (judged (rowEnd (isCounted (p .now)) (shapeAt (p .now) a) (innerAt (p .now) depth a) 0)
     (entriesAt (p .now) depth a (listing .now) (pool .now) k start)
     ≡ lastAt (p .now) depth a (listing .now) (pool .now) k seen due i)
 
@@ -49,12 +50,12 @@ entries-μ-loop p a depth listing pool k start s t o due₀ i₀ seen₀ due i s
 
 abbrev row-Inv : row-lts.InvT-loop
 row-Inv p a depth listing pool start s t g₀ left₀ i₀ seen₀ g left i seen =
-    let b = shapeAt (p .now) a in
+    let end = rowEnd (isCounted (p .now)) (shapeAt (p .now) a) in
     let gs = innerAt (p .now) depth a in
     let rest = groupsAt (p .now) depth left g in
     IsRow (p .now) depth left g × (seen ≤ limit)
-    × (judged (rowEnd b gs 0) (judgeGroups (listing .now) (pool .now) gs start)
-    ≡ judged (rowEnd b rest seen) (judgeGroups (listing .now) (pool .now) rest i))
+    × (judged (end gs 0) (judgeGroups (listing .now) (pool .now) gs start)
+    ≡ judged (end rest seen) (judgeGroups (listing .now) (pool .now) rest i))
 
 abbrev row-μ-loop : row-lts.MeasureT-loop
 row-μ-loop p a depth listing pool start s t g₀ left₀ i₀ seen₀ g left i seen = left
@@ -90,7 +91,7 @@ module _ (t : ℕ) where
       let i = call .before in
       let e = c .enum-told .given .1 in
       e ∙ sym (i .before .loop .inv .3
-      ∙ entry-fields _ _ _ _ _ _ _ _ (i .loop-test .taken) _ (sym e ∙ call .judge-fields .ensures))
+      ∙ entry-fields _ _ _ _ _ _ _ _ _ (i .loop-test .taken) _ (sym e ∙ call .judge-fields .ensures))
 
   entries-loop-again : entries-Need entries-lts.Need-loop-again
   entries-loop-again c =
@@ -120,7 +121,7 @@ module _ (t : ℕ) where
       let fields = sym (known .fields .given .1) ∙ call .judge-fields .ensures in
       let e = c .enum-told2 .given .1 in
       e ∙ sym (i .before .loop .inv .3
-      ∙ entry-row _ _ _ _ _ _ _ _ (i .loop-test .taken) _ _ fields _ (sym e ∙ call-row .judge-row .ensures))
+      ∙ entry-row _ _ _ _ _ _ _ _ _ (i .loop-test .taken) _ _ fields _ (sym e ∙ call-row .judge-row .ensures))
 
   entries-judge-datas-requires : entries-Need entries-lts.Need-judge-datas-requires
   entries-judge-datas-requires c κs =
@@ -140,7 +141,7 @@ module _ (t : ℕ) where
       let row = sym (known-row .row .given .1) ∙ call-row .judge-row .ensures in
       let e = c .enum-told3 .given .1 in
       e ∙ sym (i .before .loop .inv .3
-      ∙ entry-datas _ _ _ _ _ _ _ _ (i .loop-test .taken) _ _ fields _ _ row _
+      ∙ entry-datas _ _ _ _ _ _ _ _ _ (i .loop-test .taken) _ _ fields _ _ row _
       (sym e ∙ call-datas .judge-datas .ensures))
 
   entries-loop-again-2 : entries-Need entries-lts.Need-loop-again-2
@@ -160,7 +161,7 @@ module _ (t : ℕ) where
         inv .0,
         omega arith,
         omega arith,
-        inv .3 ∙ entry-next _ _ _ _ _ _ _ _ (i .loop-test .taken) _ _ fields _ _ row (inv .2) _ _ datas,
+        inv .3 ∙ entry-next _ _ _ _ _ _ _ _ _ (i .loop-test .taken) _ _ fields _ _ row (inv .2) _ _ datas,
       )
 
   entries-mul-plus : entries-Need entries-lts.Need-mul-plus
@@ -172,7 +173,7 @@ module _ (t : ℕ) where
   entries-returns-4 c =
       let end = c .before .before in
       rw (c .plus3 .ensures, c .before .number2 .ensures)
-      (sym (end .before .loop .inv .3 ∙ entries-end _ _ _ _ _ _ _ _ (end .loop-test .left)))
+      (sym (end .before .loop .inv .3 ∙ entries-end _ _ _ _ _ _ _ _ _ (end .loop-test .left)))
 
   abbrev row-claims : row-lts.Claims
   row-claims = (
@@ -188,6 +189,8 @@ module _ (t : ℕ) where
     entries-in-reads.Learnt,
     and 6 entries-kinds.ps (falls 6 entries-kinds.ps _<_ entries-μ t) entries-reads.Pre,
     entries-reads.Post,
+    dimension-size-reads.Asked,
+    dimension-size-reads.Learnt,
     plus-reads.Asked,
     plus-reads.Learnt,
   )
@@ -206,7 +209,7 @@ module _ (t : ℕ) where
       let test = c .before .before in
       let opened = test .before .open-row .ensures in
       c .refuse .ensures ∙ sym (test .before .before .before .loop .inv .2
-      ∙ row-other _ _ _ _ _ _ _ _ _ _ (opened .tree) _
+      ∙ row-other _ _ _ _ _ _ _ _ _ _ _ (opened .tree) _
       (sym (test .is-group .ensures) ∙ not-true _ (c .before .if1 .taken)))
 
   row-returns-2 : row-Need row-lts.Need-returns-2
@@ -215,7 +218,7 @@ module _ (t : ℕ) where
       let test = call .before .before in
       let opened = test .before .open-row .ensures in
       c .refuse2 .ensures ∙ sym (test .before .before .before .loop .inv .2
-      ∙ row-many _ _ _ _ _ _ _ _ _ _ (opened .tree) _
+      ∙ row-many _ _ _ _ _ _ _ _ _ _ _ (opened .tree) _
       (sym (test .is-group .ensures) ∙ not-false _ (call .before .if1 .left)) _ (call .entries-in .ensures .0)
       (c .before .if2 .taken))
 
@@ -232,23 +235,29 @@ module _ (t : ℕ) where
       let opened = test .before .open-row .ensures in
       let e = c .enum-told .given .1 in
       e ∙ sym (test .before .before .before .loop .inv .2
-      ∙ row-entries _ _ _ _ _ _ _ _ _ _ (opened .tree) _
+      ∙ row-entries _ _ _ _ _ _ _ _ _ _ _ (opened .tree) _
       (sym (test .is-group .ensures) ∙ not-false _ (call .before .if1 .left)) _ (call .entries-in .ensures .0)
       (entries .before .if2 .left) _ (sym e ∙ entries .judge-entries .ensures))
+
+  row-dimension-size-requires : row-Need row-lts.Need-dimension-size-requires
+  row-dimension-size-requires c κs =
+      let block = c .before .before .before .before .before .before .before .before .open-row .ensures .first .block in
+      (head-there block, block .sized)
 
   row-loop-again : row-Need row-lts.Need-loop-again
   row-loop-again c =
       let sum = c .before in
-      let known = sum .before .before .before in
+      let size = sum .before .before in
+      let known = size .before .before in
       let entries = known .before .before in
       let call = entries .before .before in
       let test = call .before .before in
       let opened = test .before .open-row .ensures in
-      rw (c .number3 .ensures, sum .plus2 .ensures, sum .before .plus .ensures) (
+      rw (c .number3 .ensures, sum .plus2 .ensures, sum .before .plus .ensures, size .dimension-size .ensures) (
         opened .rest,
         omega arith,
         test .before .before .before .loop .inv .2
-            ∙ row-next _ _ _ _ _ _ _ _ _ _ (opened .tree) _
+            ∙ row-next _ _ _ _ _ _ _ _ _ _ _ (opened .tree) _
             (sym (test .is-group .ensures) ∙ not-false _ (call .before .if1 .left)) _ (call .entries-in .ensures .0)
             (entries .before .if2 .left) _ _ (sym (known .entries .given .1) ∙ entries .judge-entries .ensures),
       )
@@ -256,14 +265,14 @@ module _ (t : ℕ) where
   row-returns-4 : row-Need row-lts.Need-returns-4
   row-returns-4 c =
       let inv = c .before .loop .inv in
-      sym (inv .2 ∙ row-end _ _ _ _ _ _ (no-groups-at _ _ _ _ (c .loop-test .left)) (inv .1))
+      sym (inv .2 ∙ row-end _ _ _ _ _ _ _ (no-groups-at _ _ _ _ (c .loop-test .left)) (inv .1))
 
 pub +judge-entries+judge-row-spec : {M : Type 1} → statement M
 +judge-entries+judge-row-spec =
     close entries-μ row-μ
     (λ t.
     entries-lts.spec (entries-claims t) (entries-at t) entries-reads.Post entries-Inv entries-μ-loop
-    (λ c. (c .before .before .before .pre .1 .0, omega arith, omega arith, entries-all _ _ _ _ _ _))
+    (λ c. (c .before .before .before .pre .1 .0, omega arith, omega arith, entries-all _ _ _ _ _ _ _))
     (λ c. omega arith)
     (λ c κs. c .before .loop .inv .0 .block)
     (λ c. search needs)
@@ -311,6 +320,7 @@ pub +judge-entries+judge-row-spec : {M : Type 1} → statement M
     (λ c. search needs)
     (λ c. search needs)
     (row-returns-3 t)
+    (row-dimension-size-requires t)
     (λ c κs. omega arith)
     (λ c κs. omega arith)
     (λ c. omega arith)

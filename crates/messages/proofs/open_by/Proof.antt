@@ -3,7 +3,7 @@ use mathlib.Core.Path.{_∙_, refl, sym}
 use mathlib.Core.Bool.{false, true}
 use borrow.Author.Needs.{needs}
 use borrow.Author.Tests.{le-leb, lt-leb}
-use Rattle.messages.specs.declared.Surplus.the-variants.{Is, Wrong}
+use Rattle.counts.specs.declared.Surplus.the-variants.{Is, Wrong}
 use Rattle.messages.proofs.Openings.{openBy, opens-by}
 use Rattle.messages.proofs.open_by.Statement.{statement}
 use Rattle.messages.proofs.open_by.Tie as tie

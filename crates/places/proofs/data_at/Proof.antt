@@ -13,7 +13,7 @@ returns : tie.Need-returns
 returns c =
     let walk = c .before .before in
     let pre = walk .before .before .before .pre in
-    absurd (not-refused _ _ (datas-before _ _ _ _ _ _ _ _ (pre .2) (pre .4)) _
+    absurd (not-refused _ _ (datas-before _ _ _ _ _ _ _ _ (pre .3) (pre .5)) _
     (sym (c .enum-told .given .1) ∙ walk .walk-datas .ensures .0))
 
 -- What the data is, by the since that is read.
@@ -26,7 +26,7 @@ here c =
     let walk = told .before .before in
     let pre = walk .before .before .before .pre in
     rw (c .number .ensures)
-    (data-here _ _ _ _ _ _ _ _ (pre .2) (pre .4) _ _ (sym (told .passed .given .1) ∙ walk .walk-datas .ensures .0))
+    (data-here _ _ _ _ _ _ _ _ (pre .3) (pre .5) _ _ (sym (told .passed .given .1) ∙ walk .walk-datas .ensures .0))
 
 pub data-at-spec : {M : Type 1} → statement M
 data-at-spec =

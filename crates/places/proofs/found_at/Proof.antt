@@ -8,5 +8,5 @@ use Rattle.places.proofs.found_at.Tie as tie
 pub found-at-spec : {M : Type 1} → statement M
 unfolding foundAt
 found-at-spec =
-    tie.close (tie.spec (λ c. search needs) (λ c κs. tt) (λ c. search needs)
-    (λ c. rw (c .before .before .w .given .1) (c .row-to .ensures)) (λ c. rw (c .before .w2 .given .1) refl))
+    tie.close (tie.spec (λ c. search needs) (λ c. search needs)
+    (λ c. rw (c .before .w .given .1) refl) (λ c. rw (c .before .w2 .given .1) refl))

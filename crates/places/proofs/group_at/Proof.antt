@@ -13,8 +13,13 @@ use Rattle.places.proofs.group_at.Tie as tie
 
 pass-row-requires : tie.Need-pass-row-requires
 pass-row-requires c κs =
-    let pre = c .before .before .pre in
-    (rw (c .number .ensures) (group-halves _ _ _ _ (pre .0) (pre .2) .first), pre .1, omega arith)
+    let pre = c .before .before .pre in (
+      rw (c .number .ensures) (group-halves _ _ _ _ (pre .0) (pre .2) .first),
+      pre .1,
+      omega arith,
+      omega arith,
+      head-there (pre .0 .block),
+    )
 
 returns : tie.Need-returns
 returns c =
@@ -49,7 +54,7 @@ here : (c : tie.After-number2) → let told = c .before .before .before in
     let p = s .p .now .now in
     GroupHere (isBig p) (s .m .now .now) (s .v) (c .number2 .result) (told .passed .given .0 .0)
     (groupRead (s .k) (rowAt p (s .depth) (manyGroups p (s .a)) (groupsFrom p (s .a)) (s .m .now .now) (s .v)
-    (s .start)))
+    0 (s .start)))
 here c =
     let told = c .before .before .before in
     let pass = told .before .before in
@@ -68,5 +73,9 @@ group-at-spec =
     tie.close
     (tie.spec (λ c. omega arith) (λ c κs. omega arith) pass-row-requires (λ c. search needs) (λ c. search needs) returns
     skip-row-requires add-number-2 number-requires-2 (λ c. sym (here (c .before) .absent (c .if1 .taken)))
-    (λ c κs. head-there (c .before .before .before .before .before .before .before .before .before .pre .0 .block))
+    (λ c κs. omega (
+      arith,
+      head-there (c .before .before .before .before .before .before .before .before .before .pre .0
+          .block),
+    ))
     (λ c κs. omega (arith, here (c .before .before .before) .fits (c .before .before .if1 .left))) returns-3)

@@ -1,8 +1,11 @@
 -- The entry is there or not, by both tests.
+use mathlib.Core.Path.{ap, refl}
+use Prim.Native.Nat.{_+_, _*_}
 use native.Mathlib.Nat.{mul-le-mul-left}
 use native.Mathlib.Omega.{arith}
 use borrow.Author.Tests.{le-ltb, lt-ltb}
 use Rattle.layout.specs.Result.{if_then_else_}
+use Rattle.places.specs.declared.Row.the-variants.{To}
 use Rattle.places.proofs.plain_row.Statement.{statement}
 use Rattle.places.proofs.plain_row.Tie as tie
 
@@ -10,8 +13,13 @@ pub plain-row-spec : {M : Type 1} → statement M
 unfolding if_then_else_
 plain-row-spec =
     tie.close (tie.spec (λ c. omega arith) (λ c. omega arith) (λ c κs. tt)
-    (λ c. rw (le-ltb _ _ (c .before .if1 .taken)) (c .row-to .ensures))
-    (λ c. let start = c .before .before in omega (arith, mul-le-mul-left (start .args .l) (c .before .if1 .left)))
-    (λ c. let start = c .before .before in omega (arith, mul-le-mul-left (start .args .l) (c .before .if1 .left)))
-    (λ c κs. tt) (λ c. rw (lt-ltb _ _ (c .before .before .if1 .left), c .before .if2 .taken) (c .row-to2 .ensures))
-    (λ c κs. tt) (λ c. rw (lt-ltb _ _ (c .before .before .if1 .left), c .before .if2 .left) (c .row-to3 .ensures)))
+    (λ c. let args = c .before .before .before .args in
+    omega (arith, mul-le-mul-left (args .l) (c .before .if1 .taken)))
+    (λ c. let args = c .before .before .before .args in
+    omega (arith, mul-le-mul-left (args .l) (c .before .if1 .taken)))
+    (λ c. rw (lt-ltb _ _ (c .before .if1 .taken), c .if2 .taken) refl)
+    (λ c. let args = c .before .before .before .args in
+    rw (lt-ltb _ _ (c .before .if1 .taken), c .if2 .left)
+    (ap (To (args .start + args .l * args .k)) (c .before .before .no-spot .ensures)))
+    (λ c. let args = c .before .before .args in
+    rw (le-ltb _ _ (c .if1 .left)) (ap (To (args .start + args .l * args .k)) (c .before .no-spot .ensures))))

@@ -65,8 +65,8 @@ returns c =
     let list = start n .pre .0 in (
       omega (arith, list-size _ _ list, some-words _ _ list, n .word2 .ensures .value),
       list-stored _ _ list _ _ _ _ _ (start n .args .at) (start n .args .room .now) _ (n .before .word .ensures .value)
-          (id .word3 .ensures .value) (kind .word4 .ensures .value) (mask .mask-of .ensures) (omega (arith, n .word2 .ensures .value))
-          (copy .copy-words .ensures),
+          (id .word3 .ensures .value) (kind .word4 .ensures .value) (mask .mask-of .ensures)
+          (omega (arith, n .word2 .ensures .value)) (copy .copy-words .ensures),
     )
 
 pub put-list-spec : {M : Type 1} → statement M

@@ -1,8 +1,7 @@
 -- Lists are stored one after the other, and those that are left are to come.
 use native.Mathlib.Omega.{arith}
 use Rattle.book.proofs.Rows.{head-says}
-use Rattle.prepare.proofs.Lists.{Listing, all-listed, end-is, first-fits, first-list, listing-on}
-use Rattle.prepare.proofs.Lists.{listing-starts}
+use Rattle.prepare.proofs.Lists.{Listing, all-listed, end-is, first-fits, first-list, listing-on, listing-starts}
 use Rattle.prepare.proofs.put_lists.Statement.{statement}
 use Rattle.prepare.proofs.put_lists.Tie as tie
 

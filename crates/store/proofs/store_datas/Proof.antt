@@ -5,24 +5,24 @@ use native.Mathlib.Omega.{arith}
 use lib.ListN.{length}
 use Rattle.layout.specs.BookRules.{parseDatas}
 use Rattle.prepared.specs.Positions.{isBig, shapeAt}
-use Rattle.walk.specs.Walks.{Lent}
+use Rattle.wire.specs.Walks.{Lent}
 use Rattle.prints.specs.Prints.{endOf}
-use Rattle.prints.proofs.Going.{Going, going-call, going-end, going-first, going-none, stored-none}
+use Rattle.prints.proofs.Going.{Going, going-call, going-end, going-first, going-none}
 use Rattle.store.specs.Stores.{datasPrint}
-use Rattle.store.proofs.Parts.{DataOpen, data-absent, data-open, no-datas}
+use Rattle.store.proofs.Parts.{DataOpen, data-absent, data-open, datas-end, skip-accepted, skip-stored}
 use Rattle.store.proofs.store_datas.Statement.{statement}
 use Rattle.store.proofs.store_datas.Tie as tie
 use Rattle.prepared.proofs.Open.{head-there, no-datas-at}
 
 abbrev Inv-loop : tie.InvT-loop
-Inv-loop p a m v room₀ big left₀ d₀ here₀ room left d here =
+Inv-loop p a m v n room₀ big left₀ d₀ here₀ room left d here =
     (d + 2 * left ≤ length p) × Lent m (here .at)
-    × Going (datasPrint (isBig p) m v (shapeAt p a .datas) (here₀ .at))
-    (datasPrint (isBig p) m v (parseDatas p left d) (here .at)) (here₀ .n) room₀ (here .n) room
+    × Going (datasPrint (isBig p) m v (shapeAt p a .datas) n (here₀ .at))
+    (datasPrint (isBig p) m v (parseDatas p left d) n (here .at)) (here₀ .n) room₀ (here .n) room
     × (big ≡ isBig p)
 
 abbrev μ-loop : tie.MeasureT-loop
-μ-loop p a m v room₀ big left₀ d₀ here₀ room left d here = left
+μ-loop p a m v n room₀ big left₀ d₀ here₀ room left d here = left
 
 loop-holds : tie.Need-loop-holds Inv-loop μ-loop
 loop-holds c =
@@ -35,7 +35,7 @@ store-answer-requires c κs =
     let test = c .before in
     let i = test .before .before in
     let g = i .before .loop .inv .2 in
-    going-first g _ (data-absent _ _ _ _ _ _ _ (i .loop-test .taken) (g .room .whole)
+    going-first g _ (data-absent _ _ _ _ _ _ _ _ (i .loop-test .taken) (g .room .whole)
     (rw (test .before .number3 .ensures) at (test .if1 .taken)))
 
 loop-again : tie.Need-loop-again Inv-loop μ-loop
@@ -48,7 +48,7 @@ loop-again c =
     let g = inv .2 in (
       omega arith,
       rw (call .store-answer .ensures .place) (inv .1),
-      going-call g _ (data-absent _ _ _ _ _ _ _ (i .loop-test .taken) (g .room .whole)
+      going-call g _ (data-absent _ _ _ _ _ _ _ _ (i .loop-test .taken) (g .room .whole)
           (rw (test .before .number3 .ensures) at (test .if1 .taken))) (call .store-answer .ensures),
       inv .3,
     )
@@ -57,10 +57,10 @@ loop-again c =
 opened : (c : tie.Else1 Inv-loop μ-loop)
     → let l = c .before .before .before in
     let a = l .before .before .before .before .before .before .before .args in
-    DataOpen (isBig (a .p .now)) (a .m .now) (a .v) (a .p .now) (l .loop .left) (l .loop .d) (l .loop .here .at)
+    DataOpen (isBig (a .p .now)) (a .m .now) (a .v) (a .p .now) (a .n) (l .loop .left) (l .loop .d) (l .loop .here .at)
 opened c =
     let i = c .before .before in
-    data-open _ _ _ _ _ _ _ (i .loop-test .taken) (i .before .loop .inv .2 .room .whole)
+    data-open _ _ _ _ _ _ _ _ (i .loop-test .taken) (i .before .loop .inv .2 .room .whole)
     (rw (c .before .number3 .ensures) at (c .if1 .left))
 
 store-answer-requires-2 : tie.Need-store-answer-requires-2 Inv-loop μ-loop
@@ -83,11 +83,28 @@ loop-again-2 c =
       inv .3,
     )
 
+pass-datas-requires : tie.Need-pass-datas-requires Inv-loop μ-loop
+pass-datas-requires c κs =
+    let inv = c .before .loop .inv in
+    rw (inv .3) (
+      skip-accepted _ (datas-end _ _ _ _ _ _ (no-datas-at _ _ _ (c .loop-test .left))) (inv .2 .room .whole),
+      inv .1 .inside,
+    )
+
+returns : tie.Need-returns Inv-loop μ-loop
+returns c =
+    let loop = c .before in
+    let inv = loop .before .loop .inv in
+    let end = rw (inv .3) at (c .pass-datas .ensures) in
+    let past = skip-stored _ (datas-end _ _ _ _ _ _ (no-datas-at _ _ _ (loop .loop-test .left))) (inv .2 .room .whole)
+    (end .0) in
+    (going-end (inv .2) past, end .1)
+
 pub store-datas-spec : {M : Type 1} → statement M
 store-datas-spec =
     tie.close
     (tie.spec Inv-loop μ-loop
-    (λ c κs. head-there (c .before .before .before .pre .0 .0)) (λ c. omega arith) (λ c κs. omega arith)
+    (λ c κs. omega (arith, head-there (c .before .before .before .pre .0 .0))) (λ c. omega arith) (λ c κs. omega arith)
     (λ c. omega arith) (λ c κs. omega arith) loop-holds
     (λ c. omega arith) (λ c κs. omega arith) (λ c. omega arith) (λ c. omega arith) store-answer-requires
     (λ c. omega arith) loop-again
@@ -95,9 +112,4 @@ store-datas-spec =
     (λ c. let test = c .before .before in
     let big = test .before .before .before .loop .inv .3 in
     omega (arith, opened test .within, rw big at (c .data-length .ensures .value))) store-answer-requires-2
-    (λ c. omega arith) loop-again-2 (λ c. omega arith)
-    (λ c. (
-      going-end (c .before .loop .inv .2)
-          (stored-none (no-datas _ _ _ _ _ (no-datas-at _ _ _ (c .loop-test .left)))),
-      c .before .loop .inv .1 .inside,
-    )))
+    (λ c. omega arith) loop-again-2 pass-datas-requires (λ c. omega arith) returns)

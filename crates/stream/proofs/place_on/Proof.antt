@@ -19,8 +19,7 @@ start c = c .before .before .before .before .before .before .before .before .bef
 -- What the walk's answer says.
 enters : (c : tie.After-known-told2) → let s = start (c .before .before .before) .args in
     let g = c .before .block .given .0 in
-    Enters (s .p .now) (s .m .now) (s .steps .now) (g .0) (g .1 .0) (g .1 .1 .0) (g .1 .1 .1 .0) (g .1 .1 .1 .1 .0)
-    (g .1 .1 .1 .1 .1 .0) (g .1 .1 .1 .1 .1 .1 .0)
+    Enters (s .p .now) (s .m .now) (s .steps .now) (g .0) (g .1 .0) (g .1 .1 .0) (g .1 .1 .1 .0)
 unfolding EnteredAs
 enters c =
     let call = c .before .before .before in
@@ -36,7 +35,7 @@ returns c =
 
 returns-2 : tie.Need-returns-2
 returns-2 c =
-    let there = c .before .before in
+    let there = c .before .before .before in
     let find = there .before .before .before in
     let told = find .before in
     c .no-answer2 .ensures
@@ -53,28 +52,26 @@ returns-3 c =
 
 element-at-requires : tie.Need-element-at-requires
 element-at-requires c κs =
-    let over = c .before .before in
-    let test = over .before in
-    let there = test .before in
+    let test = c .before .before in
+    let there = test .before .before in
     let find = there .before .before .before in
     let told = find .before in
     let q = sought _ (enters told) _ (start (told .before .before .before) .pre .1) _
     (sym (there .before .a .given .1) ∙ find .find-place .ensures) in
     let r = stands-there q (test .if1 .left) in
-    rw (over .surplus-there .ensures) (simp anew (r .accepted, r .has))
+    simp anew (r .accepted, r .has)
 
 returns-4 : tie.Need-returns-4
 unfolding found
 returns-4 c =
-    let over = c .before .before .before in
-    let test = over .before in
-    let there = test .before in
+    let test = c .before .before .before in
+    let there = test .before .before in
     let find = there .before .before .before in
     let told = find .before in
     let q = sought _ (enters told) _ (start (told .before .before .before) .pre .1) _
     (sym (there .before .a .given .1) ∙ find .find-place .ensures) in
     let r = stands-there q (test .if1 .left) in
-    ap Found.Is (rw (over .surplus-there .ensures) at (simp anew at (c .element-at .ensures))) ∙ sym (rw (r .is) refl)
+    ap Found.Is (simp anew at (c .element-at .ensures)) ∙ sym (rw (r .is) refl)
 
 pub place-on-spec : {M : Type 1} → statement M
 place-on-spec =
@@ -86,4 +83,4 @@ place-on-spec =
     (λ c. search needs) (λ c. search needs)
     (λ c κs. (enters c .opens .block, start (c .before .before .before) .pre .1)) (λ c. search needs)
     (λ c. search needs) (λ c κs. search needs) returns (λ c κs. search needs) returns-2 (λ c. omega arith)
-    (λ c κs. search needs) element-at-requires returns-3 returns-4)
+    element-at-requires returns-3 returns-4)

@@ -1,6 +1,7 @@
 -- The walk calls itself: a row's groups, a group's entries with their rows. The measure of a call is the depth left,
 -- and within a depth the order of the calls.
 use mathlib.Core.Path.{_≡_, sym, _∙_, refl}
+use mathlib.Core.List.{List}
 use Prim.Native.Nat.{ℕ, _+_, _*_, _<_, _≤_}
 use native.Mathlib.Nat.{mul-le-mul-right}
 use native.Mathlib.Omega.{arith}
@@ -12,16 +13,23 @@ use Rattle.prepared.specs.Positions.{BlockAt, IsRow, isBig, manyFields}
 use Rattle.prepared.proofs.Accepted.{fields-length}
 use Rattle.prepared.proofs.Open.{head-there, no-groups-at}
 use Rattle.prepared.proofs.number.Reads as number-reads
+use Rattle.prepared.proofs.dimension_size.Reads as dimension-size-reads
 use Rattle.prepared.proofs.is_big.Reads as is-big-reads
+use Rattle.prepared.proofs.is_counted.Reads as is-counted-reads
 use Rattle.prepared.proofs.need.Reads as need-reads
 use Rattle.prepared.proofs.open_row.Reads as open-row-reads
 use Rattle.wire.specs.Walks.{walked}
-use Rattle.wire.proofs.Dimensions.{good}
+use Rattle.wire.proofs.Answers.{lies-on}
 use Rattle.wire.proofs.refuse.Reads as refuse-reads
-use Rattle.wire.proofs.open_group.Reads as open-group-reads
-use Rattle.walk.specs.Walks.{entriesAt, rowAt, valuesEnd}
+use Rattle.surplus.proofs.skip_groups.Reads as skip-groups-reads
+use Rattle.counts.proofs.Groups.{group-good, inv-open}
+use Rattle.counts.proofs.open_group.Reads as open-group-reads
+use Rattle.counts.proofs.groups_in.Reads as groups-in-reads
+use Rattle.counts.proofs.datas_in.Reads as datas-in-reads
+use Rattle.walk.specs.Walks.{entriesBy, rowAt, valuesEnd}
 use Rattle.walk.proofs.Entries.{entries-end, entry-datas, entry-next, entry-row, entry-short, plain-walked}
-use Rattle.walk.proofs.Rows.{groups-done, row-absent, row-dimension, row-entries, row-next}
+use Rattle.walk.proofs.Rows.{groups-done, groups-end, groups-refused, row-absent, row-dimension, row-entries}
+use Rattle.walk.proofs.Rows.{row-next}
 use Rattle.walk.proofs.Ways.{Way, leads, way-ends, way-on, way-refused, way-starts}
 use Rattle.walk.proofs.walk_datas.Reads as walk-datas-reads
 use Rattle.walk.proofs.total.Reads as total-reads
@@ -48,23 +56,23 @@ row-μ κs a = 3 * a .1 .1 .1 .0
 
 -- Whatever is known at the start and used later stands in the invariant, so that no need looks further back than it.
 abbrev entries-Inv : entries-lts.InvT-loop
-entries-Inv p a depth m v l k start s t fields big due₀ at₀ seen₀ due at seen =
+entries-Inv p a depth m v start s t l k fields big groups datas due₀ at₀ seen₀ due at seen =
     BlockAt (p .now) depth a × (length (m .now) ≤ 65535) × (due ≤ k) × (k ≤ 65535) × (fields ≡ manyFields (p .now) a)
-    × (big ≡ isBig (p .now))
-    × Way (m .now) start (96 * k) (walked (valuesEnd 0) (entriesAt (p .now) depth a (m .now) v l k start))
-    (walked (valuesEnd seen) (entriesAt (p .now) depth a (m .now) v l due at)) seen (96 * due) at
+    × (big ≡ isBig (p .now)) × (groups ≤ 65535) × (datas ≤ 65535)
+    × Way (m .now) start (96 * k) (walked (valuesEnd 0) (entriesBy (p .now) depth a (m .now) v groups datas l k start))
+    (walked (valuesEnd seen) (entriesBy (p .now) depth a (m .now) v groups datas l due at)) seen (96 * due) at
 
 abbrev entries-μ-loop : entries-lts.MeasureT-loop
-entries-μ-loop p a depth m v l k start s t fields big due₀ at₀ seen₀ due at seen = due
+entries-μ-loop p a depth m v start s t l k fields big groups datas due₀ at₀ seen₀ due at seen = due
 
 abbrev row-Inv : row-lts.InvT-loop
-row-Inv p first n depth m v start s t a₀ left₀ at₀ seen₀ a left at seen =
-    IsRow (p .now) depth left a × (length (m .now) ≤ 65535) × (n ≤ 16)
-    × Way (m .now) start n (walked (valuesEnd 0) (rowAt (p .now) depth n first (m .now) v start))
-    (walked (valuesEnd seen) (rowAt (p .now) depth left a (m .now) v at)) seen left at
+row-Inv p first n depth m v surplus start s t a₀ left₀ at₀ seen₀ a left at seen =
+    IsRow (p .now) depth left a × (length (m .now) ≤ 65535) × (n ≤ 16) × (surplus ≤ 65535) × (5 < length (p .now))
+    × Way (m .now) start n (walked (valuesEnd 0) (rowAt (p .now) depth n first (m .now) v surplus start))
+    (walked (valuesEnd seen) (rowAt (p .now) depth left a (m .now) v surplus at)) seen left at
 
 abbrev row-μ-loop : row-lts.MeasureT-loop
-row-μ-loop p first n depth m v start s t a₀ left₀ at₀ seen₀ a left at seen = left
+row-μ-loop p first n depth m v surplus start s t a₀ left₀ at₀ seen₀ a left at seen = left
 
 module _ (t : ℕ) where
   abbrev entries-at : In 4 entries-kinds.ps
@@ -85,8 +93,10 @@ module _ (t : ℕ) where
   pass-returns : pass-Need pass-lts.Need-returns
   pass-returns c =
       let pre = c .before .pre .1 in
+      let no-group : c .before .args .n ≤ 0 = omega (arith, c .if1 .taken) in
+      let no-surplus : c .before .args .surplus ≤ 0 = omega (arith, c .if1 .taken) in
       way-ends (way-starts _ _ _ _ (pre .1 .inside))
-      (groups-done _ _ _ _ _ _ (no-groups-at _ _ _ _ (omega (arith, c .if1 .taken))))
+      (groups-done (c .before .args .p .now .now) _ _ _ _ _ _ _ (no-groups-at _ _ _ _ no-group) no-surplus)
 
   abbrev entries-claims : entries-lts.Claims
   entries-claims = (
@@ -94,6 +104,10 @@ module _ (t : ℕ) where
     number-reads.Learnt,
     is-big-reads.Asked,
     is-big-reads.Learnt,
+    groups-in-reads.Asked,
+    groups-in-reads.Learnt,
+    datas-in-reads.Asked,
+    datas-in-reads.Learnt,
     refuse-reads.Asked,
     refuse-reads.Learnt,
     and 4 pass-kinds.ps (falls 4 pass-kinds.ps _<_ pass-μ t) pass-reads.Pre,
@@ -108,42 +122,56 @@ module _ (t : ℕ) where
       → entries-lts.InvT-loop → entries-lts.MeasureT-loop → Type 0) → Type 0
   entries-Need n = n entries-claims entries-at entries-reads.Post entries-Inv entries-μ-loop
 
+  -- Few groups and data follow.
+  entries-add-if1 : entries-Need entries-lts.Need-add-if1
+  entries-add-if1 c =
+      let start = c .before .before .before .before .before in
+      let block = start .pre .1 .0 .block in
+      let less = start .pre .1 .2 .less in
+      omega (arith, c .before .number2 .ensures, block .follow, block .fewGroups, block .fewDatas, less)
+
   entries-mul-if2 : entries-Need entries-lts.Need-mul-if2
   entries-mul-if2 c =
-      let start = c .before .before .before .before .before in
-      omega (arith, mul-le-mul-right (start .args .k) (start .pre .1 .2))
-
-  entries-mul-t31 : entries-Need entries-lts.Need-mul-t31
-  entries-mul-t31 c =
       let start = c .before .before .before .before .before .before in
-      let few = mul-le-mul-right (start .args .k) (start .pre .1 .0 .block .fewFields) in
-      rw (c .before .before .before .number .ensures) (omega arith)
+      omega (arith, mul-le-mul-right (start .args .entries .count) (start .pre .1 .2 .short), start .pre .1 .2 .few)
+
+  entries-mul-t35 : entries-Need entries-lts.Need-mul-t35
+  entries-mul-t35 c =
+      let start = c .before .before .before .before .before .before .before in
+      let few = mul-le-mul-right (start .args .entries .count) (start .pre .1 .0 .block .fewFields) in
+      rw (c .before .before .before .before .number .ensures) (omega (arith, start .pre .1 .2 .few))
 
   entries-returns : entries-Need entries-lts.Need-returns
   entries-returns c =
-      let test = c .before .before in
-      let start = test .before .before .before .before in
-      plain-walked _ _ _ _ _ _ _ _ _ _ (start .pre .1 .0 .block) (test .before .number .ensures)
-      (test .number2 .ensures) (c .before .if1 .taken) (omega arith)
+      let follow = c .before .before .before in
+      let start = follow .before .before .before .before in
+      plain-walked _ _ _ _ _ _ _ _ _ (start .pre .1 .0 .block) (follow .before .number .ensures)
+      (follow .number2 .ensures) (c .before .if1 .taken) (omega arith)
 
   entries-loop-holds : entries-Need entries-lts.Need-loop-holds
   entries-loop-holds c =
-      let follow = c .before .before in
-      let start = follow .before .before .before .before in (
+      let groups = c .before in
+      let follow = groups .before .before .before .before in
+      let start = follow .before .before .before .before in
+      let small = start .pre .1 .2 in (
         start .pre .1 .0,
+        start .pre .1 .1 .short,
         omega arith,
-        omega arith,
-        omega arith,
+        small .few,
         follow .before .number .ensures,
-        c .is-big .ensures,
-        way-starts _ _ _ _ (omega arith),
+        groups .before .is-big .ensures,
+        omega (arith, groups .groups-in .ensures, small .less),
+        omega (arith, c .datas-in .ensures),
+        way-starts _ _ _ _ (start .pre .1 .1 .inside),
       )
 
   entries-returns-2 : entries-Need entries-lts.Need-returns-2
   entries-returns-2 c =
       let i = c .before .before in
-      way-refused (i .before .loop .inv .6) _ (c .refuse .ensures)
-      (entry-short _ _ _ _ _ _ _ _ _ (i .loop-test .taken) (omega arith))
+      let known = i .before .before in
+      rw (known .before .groups-in .ensures, known .datas-in .ensures) at
+      (way-refused (i .before .loop .inv .8) _ (c .refuse .ensures)
+      (entry-short _ _ _ _ _ _ _ _ _ _ (i .loop-test .taken) (omega arith)))
 
   entries-pass-row-requires : entries-Need entries-lts.Need-pass-row-requires
   entries-pass-row-requires c κs =
@@ -152,7 +180,9 @@ module _ (t : ℕ) where
         (
           rw (c .before .number3 .ensures, c .number4 .ensures) (inv .0 .row),
           record { short = inv .1; inside = omega arith },
-          omega arith,
+          omega (arith, c .number4 .ensures, inv .0 .block .fewGroups),
+          inv .6,
+          head-there (inv .0 .block),
         ),
       )
 
@@ -161,17 +191,25 @@ module _ (t : ℕ) where
       let call = c .before .before in
       let at-row = call .before .before in
       let i = at-row .before .before in
+      let known = i .before .before in
       let row = rw (at-row .number3 .ensures, call .before .number4 .ensures) at (call .pass-row .ensures .0) in
-      way-refused (i .before .loop .inv .6) _ (c .enum-told .given .1)
-      (entry-row _ _ _ _ _ _ _ _ _ (i .loop-test .taken) (omega arith) _ (sym (c .enum-told .given .1) ∙ row))
+      rw (known .before .groups-in .ensures, known .datas-in .ensures) at
+      (way-refused (i .before .loop .inv .8) _ (c .enum-told .given .1)
+      (entry-row _ _ _ _ _ _ _ _ _ _ (i .loop-test .taken) (omega arith) _ (sym (c .enum-told .given .1) ∙ row)))
 
   entries-walk-datas-requires : entries-Need entries-lts.Need-walk-datas-requires
   entries-walk-datas-requires c κs =
       let told = c .before .before .before in
       let call-row = told .before .before in
       let inv = call-row .before .before .before .before .before .loop .inv in
-      let on = leads _ _ _ _ _ _ (call-row .pass-row .ensures .1) (told .row .given .1) in
-      (omega arith, omega arith, record { short = inv .1; inside = on .1 })
+      let block = inv .0 .block in
+      let on = leads _ _ _ _ _ _ (call-row .pass-row .ensures .1) (told .row .given .1) in (
+        rw (c .before .number5 .ensures, c .number6 .ensures) (block .datasFit),
+        block .short,
+        omega (arith, c .number6 .ensures, block .fewDatas),
+        inv .7,
+        record { short = inv .1; inside = on .1 },
+      )
 
   entries-returns-4 : entries-Need entries-lts.Need-returns-4
   entries-returns-4 c =
@@ -181,13 +219,15 @@ module _ (t : ℕ) where
       let call-row = told .before .before in
       let at-row = call-row .before .before in
       let i = at-row .before .before in
+      let known = i .before .before in
       let row = rw (at-row .number3 .ensures, call-row .before .number4 .ensures) at (call-row .pass-row .ensures .0) in
       let inv = i .before .loop .inv in
       let there = rw (at-datas .number5 .ensures, call .before .number6 .ensures) at (call .walk-datas .ensures .0) in
       let datas = rw (inv .5) at there in
-      way-refused (inv .6) _ (c .enum-told2 .given .1)
-      (entry-datas _ _ _ _ _ _ _ _ _ (i .loop-test .taken) (omega arith) _ _ (sym (told .row .given .1) ∙ row) _
-      (sym (c .enum-told2 .given .1) ∙ datas))
+      rw (known .before .groups-in .ensures, known .datas-in .ensures) at
+      (way-refused (inv .8) _ (c .enum-told2 .given .1)
+      (entry-datas _ _ _ _ _ _ _ _ _ _ (i .loop-test .taken) (omega arith) _ _ (sym (told .row .given .1) ∙ row) _
+      (sym (c .enum-told2 .given .1) ∙ datas)))
 
   entries-total-requires : entries-Need entries-lts.Need-total-requires
   entries-total-requires c κs =
@@ -196,8 +236,8 @@ module _ (t : ℕ) where
       let call-row = told .before .before in
       let inv = call-row .before .before .before .before .before .loop .inv in
       let on = leads _ _ _ _ _ _ (call-row .pass-row .ensures .1) (told .row .given .1) in
-      let end = leads _ _ _ _ _ _ (call .walk-datas .ensures .1) (c .before .datas .given .1) in
-      omega (arith, call-row .before .number4 .ensures)
+      let end = leads _ _ _ _ _ _ (call .walk-datas .ensures .1) (c .before .rest .given .1) in
+      omega (arith, call-row .before .number4 .ensures, inv .0 .block .fewGroups, inv .0 .block .fewFields)
 
   entries-loop-again : entries-Need entries-lts.Need-loop-again
   entries-loop-again c =
@@ -213,19 +253,28 @@ module _ (t : ℕ) where
       let there = rw (at-datas .number5 .ensures, call .before .number6 .ensures) at (call .walk-datas .ensures .0) in
       let datas = rw (inv .5) at there in
       let on = leads _ _ _ _ _ _ (call-row .pass-row .ensures .1) (told .row .given .1) in
-      let end = leads _ _ _ _ _ _ (call .walk-datas .ensures .1) (datas-told .datas .given .1) in
+      let end = leads _ _ _ _ _ _ (call .walk-datas .ensures .1) (datas-told .rest .given .1) in
       rw (c .total .ensures) (
         inv .0,
         inv .1,
         omega arith,
-        omega arith,
+        inv .3,
         inv .4,
         inv .5,
-        way-on (inv .6) _ _ _
-            (entry-next _ _ _ _ _ _ _ _ _ (i .loop-test .taken) (omega arith) _ _ (sym (told .row .given .1) ∙ row)
-            _ _ _ (sym (datas-told .datas .given .1) ∙ datas) (inv .4 ∙ sym (fields-length _ _ _ _)))
-            (omega arith) (end .1) (omega arith),
+        inv .6,
+        inv .7,
+        way-on (inv .8) _ _ _
+            (entry-next _ _ _ _ _ _ _ _ _ _ (i .loop-test .taken) (omega arith) _ _ (sym (told .row .given .1) ∙ row)
+            _ _ _ (sym (datas-told .rest .given .1) ∙ datas) (inv .4 ∙ sym (fields-length _ _ _ _)))
+            (omega arith) (end .1)
+            (omega (arith, call-row .before .number4 .ensures, inv .0 .block .fewGroups, inv .0 .block .fewFields)),
       )
+
+  entries-ends : entries-Need entries-lts.Need-returns-5
+  entries-ends c =
+      let known = c .before .before in
+      rw (known .before .groups-in .ensures, known .datas-in .ensures) at
+      (way-ends (c .before .loop .inv .8) (entries-end _ _ _ _ (c .loop-test .left)))
 
   abbrev row-claims : row-lts.Claims
   row-claims = (
@@ -233,19 +282,29 @@ module _ (t : ℕ) where
     open-row-reads.Learnt,
     number-reads.Asked,
     number-reads.Learnt,
-    is-big-reads.Asked,
-    is-big-reads.Learnt,
     need-reads.Asked,
     need-reads.Learnt,
     open-group-reads.Asked,
     open-group-reads.Learnt,
+    dimension-size-reads.Asked,
+    dimension-size-reads.Learnt,
     and 4 entries-kinds.ps (falls 4 entries-kinds.ps _<_ entries-μ t) entries-reads.Pre,
     entries-reads.Post,
+    is-counted-reads.Asked,
+    is-counted-reads.Learnt,
+    is-big-reads.Asked,
+    is-big-reads.Learnt,
+    skip-groups-reads.Asked,
+    skip-groups-reads.Learnt,
   )
 
   abbrev row-Need : (row-lts.Claims → In 4 row-lts.ps → Out 4 row-lts.ps row-lts.r → row-lts.InvT-loop
       → row-lts.MeasureT-loop → Type 0) → Type 0
   row-Need n = n row-claims row-at row-reads.Post row-Inv row-μ-loop
+
+  -- The prepared numbers.
+  abbrev numbers : row-lts.At-loop row-claims row-at row-reads.Post row-Inv row-μ-loop → List ℕ
+  numbers l = l .before .before .before .args .p .now .now
 
   row-loop-again : row-Need row-lts.Need-loop-again
   row-loop-again c =
@@ -256,92 +315,150 @@ module _ (t : ℕ) where
         opened .rest,
         inv .1,
         inv .2,
-        way-on (inv .3) _ _ _
-            (row-absent _ _ _ _ _ _ _ _ _ _ (opened .tree) _ (rw (test .before .number .ensures) at (test .if1 .taken)))
-            (omega arith) (inv .3 .inside) (omega arith),
+        inv .3,
+        inv .4,
+        way-on (inv .5) _ _ _
+            (row-absent (numbers (test .before .before .before .before)) _ _ _ _ _ _ _ _ _ _ _ (opened .tree) _
+            (rw (test .before .number .ensures) at (test .if1 .taken)))
+            (omega arith) (inv .5 .inside) (omega arith),
       )
+
+  row-open-group-requires : row-Need row-lts.Need-open-group-requires
+  row-open-group-requires c κs =
+      let at-row = c .before .before .before in
+      let inv = at-row .before .before .loop .inv in
+      (at-row .open-row .ensures .first, inv .1, inv .5 .inside, c .need .ensures)
 
   row-returns : row-Need row-lts.Need-returns
   row-returns c =
       let told = c .before in
       let call = told .before .before in
-      let test = call .before .before .before in
+      let test = call .before .before in
       let at-row = test .before .before in
-      way-refused (at-row .before .before .loop .inv .3) _ refl
-      (row-dimension _ _ _ _ _ _ _ _ _ _ (at-row .open-row .ensures .tree) _
-      (rw (test .before .number .ensures) at (test .if1 .left)) _ (call .before .need .ensures) _
-      (sym (told .refusal .given .1) ∙ rw (call .before .before .is-big .ensures) at (call .open-group .ensures)))
+      way-refused (at-row .before .before .loop .inv .5) _ refl
+      (row-dimension (numbers (at-row .before .before)) _ _ _ _ _ _ _ _ _ _ _ (at-row .open-row .ensures .tree) _
+      (rw (test .before .number .ensures) at (test .if1 .left)) _
+      (sym (told .refusal .given .1) ∙ call .open-group .ensures))
+
+  row-dimension-size-requires : row-Need row-lts.Need-dimension-size-requires
+  row-dimension-size-requires c κs =
+      let at-row = c .before .before .before .before .before .before .before in
+      (at-row .before .before .loop .inv .4, at-row .open-row .ensures .first .block .sized)
+
+  row-add-inside : row-Need row-lts.Need-add-inside
+  row-add-inside c =
+      let told = c .before .before in
+      let call = told .before .before in
+      let inv = call .before .before .before .before .before .before .loop .inv in
+      let good = group-good _ _ _ _ _ _ _ _ _
+      (inv-open _ _ (sym (told .entries .given .1) ∙ call .open-group .ensures)) in
+      omega (arith, good .fits, c .dimension-size .ensures, inv .1)
 
   row-walk-entries-requires : row-Need row-lts.Need-walk-entries-requires
   row-walk-entries-requires c κs =
-      let told = c .before in
+      let told = c .before .before in
       let call = told .before .before in
-      let at-row = call .before .before .before .before .before in
-      let is = rw (call .before .before .is-big .ensures) at (call .open-group .ensures) in
-      let dimension = good _ _ _ _ _ _ (sym (told .length .given .1) ∙ is) in (
+      let at-row = call .before .before .before .before in
+      let inv = at-row .before .before .loop .inv in
+      let good = group-good _ _ _ _ _ _ _ _ _
+      (inv-open _ _ (sym (told .entries .given .1) ∙ call .open-group .ensures)) in (
         omega (arith, at-row .open-row .ensures .deep),
         (
           at-row .open-row .ensures .first,
-          record { short = at-row .before .before .loop .inv .1; inside = dimension .fits },
-          omega (arith, dimension .short),
-          omega (arith, dimension .few),
+          record { short = inv .1; inside = rw (c .dimension-size .ensures) (good .fits) },
+          record { short = omega (arith, good .short); few = omega (arith, good .few); less = good .less },
         ),
       )
 
   row-returns-2 : row-Need row-lts.Need-returns-2
   row-returns-2 c =
       let walk = c .before .before in
-      let told = walk .before .before in
+      let size = walk .before in
+      let told = size .before .before in
       let call = told .before .before in
-      let test = call .before .before .before in
+      let test = call .before .before in
       let at-row = test .before .before in
-      way-refused (at-row .before .before .loop .inv .3) _ (c .enum-told .given .1)
-      (row-entries _ _ _ _ _ _ _ _ _ _ (at-row .open-row .ensures .tree) _
-      (rw (test .before .number .ensures) at (test .if1 .left)) _ (call .before .need .ensures) _ _
-      (sym (told .length .given .1) ∙ rw (call .before .before .is-big .ensures) at (call .open-group .ensures)) _
-      (sym (c .enum-told .given .1) ∙ walk .walk-entries .ensures .0))
+      way-refused (at-row .before .before .loop .inv .5) _ (c .enum-told .given .1)
+      (row-entries (numbers (at-row .before .before)) _ _ _ _ _ _ _ _ _ _ _ (at-row .open-row .ensures .tree) _
+      (rw (test .before .number .ensures) at (test .if1 .left)) _
+      (sym (told .entries .given .1) ∙ call .open-group .ensures) _
+      (sym (c .enum-told .given .1) ∙ rw (size .dimension-size .ensures) at (walk .walk-entries .ensures .0)))
 
   row-add-seen-2 : row-Need row-lts.Need-add-seen-2
   row-add-seen-2 c =
       let told2 = c .before .before in
       let walk = told2 .before .before in
-      let told = walk .before .before in
+      let size = walk .before in
+      let told = size .before .before in
       let call = told .before .before in
-      let inv = call .before .before .before .before .before .before .before .loop .inv in
-      let is = rw (call .before .before .is-big .ensures) at (call .open-group .ensures) in
-      let dimension = good _ _ _ _ _ _ (sym (told .length .given .1) ∙ is) in
+      let inv = call .before .before .before .before .before .before .loop .inv in
+      let good = group-good _ _ _ _ _ _ _ _ _
+      (inv-open _ _ (sym (told .entries .given .1) ∙ call .open-group .ensures)) in
       let on = leads _ _ _ _ _ _ (walk .walk-entries .ensures .1) (told2 .walked .given .1) in
-      omega (arith, dimension .few)
+      omega (arith, good .few, size .dimension-size .ensures)
 
   row-loop-again-2 : row-Need row-lts.Need-loop-again-2
   row-loop-again-2 c =
       let told2 = c .before .before in
       let walk = told2 .before .before in
-      let told = walk .before .before in
+      let size = walk .before in
+      let told = size .before .before in
       let call = told .before .before in
-      let test = call .before .before .before in
+      let test = call .before .before in
       let at-row = test .before .before in
       let opened = at-row .open-row .ensures in
       let inv = at-row .before .before .loop .inv in
-      let there = rw (call .before .before .is-big .ensures) at (call .open-group .ensures) in
-      let is = sym (told .length .given .1) ∙ there in
+      let is = sym (told .entries .given .1) ∙ call .open-group .ensures in
       let on = leads _ _ _ _ _ _ (walk .walk-entries .ensures .1) (told2 .walked .given .1) in
+      let full = rw (test .before .number .ensures) at (test .if1 .left) in
+      let next = rw (size .dimension-size .ensures) at (walk .walk-entries .ensures .0) in
       rw (c .number3 .ensures) (
         opened .rest,
         inv .1,
         inv .2,
-        way-on (inv .3) _ _ _
-            (row-next _ _ _ _ _ _ _ _ _ _ (opened .tree) _ (rw (test .before .number .ensures) at (test .if1 .left)) _
-            (call .before .need .ensures) _ _ is _ _ (sym (told2 .walked .given .1) ∙ walk .walk-entries .ensures .0))
-            (omega arith) (on .1)
-            (omega (arith, good _ _ _ _ _ _ is .few, at-row .before .loop-test .taken)),
+        inv .3,
+        inv .4,
+        way-on (inv .5) _ _ _
+            (row-next (numbers (at-row .before .before)) _ _ _ _ _ _ _ _ _ _ _ (opened .tree) _ full _ is _ _
+            (sym (told2 .walked .given .1) ∙ next))
+            (omega (arith, size .dimension-size .ensures)) (on .1)
+            (omega (
+              arith,
+              group-good _ _ _ _ _ _ _ _ _ (inv-open _ _ is) .few,
+              size .dimension-size .ensures,
+              at-row .before .loop-test .taken,
+            )),
       )
+
+  row-returns-3 : row-Need row-lts.Need-returns-3
+  row-returns-3 c =
+      let skip = c .before .before in
+      let big = skip .before in
+      let end = big .before .before in
+      let none = no-groups-at _ _ _ _ (end .loop-test .left) in
+      way-refused (end .before .loop .inv .5) _ (c .enum-told2 .given .1)
+      (groups-refused (numbers (end .before)) _ _ _ _ _ _ _ none _ (sym (c .enum-told2 .given .1)
+      ∙ rw (big .before .is-counted .ensures, big .is-big .ensures) at (skip .skip-groups .ensures .0)))
+
+  row-returns-4 : row-Need row-lts.Need-returns-4
+  row-returns-4 c =
+      let told = c .before in
+      let skip = told .before .before in
+      let big = skip .before in
+      let end = big .before .before in
+      let w = end .before .loop .inv .5 in
+      let none = no-groups-at _ _ _ _ (end .loop-test .left) in
+      let on = lies-on _ _ _ _ _ (skip .skip-groups .ensures .1) (told .others .given .1) in
+      way-ends (way-on w _ 0 _ (groups-end (numbers (end .before)) _ _ _ _ _ _ _ none _ _ (sym (told .others .given .1)
+      ∙ rw (big .before .is-counted .ensures, big .is-big .ensures) at (skip .skip-groups .ensures .0)))
+      (on .0) (on .1) (omega (arith, on .0))) refl
 
 pub +pass-row+walk-entries+walk-row-spec : {M : Type 1} → statement M
 +pass-row+walk-entries+walk-row-spec =
     close pass-μ entries-μ row-μ
     (λ t.
     pass-lts.spec (row-below t, row-reads.Post) (pass-at t) pass-reads.Post
+    (λ c. omega arith)
     (pass-returns t)
     (λ c κs. (omega arith, c .before .pre .1))
     (λ c. c .walk-row .ensures))
@@ -351,13 +468,16 @@ pub +pass-row+walk-entries+walk-row-spec : {M : Type 1} → statement M
     (λ c κs. omega arith)
     (λ c. omega arith)
     (λ c κs. omega arith)
+    (entries-add-if1 t)
     (entries-mul-if2 t)
     (λ c. omega arith)
     (λ c. omega arith)
     (λ c. omega arith)
-    (entries-mul-t31 t)
+    (entries-mul-t35 t)
     (entries-returns t)
-    (λ c κs. head-there (c .before .before .before .before .before .pre .1 .0 .block))
+    (λ c κs. omega (arith, head-there (c .before .before .before .before .before .before .pre .1 .0 .block)))
+    (λ c κs. tt)
+    (λ c κs. tt)
     (entries-loop-holds t)
     (λ c. omega arith)
     (λ c κs. tt)
@@ -383,12 +503,12 @@ pub +pass-row+walk-entries+walk-row-spec : {M : Type 1} → statement M
     (λ c. omega arith)
     (λ c. omega arith)
     (entries-loop-again t)
-    (λ c. way-ends (c .before .loop .inv .6) (entries-end _ _ _ _ (c .loop-test .left))))
+    (entries-ends t))
     (λ t.
     row-lts.spec (row-claims t) (row-at t) row-reads.Post row-Inv row-μ-loop
     (λ c.
     let pre = c .before .before .pre .1 in
-    (pre .0, pre .1 .short, pre .2, way-starts _ _ _ _ (pre .1 .inside)))
+    (pre .0, pre .1 .short, pre .2, pre .3, pre .4, way-starts _ _ _ _ (pre .1 .inside)))
     (λ c κs. search needs)
     (λ c. omega arith)
     (λ c. omega arith)
@@ -398,13 +518,14 @@ pub +pass-row+walk-entries+walk-row-spec : {M : Type 1} → statement M
     (λ c κs. omega arith)
     (λ c. omega arith)
     (row-loop-again t)
-    (λ c κs. head-there (c .before .before .open-row .ensures .first .block))
+    (λ c. search needs)
     (λ c κs. search needs)
-    (λ c κs. omega arith)
+    (row-open-group-requires t)
     (λ c. search needs)
     (row-returns t)
     (λ c. search needs)
-    (λ c. omega arith)
+    (row-dimension-size-requires t)
+    (row-add-inside t)
     (λ c. omega arith)
     (row-walk-entries-requires t)
     (λ c. search needs)
@@ -415,4 +536,10 @@ pub +pass-row+walk-entries+walk-row-spec : {M : Type 1} → statement M
     (row-add-seen-2 t)
     (λ c. omega arith)
     (row-loop-again-2 t)
-    (λ c. way-ends (c .before .loop .inv .3) (groups-done _ _ _ _ _ _ (no-groups-at _ _ _ _ (c .loop-test .left)))))
+    (λ c κs. c .before .loop .inv .4)
+    (λ c κs. omega (arith, c .before .before .loop .inv .4))
+    (λ c κs. c .before .before .before .loop .inv .5 .inside)
+    (λ c. search needs)
+    (λ c. search needs)
+    (row-returns-3 t)
+    (row-returns-4 t))

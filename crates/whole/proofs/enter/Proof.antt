@@ -29,8 +29,7 @@ by-rest : (c : tie.After-walk-rest) → let on = c .before .before .before .befo
     let g = at .block .given .0 in
     let r = on .next .given .0 in
     entered (s .p .now .now) (s .m .now .now) (s .path .now .now) (wholeAt (s .p .now .now) (s .m .now .now))
-    ≡ afterRest (g .0) (g .1 .0) (g .1 .1 .0) (g .1 .1 .1 .0) (r .1 .0) (r .1 .1 .0) (r .1 .1 .1 .0)
-    (c .walk-rest .result)
+    ≡ afterRest (g .0) (g .1 .0) (r .1 .0) (r .1 .1 .0) (c .walk-rest .result)
 unfolding afterOpened afterRoot
 by-rest c =
     let on = c .before .before .before .before in
@@ -50,7 +49,7 @@ returns-4 c =
     let rest = c .before .before in
     let on = rest .before .before .before .before in (
       sym (by-rest rest ∙ rw (c .enum-told .given .1) refl),
-      root-inside _ _ _ _ _ _ (on .before .before .walk-root .ensures .1) (on .next .given .1) .1,
+      root-inside _ _ _ _ _ (on .before .before .walk-root .ensures .1) (on .next .given .1) .1,
     )
 
 walk-root-requires : tie.Need-walk-root-requires
@@ -59,7 +58,7 @@ walk-root-requires c κs =
     let told = c .before in
     let s = told .before .before .before .before .before in
     let l = rw (told .block .given .1) at (opened-as _ _ (s .pre .0) _ (told .before .before .open .ensures)) in
-    (l .block, l .lent, l .short, s .pre .1)
+    (l .block, l .lent, l .short, l .few, s .pre .1)
 
 walk-rest-requires : tie.Need-walk-rest-requires
 unfolding OpenedAs
@@ -69,8 +68,8 @@ walk-rest-requires c κs =
     let told = root .before .before in
     let s = told .before .before .before .before .before in
     let l = rw (told .block .given .1) at (opened-as _ _ (s .pre .0) _ (told .before .before .open .ensures)) in
-    let ends = root-inside _ _ _ _ _ _ (root .walk-root .ensures .1) (on .next .given .1) in
-    (l .block .block, record { short = l .lent .short; inside = ends .0 })
+    let ends = root-inside _ _ _ _ _ (root .walk-root .ensures .1) (on .next .given .1) in
+    (l .block .block, l .fewDatas, record { short = l .lent .short; inside = ends .0 })
 
 pub enter-spec : {M : Type 1} → statement M
 enter-spec =

@@ -6,6 +6,7 @@ use native.Mathlib.Omega.{arith}
 use lib.ListN.{length}
 use borrow.Author.Needs.{needs}
 use Rattle.wire.specs.declared.Walked.the-variants as Walked
+use Rattle.prepared.proofs.Open.{head-there}
 use Rattle.walk.proofs.Ways.{leads}
 use Rattle.places.specs.Seeks.{Within}
 use Rattle.places.specs.declared.Row.the-variants as Row
@@ -27,7 +28,7 @@ returns : tie.Need-returns
 unfolding Ends
 returns c =
     let s = c .before .before .before .before .args in
-    (sym (root-short (s .p .now .now) _ (s .m .now .now) _ _ _ (omega (arith, c .if1 .taken))), tt)
+    (sym (root-short (s .p .now .now) _ (s .m .now .now) _ _ _ _ (omega (arith, c .if1 .taken))), tt)
 
 -- Without a path.
 returns-2 : tie.Need-returns-2
@@ -39,7 +40,7 @@ returns-2 c =
     let row = rw (call .before .before .number .ensures, call .before .number2 .ensures) at
     (call .pass-row .ensures .0) in
     let on = leads _ _ _ _ _ _ (call .pass-row .ensures .1) (c .before .next .given .1) in (
-      sym (root-counted (book (test .before)) _ _ _ _ _ (fits (test .before)) (test .if2 .taken) (Walked.To _ _)
+      sym (root-counted (book (test .before)) _ _ _ _ _ _ (fits (test .before)) (test .if2 .taken) (Walked.To _ _)
           (sym (c .before .next .given .1) ∙ row)),
       (on .1, omega (arith, on, call .before .number2 .ensures, s .pre .0 .block .fewGroups, s .pre .1 .short)),
     )
@@ -51,7 +52,7 @@ returns-3 c =
     let test = call .before .before .before in
     let row = rw (call .before .before .number .ensures, call .before .number2 .ensures) at
     (call .pass-row .ensures .0) in (
-      sym (root-counted (book (test .before)) _ _ _ _ _ (fits (test .before)) (test .if2 .taken) (Walked.Refused _)
+      sym (root-counted (book (test .before)) _ _ _ _ _ _ (fits (test .before)) (test .if2 .taken) (Walked.Refused _)
           (sym (c .before .refusal .given .1) ∙ row)),
       tt,
     )
@@ -65,8 +66,8 @@ unfolding Ends Within sought
 returns-4 c =
     let call = c .before .before .before in
     let other = call .before in (
-      sym (root-sought (book (other .before)) _ _ _ _ _ (fits (other .before)) (start (other .before) .pre .3)
-          (some-are other) (Row.To _ _ _) (sym (c .before .next2 .given .1) ∙ call .seek-row .ensures .0)),
+      sym (root-sought (book (other .before)) _ _ _ _ _ _ (fits (other .before)) (start (other .before) .pre .4)
+          (some-are other) (Row.To _ _) (sym (c .before .next2 .given .1) ∙ call .seek-row .ensures .0)),
       (rw (c .before .next2 .given .1) at (call .seek-row .ensures .1), omega arith),
     )
 
@@ -75,7 +76,7 @@ unfolding Ends sought
 returns-5 c =
     let call = c .before .before .before in
     let other = call .before in (
-      sym (root-sought (book (other .before)) _ _ _ _ _ (fits (other .before)) (start (other .before) .pre .3)
+      sym (root-sought (book (other .before)) _ _ _ _ _ _ (fits (other .before)) (start (other .before) .pre .4)
           (some-are other) (Row.Refused _) (sym (c .before .refusal2 .given .1) ∙ call .seek-row .ensures .0)),
       tt,
     )
@@ -87,12 +88,14 @@ pass-row-requires c κs =
       rw (c .before .number .ensures, c .number2 .ensures) (s .pre .0 .row),
       record { short = s .pre .1 .short; inside = fits there },
       rw (c .number2 .ensures) (s .pre .0 .block .fewGroups),
+      s .pre .3,
+      head-there (s .pre .0 .block),
     )
 
 seek-row-requires : tie.Need-seek-row-requires
 seek-row-requires c κs =
     let s = start (c .before) in
-    (s .pre .0, record { short = s .pre .1 .short; inside = fits (c .before) }, s .pre .3, some-are c)
+    (s .pre .0, record { short = s .pre .1 .short; inside = fits (c .before) }, s .pre .3, s .pre .4, some-are c)
 
 pub walk-root-spec : {M : Type 1} → statement M
 walk-root-spec =

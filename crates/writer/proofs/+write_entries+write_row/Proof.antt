@@ -6,7 +6,7 @@ use native.Mathlib.Omega.{arith}
 use borrow.Author.Needs.{needs}
 use borrow.Fn.Kinds.{In, Out}
 use borrow.Fn.PlainCycle.{Measures, is, falls, and}
-use Rattle.prepared.specs.Positions.{BlockAt, IsRow, groupsAt, innerAt, isBig, nextFrom, shapeAt}
+use Rattle.prepared.specs.Positions.{BlockAt, IsRow, groupsAt, innerAt, isBig, isCounted, nextFrom, shapeAt}
 use Rattle.prepared.proofs.Accepted.{datas-length}
 use Rattle.prepared.proofs.number.Reads as number-reads
 use Rattle.prepared.proofs.open_row.Reads as open-row-reads
@@ -48,7 +48,7 @@ entries-μ-loop p a depth k listing pool room₀ s t o block due₀ here₀ room
 
 abbrev row-Inv : row-lts.InvT-loop
 row-Inv p a depth listing pool room₀ s t g₀ left₀ here₀ room g left here =
-    let part = groupsPart (isBig (p .now)) (listing .now) (pool .now) in
+    let part = groupsPart (isCounted (p .now)) (isBig (p .now)) (listing .now) (pool .now) in
     IsRow (p .now) depth left g × ZerosFrom (here .at) room
     × Going (part (innerAt (p .now) depth a) (here₀ .record)) (part (groupsAt (p .now) depth left g) (here .record))
     (here₀ .at) room₀ (here .at) room
@@ -101,7 +101,7 @@ module _ (t : ℕ) where
       let none = rw (inv .0 .1 .follow, inv .0 .0 .block .follow) at (c .if1 .taken) in
       let fields = call .write-block .ensures in
       let laid = going-call (inv .2) _ (entries-step _ _ _ _ _ _ _ (i .loop-test .taken)) fields in
-      let groups = going-call laid _ refl (stored-none (groups-end _ _ _ _ _ _ _ _ (omega (arith, none)))) in (
+      let groups = going-call laid _ refl (stored-none (groups-end _ _ _ _ _ _ _ _ _ (omega (arith, none)))) in (
         inv .0,
         zeros-on (inv .1) fields,
         going-call groups _ refl (stored-none (datas-end _ _ _ _ _ (rw datas-length (omega (arith, none))))),
@@ -173,18 +173,18 @@ module _ (t : ℕ) where
       → let l = c .before .before .loop in
       let a = c .before .before .before .before .before .before .before .before .args in
       let p = a .p .now .now in
-      GroupOpen (isBig p) (a .listing .now .now) (a .pool .now .now) (groupsAt p (a .depth) (l .left) (l .g))
+      GroupOpen (isCounted p) (isBig p) (a .listing .now .now) (a .pool .now .now)
+      (groupsAt p (a .depth) (l .left) (l .g))
       (shapeAt p (l .g)) (innerAt p (a .depth - 1) (l .g)) (groupsAt p (a .depth) (l .left - 1) (nextFrom p (l .g)))
       (l .here .record)
   row-opened c =
-      group-open _ _ _ _ _ _ _ _ (c .open-row .ensures .tree) (c .before .before .loop .inv .2 .room .whole)
+      group-open _ _ _ _ _ _ _ _ _ (c .open-row .ensures .tree) (c .before .before .loop .inv .2 .room .whole)
 
   row-put-dimension-requires : row-Need row-lts.Need-put-dimension-requires
   row-put-dimension-requires c κs =
       let row = c .before .before .before in
-      let block = row .open-row .ensures .first .block in
       rw (c .before .number-of .ensures .0) (
-        (block, c .before .number-of .ensures .1),
+        (row .open-row .ensures .first, c .before .number-of .ensures .1),
         going-first (row .before .before .loop .inv .2) _ (row-opened row .same),
       )
 
@@ -231,8 +231,7 @@ pub +write-entries+write-row-spec : {M : Type 1} → statement M
     (λ t.
     row-lts.spec (row-claims t) (row-at t) row-reads.Post row-Inv row-μ-loop
     (λ c. omega arith) (λ c κs. omega arith) (λ c. omega arith) (λ c κs. omega arith) (row-loop-holds t)
-    (λ c κs. search needs) (λ c. omega arith) (λ c κs. omega arith) (λ c. omega arith)
-    (λ c κs. (row-opened t (c .before) .there, omega arith)) (row-put-dimension-requires t)
-    (λ c. omega (arith, c .before .before .before .before .before .before .open-row .ensures .deep))
+    (λ c κs. search needs) (λ c. omega (arith, c .open-row .ensures .deep)) (λ c. omega arith) (λ c κs. omega arith)
+    (λ c. omega arith) (λ c κs. (row-opened t (c .before) .there, omega arith)) (row-put-dimension-requires t)
     (row-write-entries-requires t) (λ c. omega arith) (row-loop-again t) (λ c. omega arith)
-    (λ c. going-end (c .before .loop .inv .2) (stored-none (groups-end _ _ _ _ _ _ _ _ (c .loop-test .left)))))
+    (λ c. going-end (c .before .loop .inv .2) (stored-none (groups-end _ _ _ _ _ _ _ _ _ (c .loop-test .left)))))

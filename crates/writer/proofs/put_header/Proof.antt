@@ -1,13 +1,16 @@
 -- Two numbers at a time; the counts are those of the tree.
+use mathlib.Core.List.{[], _∷_}
 use native.Mathlib.Omega.{arith}
 use borrow.Author.Needs.{needs}
+use Rattle.layout.specs.Writing.{countsOf}
 use Rattle.prepared.proofs.Accepted.{datas-length}
 use Rattle.prepared.proofs.Open.{length-row}
-use Rattle.writer.proofs.Message.{header-laid}
+use Rattle.writer.proofs.Message.{numbers-laid}
 use Rattle.writer.proofs.put_header.Statement.{statement}
 use Rattle.writer.proofs.put_header.Tie as tie
 
 returns : tie.Need-returns
+unfolding countsOf
 returns c =
     let third = c .before .before in
     let second = third .before .before .before .before .before .before in
@@ -15,8 +18,9 @@ returns c =
     let order = first .before .before .before .before in
     let start = order .before .before .before in
     rw (length-row _ _ _ _ (start .pre .0 .row), datas-length, ← (order .is-big .ensures))
-    (header-laid _ _ _ _ _ _ _ _ _ _ _
-    (first .put-two .ensures) (second .put-two2 .ensures) (third .put-two3 .ensures))
+    (numbers-laid _ _ _ (_ ∷ _ ∷ _ ∷ _ ∷ []) (_ ∷ _ ∷ [])
+    (numbers-laid _ _ _ (_ ∷ _ ∷ []) (_ ∷ _ ∷ []) (first .put-two .ensures) (second .put-two2 .ensures))
+    (third .put-two3 .ensures))
 
 pub put-header-spec : {M : Type 1} → statement M
 put-header-spec =

@@ -1,10 +1,10 @@
 -- Each branch writes in the book's order.
 use mathlib.Core.Path.{_≡_, _∙_, sym}
 use mathlib.Core.Bool.{false, true}
+use native.Mathlib.Omega.{arith}
 use borrow.Author.Needs.{needs}
 use borrow.Author.Tests.{not-false, not-true}
 use Rattle.prepared.specs.Positions.{isBig}
-use Rattle.prepared.proofs.Open.{head-there}
 use Rattle.writer.proofs.write_block.Statement.{statement}
 use Rattle.writer.proofs.write_block.Tie as tie
 
@@ -17,7 +17,7 @@ big c = sym (c .before .is-big .ensures) ∙ not-false _ (c .if1 .left)
 pub write-block-spec : {M : Type 1} → statement M
 write-block-spec =
     tie.close
-    (tie.spec (λ c κs. head-there (c .before .before .before .before .pre .0 .0))
+    (tie.spec (λ c κs. omega arith)
     (λ c κs. let then = c .before in rw (little then) at (then .before .before .before .before .before .before .pre))
     (λ c. search needs)
     (λ c. rw (little (c .before .before .before .before)) (c .before .before .write-fields .ensures))

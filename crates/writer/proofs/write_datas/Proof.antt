@@ -5,7 +5,6 @@ use borrow.Author.Needs.{needs}
 use borrow.Rule.Slice.PartMut.{putMid}
 use lib.ListN.{length}
 use Rattle.prepared.specs.Positions.{manyDatas}
-use Rattle.prepared.proofs.Open.{head-there}
 use Rattle.prints.proofs.Going.{Going, going-call, going-end, going-first, going-none, stored-none}
 use Rattle.writer.specs.Parts.{datasPart}
 use Rattle.writer.proofs.Parts.{datas-end, datas-step}
@@ -42,7 +41,7 @@ pub write-datas-spec : {M : Type 1} → statement M
 write-datas-spec =
     tie.close
     (tie.spec Inv-loop μ-loop
-    (λ c κs. head-there (c .before .before .before .before .pre .0)) (λ c. omega arith) (λ c κs. omega arith)
+    (λ c κs. omega arith) (λ c. omega arith) (λ c κs. omega arith)
     (λ c. rw (c .number .ensures, c .before .is-big .ensures)
     (going-none (c .before .before .before .before .before .before .pre .1)))
     (λ c. omega arith) (λ c. omega arith) (λ c. search needs)

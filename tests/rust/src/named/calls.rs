@@ -2,6 +2,7 @@
 //! record, words for refusals, null pointers, odd lengths.
 
 use super::byte_orders::{big, big_m};
+use super::dimensions::{four, four_m};
 use super::writing::draft_of_m;
 use super::{books, messages};
 use crate::raw;
@@ -39,8 +40,10 @@ fn example() -> Result<(), String> {
     let data = ask(&[], Element::Data(0)).map(|answer| answer.octets(&message));
     same("data", data, Ok(Some(&b"ab"[..])))?;
     same("list_all", siphonbard::list_all(&octets, &message).map(|all| all.len()), Ok(6))?;
-    let turned = siphonbard::list_all(&big(octets), &big_m());
-    same("list_all, big-endian", turned, book.list_all(&message))
+    let turned = siphonbard::list_all(&big(octets.clone()), &big_m());
+    same("list_all, big-endian", turned, book.list_all(&message))?;
+    let counted = siphonbard::list_all(&four(octets), &four_m()).map(|all| all[..5].to_vec());
+    same("list_all, counted dimensions", counted, book.list_all(&message).map(|all| all[..5].to_vec()))
 }
 
 fn records() -> Result<(), String> {
@@ -122,7 +125,7 @@ fn words() -> Result<(), String> {
     same("54", said.as_str(), "refused 54 at record 2: a group has over 65,534 entries")?;
     let said = Refusal { number: 55, place: 0 }.to_string();
     same("55", said.as_str(), "refused 55: the message is longer than the room or than 65,535 octets")?;
-    let mut known = (1..=6).chain(10..=20).chain([30, 31, 40]).chain(50..=55);
+    let mut known = (1..=6).chain(10..=22).chain([30, 31, 40]).chain(50..=55);
     let silent = known.find(|&number| {
         let refusal = Refusal { number, place: 0 };
         refusal.meaning() == "unknown" || refusal.place_meaning() == "unknown"

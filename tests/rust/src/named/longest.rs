@@ -2,6 +2,7 @@
 
 use super::books::{field, fields, of, DATA, OCTET};
 use super::calls::Call;
+use super::dimensions::four;
 use super::writing::draft;
 use crate::readers::{lent, Free, Plain, Reader, Stream};
 use crate::report::same;
@@ -49,10 +50,11 @@ fn to_the_limit(book: &[u8], longest: &Draft, longer: &Draft) -> Result<(), Stri
     Ok(())
 }
 
-/// 12 octets for the header and 4 for the dimension.
+/// 12 octets for the header and 4 for the dimension, or 8.
 fn entries() -> Result<(), String> {
     let of_entries = |entries| draft(&group(entries).collect::<Vec<_>>(), &[]);
-    to_the_limit(&of_groups(1, 1), &of_entries(65519), &of_entries(65520))
+    to_the_limit(&of_groups(1, 1), &of_entries(65519), &of_entries(65520))?;
+    to_the_limit(&four(of_groups(1, 1)), &of_entries(65515), &of_entries(65516))
 }
 
 /// 12 octets for the header and 2 for the length.

@@ -8,6 +8,7 @@ mod borders;
 mod byte_orders;
 mod calls;
 mod counted;
+mod dimensions;
 mod every_text;
 mod largest;
 mod listed;
@@ -21,6 +22,7 @@ mod readings;
 mod text_writing;
 mod texts;
 mod types;
+mod unknown;
 mod unwritten;
 mod writing;
 
@@ -68,7 +70,8 @@ pub fn run(report: &mut Report) {
     let passed = turned.iter().filter(|case| case.run(report)).count();
     println!("all of these by the other byte order, with every number turned: {passed} of {}", turned.len());
     let calls = calls::calls().into_iter().chain(texts::calls()).chain(counted::calls()).chain(prepared::calls());
-    let calls = calls.chain(big_writing::calls()).chain(largest::calls()).chain(longest::calls());
+    let calls = calls.chain(big_writing::calls()).chain(unknown::calls());
+    let calls = calls.chain(largest::calls()).chain(longest::calls());
     for (name, call) in calls {
         if report.check(call(), || name.into()) {
             println!("ok {name}");
@@ -83,7 +86,8 @@ fn all() -> Vec<Case> {
     let by_lists = [lists::cases(), named_lists::cases(), listed::cases(), listed_writing::cases()];
     let of_texts = [texts::cases(), text_writing::cases()];
     let big_endian = [byte_orders::cases(), big_numbers::cases(), big_writing::cases()];
-    let all = read.into_iter().chain(written).chain(by_lists).chain(of_texts).chain(big_endian);
+    let counted = [dimensions::cases(), unknown::cases()];
+    let all = read.into_iter().chain(written).chain(by_lists).chain(of_texts).chain(big_endian).chain(counted);
     all.flatten().collect()
 }
 

@@ -48,7 +48,7 @@ fn template_cases() -> Vec<Case> {
         refused("writing template 2 under A: 50", a(), of_template(2), ROOM, 50, 0),
         refused("writing template 65535: 50", a(), of_template(65535), ROOM, 50, 0),
         refused("writing: 50 before 51 and 55", a(), nothing.clone(), 0, 50, 0),
-        refused("writing: the book's refusal before 50", a()[..83].to_vec(), nothing, ROOM, 1, 0),
+        refused("writing: the book's refusal before 50", a()[..85].to_vec(), nothing, ROOM, 1, 0),
     ]
 }
 

@@ -2,15 +2,18 @@
 
 use super::books::{add_field, data_of};
 use super::lists::{add_list, MOST};
+use plain::dimension::{FOUR, TWO};
 use plain::{byte_order::BIG, lists::SET, types::TYPES, Block, Book, Field, Group, Rng, Template};
 
-/// The book with its byte order, one count, depth, number, since or list at its limit or one beyond.
+/// The book with its byte order, its numbers of a dimension, one count, depth, number, since or list at its limit or
+/// one beyond.
 pub fn book(rng: &mut Rng, mut book: Book) -> Book {
     match rng.below(20) {
         0..=2 => templates(rng, &mut book),
         3..=4 => lists(rng, &mut book),
         5..=6 => names(rng, &mut book),
         7 => book.byte_order = rng.word(BIG, BIG + 1),
+        8 => book.dimension = rng.word(TWO - 1, FOUR + 1),
         _ => one_block(rng, &mut book),
     }
     book

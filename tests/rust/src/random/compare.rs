@@ -54,6 +54,9 @@ pub fn message(rng: &mut Rng, seen: &mut Seen, book: &BothBooks, octets: &[u8]) 
         Ok(plain) => Message::read(plain, octets),
         Err(refused) => Err(*refused),
     };
+    if let Some(book) = book.plain.as_ref().ok().filter(|book| book.is_counted()) {
+        seen.counted(book, octets, plain.as_ref().map(drop).map_err(|refused| *refused));
+    }
     let asked = Asked { book, octets, plain };
     asked.checks(seen)?;
     asked.lists(rng, seen)?;

@@ -1,16 +1,19 @@
 //! Damage: numbers and octets altered, cut off and added.
 
-use plain::{ByteOrder, Rng};
+use crate::wire;
+use plain::{Book, ByteOrder, Rng};
 
-/// One to three faults in a message of this byte order. Its header and its 16-bit numbers are hit more often than
-/// chance would.
-pub fn message(rng: &mut Rng, order: ByteOrder, mut octets: Vec<u8>) -> Vec<u8> {
+/// One to three faults in a message of this book. Its header, its dimensions and its 16-bit numbers are hit more often
+/// than chance would.
+pub fn message(rng: &mut Rng, book: &Book, mut octets: Vec<u8>) -> Vec<u8> {
+    let order = book.byte_order();
     for _ in 0..rng.pick(&[1, 1, 2, 3]) {
-        match rng.below(12) {
+        match rng.below(14) {
             0..=2 => alter_number(rng, order, &mut octets, 12),
             3..=6 => alter_number(rng, order, &mut octets, usize::MAX),
             7 => alter_octet(rng, &mut octets),
             8 | 9 => octets.truncate(rng.below(octets.len() + 1)),
+            10 | 11 => alter_dimension(rng, book, &mut octets),
             _ => add(rng, &mut octets),
         }
     }
@@ -63,6 +66,17 @@ fn alter_number(rng: &mut Rng, order: ByteOrder, octets: &mut [u8], bound: usize
     if octets.len() >= 2 {
         let at = rng.below((octets.len() - 1).min(bound));
         put_number(rng, order, &mut octets[at..at + 2]);
+    }
+}
+
+/// Alters a number of a dimension.
+fn alter_dimension(rng: &mut Rng, book: &Book, octets: &mut [u8]) {
+    let dimensions = wire::numbers(book, octets).dimensions;
+    if !dimensions.is_empty() {
+        let at = rng.pick(&dimensions) + 2 * rng.below(book.dimension.into());
+        if let Some(number) = octets.get_mut(at..at + 2) {
+            put_number(rng, book.byte_order(), number);
+        }
     }
 }
 

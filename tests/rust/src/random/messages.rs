@@ -4,7 +4,7 @@ use super::listings::{self, entries, number};
 use super::{lists, texts};
 use plain::{writer, Block, Book, Field, Rng, Template};
 
-/// A whole message for one of the book's templates.
+/// A whole message for one of the book's templates, but that a later one may have a group below depth four.
 pub fn message(rng: &mut Rng, book: &Book) -> Vec<u8> {
     let template = &book.templates[rng.below(book.templates.len())];
     if rng.chance(35) {
@@ -15,7 +15,8 @@ pub fn message(rng: &mut Rng, book: &Book) -> Vec<u8> {
         4..=7 => rng.word(0, book.version),
         _ => rng.word(book.version, book.version.saturating_add(4).min(65534)),
     };
-    let mut wire = Wire { clean: rng.chance(40), rng, book, version, message: Vec::new() };
+    let (clean, deepest) = (rng.chance(40), if rng.chance(15) { TOO_DEEP } else { DEPTH });
+    let mut wire = Wire { rng, book, version, clean, deepest, message: Vec::new() };
     wire.root(template);
     wire.message
 }
@@ -39,8 +40,13 @@ struct Wire<'a> {
     book: &'a Book,
     version: u16,
     clean: bool,
+    /// Of groups that the book does not know.
+    deepest: usize,
     message: Vec<u8>,
 }
+
+const DEPTH: usize = 4;
+const TOO_DEEP: usize = 5;
 
 impl Wire<'_> {
     fn put(&mut self, number: usize) {
@@ -50,15 +56,21 @@ impl Wire<'_> {
     fn root(&mut self, template: &Template) {
         let block = &template.block;
         let length = self.length(block);
-        let known = block.present(self.version);
-        let later = self.version > self.book.version;
-        let surplus = if later { (self.rng.below(3), self.rng.below(3)) } else { (0, 0) };
         for number in [length, template.id.into(), self.book.schema.into(), self.version.into()] {
             self.put(number);
         }
+        let surplus = (self.rng.below(3), self.rng.below(3));
+        let surplus = self.counts(block, surplus);
+        self.part(block, length, surplus, 0);
+    }
+
+    /// The counts of a block with so much that the book does not know, which only a later version has.
+    fn counts(&mut self, block: &Block, surplus: (usize, usize)) -> (usize, usize) {
+        let surplus = if self.version > self.book.version { surplus } else { (0, 0) };
+        let known = block.present(self.version);
         self.put(known.0 + surplus.0);
         self.put(known.1 + surplus.1);
-        self.part(block, length, surplus);
+        surplus
     }
 
     /// A block length on the wire: at least the need.
@@ -71,36 +83,65 @@ impl Wire<'_> {
         }
     }
 
-    fn part(&mut self, block: &Block, length: usize, surplus: (usize, usize)) {
+    fn part(&mut self, block: &Block, length: usize, surplus: (usize, usize), depth: usize) {
         self.block(block, length);
         let version = self.version;
         for group in block.groups.iter().filter(|group| group.since <= version) {
-            let (length, entries) = (self.length(&group.block), entries(self.rng) as usize);
-            self.put(length);
-            self.put(entries);
-            for _ in 0..entries {
-                self.part(&group.block, length, (0, 0));
-            }
+            self.group(&group.block, depth + 1);
         }
         for _ in 0..surplus.0 {
-            self.surplus_group();
+            self.surplus_group(depth + 1);
         }
         for _ in 0..block.present(version).1 + surplus.1 {
-            let length = self.rng.below(6);
-            self.put(length);
-            self.fill(length);
+            self.data();
         }
     }
 
-    fn surplus_group(&mut self) {
+    fn group(&mut self, block: &Block, depth: usize) {
+        let (length, entries) = (self.length(block), entries(self.rng) as usize);
+        self.put(length);
+        self.put(entries);
+        let mut surplus = (0, 0);
+        if self.book.is_counted() {
+            let inside = self.inside(depth);
+            surplus = self.counts(block, inside);
+        }
+        for _ in 0..entries {
+            self.part(block, length, surplus, depth);
+        }
+    }
+
+    /// How many groups and data that the book does not know are in each entry of a group of this depth: mostly none.
+    fn inside(&mut self, depth: usize) -> (usize, usize) {
+        let groups = if depth < self.deepest { self.rng.pick(&[0, 0, 0, 1, 1, 2]) } else { 0 };
+        (groups, self.rng.pick(&[0, 0, 0, 1, 2]))
+    }
+
+    fn surplus_group(&mut self, depth: usize) {
+        let inside = if self.book.is_counted() && self.rng.chance(60) { self.inside(depth) } else { (0, 0) };
         let (length, entries) = match self.rng.below(8) {
-            0 => (0, self.rng.between(0, 65534)),
+            0 if inside == (0, 0) => (0, self.rng.between(0, 65534)),
             1 => (self.rng.between(0, 65534), 0),
             _ => (self.rng.below(6), self.rng.below(4)),
         };
         self.put(length);
         self.put(entries);
-        self.fill(length * entries);
+        if self.book.is_counted() {
+            self.put(inside.0);
+            self.put(inside.1);
+        }
+        if inside == (0, 0) {
+            return self.fill(length * entries);
+        }
+        for _ in 0..entries {
+            self.part(&Block::default(), length, inside, depth);
+        }
+    }
+
+    fn data(&mut self) {
+        let length = self.rng.below(6);
+        self.put(length);
+        self.fill(length);
     }
 
     fn fill(&mut self, count: usize) {

@@ -17,6 +17,7 @@ mod written;
 
 use crate::report::{hex, same, Report};
 use compare::BothBooks;
+use plain::dimension::{FOUR, TWO};
 use plain::{byte_order::BIG, extension::extends, Book, Draft, Rng};
 use seen::Seen;
 use two_books::{Agreed, Pair};
@@ -97,6 +98,9 @@ impl Run<'_> {
         let other = Book { byte_order: BIG - newer.byte_order, ..newer.clone() };
         let legal = same("legal by another byte order", extends(&other, older), false);
         self.report.check(legal, || format!("extension {other:?} of {older:?}"));
+        let resized = Book { dimension: TWO + FOUR - newer.dimension, ..newer.clone() };
+        let legal = same("legal by other dimensions", extends(&resized, older), false);
+        self.report.check(legal, || format!("extension {resized:?} of {older:?}"));
         let other_octets = other.octets();
         let other_both = self.book(&other_octets);
         if let Some(orders) = Orders::of(both, &other_both) {
@@ -143,7 +147,7 @@ impl Run<'_> {
     fn made(&mut self, book: &Book) -> Vec<u8> {
         let octets = messages::message(&mut self.rng, book);
         match self.rng.chance(45) {
-            true => damage::message(&mut self.rng, book.byte_order(), octets),
+            true => damage::message(&mut self.rng, book, octets),
             false => octets,
         }
     }

@@ -2,16 +2,19 @@
 
 use super::texts::{self, Text};
 use crate::report::Report;
-use plain::{Book, Refusal};
+use crate::wire;
+use plain::{Book, Refusal, NULL16};
 
 const REFUSALS: [(&str, &[usize]); 5] = [
     ("books", &[1, 2, 3, 4, 5, 6]),
-    ("messages", &[10, 11, 12, 13, 14, 15, 16, 17, 18, 19, 20]),
+    ("messages", &[10, 11, 12, 13, 14, 15, 16, 17, 18, 19, 20, 21, 22]),
     ("places", &[30, 31]),
     ("rooms", &[40]),
     ("writing", &[50, 51, 52, 53, 54, 55]),
 ];
-const BYTE_ORDERS: [&str; 2] = ["little-endian", "big-endian"];
+const FORMATS: [&str; 4] = ["little-endian by two", "big-endian by two", "little-endian by four", "big-endian by four"];
+const COUNTED: [&str; 3] =
+    ["more inside a group than the book knows", "17 by a count", "16 inside what it does not know"];
 const KINDS: [&str; 7] = ["number", "null", "octets", "absent", "group", "out of range", "unlisted"];
 
 pub struct Seen {
@@ -21,9 +24,11 @@ pub struct Seen {
     kinds: [u64; 7],
     /// By `texts::NAMES`.
     texts: [u64; 9],
-    /// Messages that were accepted, and listings that were written, by byte order.
-    accepted: [u64; 2],
-    written: [u64; 2],
+    /// Messages that were accepted, and listings that were written, by byte order and numbers of a dimension.
+    accepted: [u64; 4],
+    written: [u64; 4],
+    /// Messages with counted dimensions, by `COUNTED`.
+    counted: [u64; 3],
     /// Messages that were listed into every room from none to enough.
     pub every_room: u64,
     pub trips: Trips,
@@ -47,8 +52,9 @@ impl Seen {
             lists: 0,
             kinds: [0; 7],
             texts: [0; 9],
-            accepted: [0; 2],
-            written: [0; 2],
+            accepted: [0; 4],
+            written: [0; 4],
+            counted: [0; 3],
             every_room: 0,
             trips: Trips::default(),
         }
@@ -70,11 +76,24 @@ impl Seen {
     }
 
     pub fn accepted_by(&mut self, book: &Book) {
-        self.accepted[usize::from(book.byte_order)] += 1;
+        self.accepted[format(book)] += 1;
     }
 
     pub fn written_by(&mut self, book: &Book) {
-        self.written[usize::from(book.byte_order)] += 1;
+        self.written[format(book)] += 1;
+    }
+
+    /// Of a message that a book with counted dimensions accepts, or refuses so.
+    pub fn counted(&mut self, book: &Book, octets: &[u8], verdict: Result<(), Refusal>) {
+        let unknown = || wire::numbers(book, octets).unknown_inside;
+        let number = |at| book.byte_order().number16(octets, at);
+        let came = match verdict.map_err(|refused| (refused.number, refused.place as usize)) {
+            Ok(()) => [!unknown().is_empty(), false, false],
+            Err((17, place)) => [false, number(place) != NULL16 && number(place + 2) != NULL16, false],
+            Err((16, place)) => [false, false, unknown().contains(&place)],
+            Err(_) => return,
+        };
+        self.counted.iter_mut().zip(came).for_each(|(count, came)| *count += u64::from(came));
     }
 
     /// Prints all counts.
@@ -105,8 +124,9 @@ impl Seen {
             ("refusals of lists", vec![("4".into(), self.lists)]),
             ("answers", named(&KINDS, &self.kinds)),
             ("texts", named(&texts::NAMES, &self.texts)),
-            ("messages accepted", named(&BYTE_ORDERS, &self.accepted)),
-            ("listings written", named(&BYTE_ORDERS, &self.written)),
+            ("messages accepted", named(&FORMATS, &self.accepted)),
+            ("listings written", named(&FORMATS, &self.written)),
+            ("messages by four", named(&COUNTED, &self.counted)),
             ("messages", vec![("listed into every room".into(), self.every_room)]),
             ("round trips", self.trips.counts()),
         ];
@@ -120,6 +140,11 @@ impl Trips {
         let names = ["written and read back", "read and written back", "not so", "not so by a text's tail"];
         named(&names, &[read_back, written_back, not_so, not_by_tail])
     }
+}
+
+/// The book's number in `FORMATS`.
+fn format(book: &Book) -> usize {
+    usize::from(book.byte_order) + 2 * usize::from(book.is_counted())
 }
 
 /// Counts, each with its name.

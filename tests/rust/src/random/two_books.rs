@@ -16,7 +16,8 @@ pub struct Pair<'a> {
 }
 
 /// How many messages had their template in both books, of how many of these each half of the demand speaks, how many
-/// values the older book's lists alone lacked, and how many texts ended before their field does or were null.
+/// values the older book's lists alone lacked, how many texts ended before their field does or were null, and how many
+/// groups and data the older lacked inside groups.
 #[derive(Default)]
 pub struct Agreed {
     messages: u64,
@@ -24,19 +25,22 @@ pub struct Agreed {
     not_later: u64,
     older_lack: u64,
     short_texts: u64,
+    added_inside: u64,
 }
 
 impl Agreed {
     pub fn all_came(&self) -> bool {
-        self.accepted > 0 && self.not_later > 0 && self.older_lack > 0 && self.short_texts > 0
+        let values = [self.older_lack, self.short_texts, self.added_inside];
+        self.accepted > 0 && self.not_later > 0 && values.iter().all(|&count| count > 0)
     }
 }
 
 impl fmt::Display for Agreed {
     fn fmt(&self, out: &mut fmt::Formatter) -> fmt::Result {
-        let Agreed { messages, accepted, not_later, older_lack, short_texts } = self;
+        let Agreed { messages, accepted, not_later, older_lack, short_texts, added_inside } = self;
         write!(out, "{messages} messages, {accepted} accepted, {not_later} not later, ")?;
-        write!(out, "{older_lack} values that only the older book's lists lack, {short_texts} short texts")
+        write!(out, "{older_lack} values that only the older book's lists lack, {short_texts} short texts, ")?;
+        write!(out, "{added_inside} groups and data inside groups that the older lacks")
     }
 }
 
@@ -81,9 +85,10 @@ impl<'a> Pair<'a> {
         if let Ok(new) = new {
             agreed.accepted += 1;
             let mut projection = Projection::of(self.old_tree, new);
-            projection.block(Some(blocks.0), blocks.1);
+            projection.block(Some(blocks.0), blocks.1, false);
             agreed.older_lack += projection.lacking;
             agreed.short_texts += projection.short_texts;
+            agreed.added_inside += projection.added_inside;
             same("answers of two books", old, Ok(projection.known))?;
             if agreed.accepted % ASKED_BY_PLACE == 0 {
                 self.places_agree(octets)?;
@@ -130,11 +135,14 @@ struct Projection<'a> {
     lacking: u64,
     /// Texts that end before their field does, and null ones, where the older book has the field.
     short_texts: u64,
+    /// Groups and data that are present in an entry of the older book's and that it lacks.
+    added_inside: u64,
 }
 
 impl<'a> Projection<'a> {
     fn of(older: &'a Book, newer: Vec<Record>) -> Projection<'a> {
-        Projection { older, records: newer.into_iter(), known: Vec::new(), lacking: 0, short_texts: 0 }
+        let records = newer.into_iter();
+        Projection { older, records, known: Vec::new(), lacking: 0, short_texts: 0, added_inside: 0 }
     }
 
     /// Passes the record of an element that the older book knows or not; of a field, the older's.
@@ -149,8 +157,8 @@ impl<'a> Projection<'a> {
         record
     }
 
-    /// Passes a block; the older book may have no such block.
-    fn block(&mut self, older: Option<&Block>, newer: &Block) {
+    /// Passes a block, which is the root's or that of an entry; the older book may have no such block.
+    fn block(&mut self, older: Option<&Block>, newer: &Block, inside: bool) {
         for number in 0..newer.fields.len() {
             let field = older.and_then(|block| block.fields.get(number));
             self.pass(field.is_some(), field);
@@ -158,12 +166,17 @@ impl<'a> Projection<'a> {
         for (number, group) in newer.groups.iter().enumerate() {
             let inner = older.and_then(|block| block.groups.get(number)).map(|group| &group.block);
             let [first, entries, _] = self.pass(inner.is_some(), None);
+            let added = inside && older.is_some() && inner.is_none();
+            self.added_inside += u64::from(added && first == GROUP);
             for _ in 0..if first == GROUP { entries } else { 0 } {
-                self.block(inner, &group.block);
+                self.block(inner, &group.block, true);
             }
         }
         for number in 0..newer.data.len() {
-            self.pass(older.map_or(false, |block| number < block.data.len()), None);
+            let known = older.map_or(false, |block| number < block.data.len());
+            let [first, ..] = self.pass(known, None);
+            let added = inside && older.is_some() && !known;
+            self.added_inside += u64::from(added && first == OCTETS);
         }
     }
 }

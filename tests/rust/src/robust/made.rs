@@ -30,7 +30,7 @@ pub fn cases(seed: u64, count: usize) -> Vec<Case> {
 fn message(rng: &mut Rng, book: &Book) -> Asked {
     let mut octets = messages::message(rng, book);
     if rng.chance(75) {
-        octets = damage::message(rng, book.byte_order(), octets);
+        octets = damage::message(rng, book, octets);
     }
     let places = match Message::read(book, &octets) {
         Ok(message) => (0..3).map(|_| places::near(rng, &message)).collect(),

@@ -14,6 +14,7 @@ mod made;
 mod memory;
 mod numbers;
 mod texts;
+mod unknown;
 
 use crate::report::Report;
 use cases::Case;
@@ -41,10 +42,10 @@ pub fn on_the_heap(report: &mut Report, seed: u64, messages: u64) {
     all(report, &mut Desk::of(Heap::empty), "on the heap", seed, messages);
 }
 
-/// The recorded cases, random ones, and texts and numbers at the ends of what is lent.
+/// The recorded cases, random ones, and texts, numbers and what the book does not know at the ends of what is lent.
 fn all<M: Memory>(report: &mut Report, desk: &mut Desk<M>, memory: &str, seed: u64, messages: u64) {
     let random = made::cases(seed, (messages / SHARE) as usize);
-    let at_ends = [("text", texts::cases()), ("number", numbers::cases())];
+    let at_ends = [("text", texts::cases()), ("number", numbers::cases()), ("unknown", unknown::cases())];
     for (what, cases) in [("recorded", cases::recorded()), ("random", random)].into_iter().chain(at_ends) {
         let mut passes = |case: &Case| report.check(desk.ask(case), || format!("{memory}, seed {seed}, {case}"));
         let passed = cases.iter().filter(|case| passes(case)).count();

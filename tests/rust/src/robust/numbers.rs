@@ -1,24 +1,29 @@
-//! Numbers that end where the message does, or the room: of each type and by either byte order.
+//! Numbers that end where the message does, or the room: of each type, by either byte order, and with dimensions of two
+//! numbers and of four.
 
 use super::cases::{Asked, Case};
 use plain::byte_order::{BIG, LITTLE};
+use plain::dimension::{FOUR, TWO};
 use plain::{types::TYPES, Block, Book, Data, Draft, Field, Group, Place, Record, Template};
 
 pub fn cases() -> Vec<Case> {
-    [LITTLE, BIG].iter().flat_map(|&byte_order| of_order(byte_order)).collect()
+    [(LITTLE, TWO), (LITTLE, FOUR), (BIG, TWO), (BIG, FOUR)].iter().flat_map(|&format| of_format(format)).collect()
 }
 
-fn of_order(byte_order: u16) -> Vec<Case> {
+/// Byte order, and numbers of a dimension.
+type Format = (u16, u16);
+
+fn of_format(format: Format) -> Vec<Case> {
     let types = || (0..TYPES.len() as u16).map(number);
     let group = |field| Block { groups: vec![Group { id: 2, since: 0, block: of_field(field) }], ..Block::default() };
     let data = Block { data: vec![Data { id: 3, since: 0 }], ..Block::default() };
-    let root = types().flat_map(|field| both(byte_order, of_field(field), &VALUES.map(|value| vec![value]), &[]));
+    let root = types().flat_map(|field| both(format, of_field(field), &VALUES.map(|value| vec![value]), &[]));
     let entries = types().flat_map(|field| {
         let listings = VALUES.map(|value| vec![[4, 2, 0], [0, 100, 0], value]);
-        both(byte_order, group(field), &listings, &[(0, 1)])
+        both(format, group(field), &listings, &[(0, 1)])
     });
-    let lengths = both(byte_order, data, &[vec![[2, 0, 0]], vec![[2, 0, 1]]], &[]);
-    let dimension = both(byte_order, group(number(0)), &[vec![[4, 0, 0]]], &[]);
+    let lengths = both(format, data, &[vec![[2, 0, 0]], vec![[2, 0, 1]]], &[]);
+    let dimension = both(format, group(number(0)), &[vec![[4, 0, 0]]], &[]);
     root.chain(entries).chain(lengths).chain(dimension).collect()
 }
 
@@ -34,9 +39,9 @@ fn of_field(field: Field) -> Block {
 }
 
 /// Each listing is written, and what comes of it is read, whole and without its last octet, and asked for a field.
-fn both(byte_order: u16, block: Block, listings: &[Vec<Record>], steps: &[(u64, u64)]) -> Vec<Case> {
+fn both((byte_order, dimension): Format, block: Block, listings: &[Vec<Record>], steps: &[(u64, u64)]) -> Vec<Case> {
     let templates = vec![Template { id: 1, block }];
-    let tree = Book { schema: 7, version: 0, byte_order, templates, lists: Vec::new() };
+    let tree = Book { schema: 7, version: 0, byte_order, dimension, templates, lists: Vec::new() };
     let case = |asked| Case { book: tree.octets(), asked };
     let cases = listings.iter().flat_map(|records| {
         let draft = Draft { template: 1, listing: records.concat(), pool: vec![7] };

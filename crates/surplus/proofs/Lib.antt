@@ -1,0 +1,3 @@
+pub mod Dimensions
+pub mod Groups
+pub mod Rows
