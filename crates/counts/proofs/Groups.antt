@@ -1,16 +1,18 @@
 -- A group up to its entries, as the code's tests find it; what follows where it is not refused; and reading it by its
 -- entries.
-use mathlib.Core.Path.{_≡_, _∙_, refl, subst, sym}
+use mathlib.Core.Path.{_≡_, _∙_, ap, refl, subst, sym}
 use mathlib.Core.Bool.{Bool, false, true}
-use mathlib.Core.List.{List}
-use Prim.Native.Nat.{ℕ, _+_, _<_, _≤_}
+use mathlib.Core.List.{List, [], _∷_}
+use Prim.Native.Nat.{ℕ, _+_, _*_, _/_, _%_, _<_, _≤_}
 use native.Mathlib.Omega.{arith}
 use lib.Dec.{eqb, leb, ltb}
-use lib.ListN.{length}
-use borrow.Author.Tests.{eq-eqb, eqb-true, le-leb, leb-true, lt-leb, lt-ltb, ltb-true, ne-eqb}
-use Rattle.layout.specs.Result.{Result, _>>=_, _and_, done, if_then_else_, must, refused}
-use Rattle.layout.specs.Octets.{null16, number16}
+use lib.ListN.{drop, length, take}
+use borrow.Author.Tests.{le-leb, leb-true, lt-leb, lt-ltb, ltb-true, ne-eqb}
+use Rattle.layout.specs.Result.{Each, Result, _>>=_, _and_, done, if_then_else_, must, refused}
+use Rattle.layout.specs.Octets.{inOrder, lowest, null16, number16}
+use Rattle.layout.specs.Writing.{numbers16}
 use Rattle.layout.specs.Book.{Shape, dataSinces, groupSinces, need}
+use Rattle.layout.specs.BookRules.{word}
 use Rattle.layout.specs.Contracts.{refusal}
 use Rattle.layout.specs.Values.{Values}
 use Rattle.layout.specs.Message.{Dimension, countAt, countGood, dimensionSize, readBlock, readDimension, readEntries}
@@ -19,10 +21,14 @@ use Rattle.layout.specs.declared.Answer.{Answer}
 use Rattle.layout.specs.declared.Answer.the-variants.{Group}
 use Rattle.layout.specs.declared.Refusal.{Refusal}
 use Rattle.layout.proofs.Results.{and-left, and-right, inv-bind, inv-both, inv-must}
-use Rattle.prepared.specs.Positions.{BlockAt, innerAt, isBig, manyDatas, manyGroups, shapeAt, versionAt}
+use Rattle.layout.proofs.Stands.{AreAt, length-numbers, numbers-are}
+use Rattle.octets.specs.Spelt.{Spelt}
+use Rattle.number_types.specs.Value.{orderOf}
+use Rattle.prepared.specs.Numbers.{ownCounts}
+use Rattle.prepared.specs.Positions.{BlockAt, IsBlock, innerAt, isBig, manyDatas, manyGroups, shapeAt, versionAt}
 use Rattle.prepared.proofs.Open.{groups-here, length-row}
 use Rattle.counts.proofs.Counts.{length-datas, over-own}
-use Rattle.counts.specs.Groups.{areOwn, coded, countsAt, countsBy, datasIn, groupsIn}
+use Rattle.counts.specs.Groups.{HasOwn, coded, countsAt, countsBy, datasIn, faultIn, groupsIn}
 use Rattle.counts.specs.Groups.{limit, openBy, opened, together}
 use Rattle.counts.specs.Counts.{leftOver}
 use Rattle.counts.specs.declared.Surplus.{Surplus}
@@ -58,24 +64,54 @@ unfolding countsBy leftOver
 counts-told version big m v s groups place at x y ex ey t g d whole og od =
     rw (og, od, ← ex, ← ey, ← whole) (coded-by _ _ _ _ _ place)
 
-pub counts-own : {p : List ℕ} {depth a : ℕ} → BlockAt p depth a → (m : List ℕ) (v at x y : ℕ)
-    → x ≡ number16 (isBig p) m (at + 4) → y ≡ number16 (isBig p) m (at + 4 + 2)
-    → areOwn p a v (record { length = x; entries = y }) ≡ true
+pub counts-own : {p : List ℕ} {depth a : ℕ} → BlockAt p depth a → {m : List ℕ} {v at : ℕ} → HasOwn p a m v at
     → coded (countsAt p depth a m v at) ≡ 0
-unfolding areOwn codeBy
-counts-own {p} {depth} {a} b m v at x y ex ey own =
-    let late = leb-true (versionAt p) v (and-left _ _ own) in
-    let both = and-right _ _ own in
-    let groups : x ≡ manyGroups p a = eqb-true x (manyGroups p a) (and-left _ _ both) in
-    let datas : y ≡ manyDatas p a = eqb-true y (manyDatas p a) (and-right _ _ both) in
+unfolding codeBy
+counts-own {p} {depth} {a} b {m} {v} {at} own =
     let block = b .block in
-    let few : x < null16 = omega (arith, groups, block .fewGroups) in
-    let few′ : y < null16 = omega (arith, datas, block .fewDatas) in
-    counts-told (versionAt p) (isBig p) m v (shapeAt p a) (groupSinces (innerAt p depth a)) at (at + 4) x y ex ey true
-    (Is 0) (Is 0) (unfold _and_ in rw (lt-ltb x null16 few, lt-ltb y null16 few′) refl)
-    (over-own _ _ _ _ (groups-here p v depth _ _ late (b .row) ∙ sym groups)
-    (length-row p depth _ _ (b .row) ∙ sym groups))
-    (over-own _ _ _ _ (block .datasHere v late ∙ sym datas) (length-datas p _ _ ∙ sym datas))
+    let few : number16 (isBig p) m (at + 4) < null16 = omega (arith, own .groups, block .fewGroups) in
+    let few′ : number16 (isBig p) m (at + 4 + 2) < null16 = omega (arith, own .datas, block .fewDatas) in
+    counts-told (versionAt p) (isBig p) m v (shapeAt p a) (groupSinces (innerAt p depth a)) at (at + 4) _ _ refl refl
+    true (Is 0) (Is 0) (unfold _and_ in rw (lt-ltb _ null16 few, lt-ltb _ null16 few′) refl)
+    (over-own _ _ _ _ (groups-here p v depth _ _ (own .late) (b .row) ∙ sym (own .groups))
+    (length-row p depth _ _ (b .row) ∙ sym (own .groups)))
+    (over-own _ _ _ _ (block .datasHere v (own .late) ∙ sym (own .datas)) (length-datas p _ _ ∙ sym (own .datas)))
+
+-- ---- the book's own counts, as they stand
+
+own-octets : (big : Bool) (g d : ℕ) → g ≤ 16 → d ≤ 16
+    → lowest 4 (ownCounts (orderOf big) g d) ≡ numbers16 big (g ∷ d ∷ [])
+unfolding lowest inOrder numbers16 if_then_else_
+own-octets false g d h k =
+    let is : ownCounts (orderOf false) g d ≡ g + 65536 * d = omega arith in
+    let low : (g + 65536 * d) % 256 ≡ g % 256 = omega arith in
+    let rest : (g + 65536 * d) / 256 ≡ 256 * d = omega arith in
+    let none : 256 * d % 256 ≡ g / 256 % 256 = omega arith in
+    let high : 256 * d / 256 ≡ d = omega arith in
+    rw (is, low, rest, none, high) refl
+own-octets true g d h k =
+    let is : ownCounts (orderOf true) g d ≡ 256 * (g + 65536 * d) = omega arith in
+    let least : 256 * (g + 65536 * d) % 256 ≡ g / 256 % 256 = omega arith in
+    let all : 256 * (g + 65536 * d) / 256 ≡ g + 65536 * d = omega arith in
+    let low : (g + 65536 * d) % 256 ≡ g % 256 = omega arith in
+    let rest : (g + 65536 * d) / 256 ≡ 256 * d = omega arith in
+    let none : 256 * d % 256 ≡ d / 256 % 256 = omega arith in
+    let high : 256 * d / 256 ≡ d = omega arith in
+    rw (is, least, all, low, rest, none, high) refl
+
+pub own-there : {p : List ℕ} {a : ℕ} → IsBlock p a → {m : List ℕ} {v at r : ℕ} → versionAt p ≤ v → at + 8 ≤ length m
+    → Spelt 4 m (at + 4) r → r ≡ word p (a + 7) → HasOwn p a m v at
+unfolding AreAt Each
+own-there {p} {a} b {m} {v} {at} {r} late fits s e =
+    let big = isBig p in
+    let xs = manyGroups p a ∷ manyDatas p a ∷ [] in
+    let whole : take 4 (drop (at + 4) m) ≡ numbers16 big xs =
+    sym (s .octets) ∙ ap (lowest 4) (e ∙ b .counts) ∙ own-octets big _ _ (b .fewGroups) (b .fewDatas) in
+    let four : length (numbers16 big xs) ≡ 4 = length-numbers big xs in
+    let are = numbers-are {m = m} {at = at + 4} {to = at + 8} big xs
+    (omega (arith, b .fewGroups), (omega (arith, b .fewDatas), tt))
+    (record { whole = rw four whole; ends = omega (arith, four); fits = fits }) in
+    record { late = late; groups = are .0; datas = are .1 .0 }
 
 -- ---- two numbers as one
 
@@ -291,29 +327,32 @@ module _ (counted : Bool) (version : ℕ) (big : Bool) (m : List ℕ) (v : ℕ) 
           l k at
       told = group-told counted version big m v s groups at l k c el ek ec
 
-      pub counts-not-whole : c ≡ limit + 17 → says ≡ no 17
-      unfolding answer if_then_else_
-      counts-not-whole h = told ∙ rw (le-leb _ (length m) fits, whole, eq-eqb c (limit + 17) h) refl
+      abbrev is : Opened
+      is = Opened.Of (record { length = l; count = k; surplus = c })
 
-      module _ (other : ¬ (c ≡ limit + 17)) where
-        pub too-short : l < need v s → says ≡ no 18
-        unfolding answer if_then_else_
-        too-short h =
-            told ∙ rw (le-leb _ (length m) fits, whole, ne-eqb c (limit + 17) other, lt-leb (need v s) l h) refl
+      faulty : (t u w : Bool) (f : ℕ) → f ≡ (if t then 17 else (if u then (if w then 21 else 0) else 18))
+          → (0 < f → (if t then no 17 else (if u then (if w then no 21 else is) else no 18)) ≡ no f)
+          × (f ≤ 0 → (if t then no 17 else (if u then (if w then no 21 else is) else no 18)) ≡ is)
+      unfolding if_then_else_
+      faulty true u w f e = (λ h. rw e refl, λ h. absurd (omega arith))
+      faulty false false w f e = (λ h. rw e refl, λ h. absurd (omega arith))
+      faulty false true true f e = (λ h. rw e refl, λ h. absurd (omega arith))
+      faulty false true false f e = (λ h. absurd (omega arith), λ h. refl)
 
-        pub counts-wrong : need v s ≤ l → limit ≤ c → says ≡ no 21
-        unfolding answer if_then_else_
-        counts-wrong h g =
+      module _ (f : ℕ) (ef : f ≡ faultIn l (need v s) c) where
+        pub is-refused : 0 < f → says ≡ no f
+        unfolding answer faultIn if_then_else_
+        is-refused h =
             told
-            ∙ rw (le-leb _ (length m) fits, whole, ne-eqb c (limit + 17) other, le-leb (need v s) l h, le-leb limit c g)
-            refl
+            ∙ rw (le-leb _ (length m) fits, whole)
+            (faulty (eqb c (limit + 17)) (leb (need v s) l) (leb limit c) f ef .0 h)
 
-        pub is-open : need v s ≤ l → c < limit → says ≡ Opened.Of (record { length = l; count = k; surplus = c })
-        unfolding answer if_then_else_
-        is-open h g =
+        pub is-open : f ≤ 0 → says ≡ is
+        unfolding answer faultIn if_then_else_
+        is-open h =
             told
-            ∙ rw (le-leb _ (length m) fits, whole, ne-eqb c (limit + 17) other, le-leb (need v s) l h, lt-leb limit c g)
-            refl
+            ∙ rw (le-leb _ (length m) fits, whole)
+            (faulty (eqb c (limit + 17)) (leb (need v s) l) (leb limit c) f ef .1 h)
 
   -- Of a group that was accepted no test fails.
   pub still-open : (e : Entries) → openBy counted version big m v s groups at ≡ done e → (l k c : ℕ)

@@ -2,15 +2,14 @@
 use mathlib.Core.Path.{_≡_}
 use mathlib.Core.Bool.{Bool, true}
 use mathlib.Core.List.{List}
-use Prim.Native.Nat.{ℕ, _+_, _*_, _/_, _%_}
+use Prim.Native.Nat.{ℕ, _+_, _*_, _/_, _%_, _≤_}
 use lib.Dec.{eqb, leb, ltb}
-use Rattle.layout.specs.Result.{Result, _>>=_, _and_, done, must, refused}
+use Rattle.layout.specs.Result.{Result, _>>=_, _and_, done, if_then_else_, must, refused}
 use Rattle.layout.specs.Octets.{null16, number16}
 use Rattle.layout.specs.Book.{Shape, dataSinces, groupSinces, need}
 use Rattle.layout.specs.Contracts.{refusal}
 use Rattle.layout.specs.Message.{countGood, readDimension, surplus}
 use Rattle.prepared.specs.Positions.{innerAt, isBig, isCounted, manyDatas, manyGroups, shapeAt, versionAt}
-use Rattle.wire.specs.declared.Sizes.{Sizes}
 use Rattle.counts.specs.declared.Entries.{Entries}
 use Rattle.counts.specs.declared.Opened.{Opened}
 use Rattle.counts.specs.declared.Opened.the-variants as Opened
@@ -43,14 +42,21 @@ countsBy version big m v s groups place at = do
   done (together (surplus v groups g) (surplus v datas d))
 
 -- They are the book's own for the block at a, at its version or a later one.
-unfoldable pub areOwn : List ℕ → ℕ → ℕ → Sizes → Bool
-areOwn p a v counts =
-    leb (versionAt p) v and eqb (counts .length) (manyGroups p a) and eqb (counts .entries) (manyDatas p a)
+pub record HasOwn (p : List ℕ) (a : ℕ) (m : List ℕ) (v at : ℕ) : Type 0 where
+  pub late : versionAt p ≤ v
+  pub groups : number16 (isBig p) m (at + 4) ≡ manyGroups p a
+  pub datas : number16 (isBig p) m (at + 4 + 2) ≡ manyDatas p a
 
 -- As one number.
 unfoldable pub coded : Result ℕ → ℕ
 coded (done s) = s
 coded (refused n p) = limit + n
+
+-- What is wrong with a group by the surplus c so coded, whose blocks have l octets and are to have `least`; 0 is
+-- nothing.
+unfoldable pub faultIn : ℕ → ℕ → ℕ → ℕ
+faultIn l least c =
+    if eqb c (limit + 17) then 17 else (if leb least l then (if leb limit c then 21 else 0) else 18)
 
 -- ---- the group
 

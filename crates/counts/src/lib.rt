@@ -13,7 +13,8 @@ ghost use Rattle.layout.specs.Contracts.{refusal};
 ghost use Rattle.prepared.specs.Positions.{BlockAt, IsBlock, innerAt, isCounted, shapeAt, versionAt};
 ghost use Rattle.layout.specs.Message.{dimensionSize};
 ghost use Rattle.counts.specs.Counts.{Counts, leftOver};
-ghost use Rattle.counts.specs.Groups.{IsOpen, areOwn, coded, countsAt, datasIn, groupsIn, openAt, opened};
+ghost use Rattle.counts.specs.Groups.{HasOwn, IsOpen, coded, countsAt, datasIn, faultIn};
+ghost use Rattle.counts.specs.Groups.{groupsIn, openAt, opened};
 
 // More than any surplus of groups and data is as one number.
 const LIMIT: usize = 4294967296;
@@ -159,18 +160,16 @@ pub fn datas_in(surplus: usize) -> usize
     surplus % 65536
 }
 
-// Whether these are the book's own counts for the block at a, at its version or a later one: most are.
-fn are_own(p: &[u64], a: usize, v: usize, counts: Sizes) -> bool
-    requires { ⌜ IsBlock (now p) a ⌝ }
-    ensures { λ r. ⌜ r ≡ areOwn (now (p .entry)) a v counts ⌝ }
+// Whether the dimension at `at` has the book's own counts for the block at a, at the book's version or a later one:
+// most have. They are compared as they stand, so that the order is not asked.
+fn has_own(p: &[u64], a: usize, m: &[u8], v: usize, at: usize) -> bool
+    requires { ⌜ IsBlock (now p) a × (at + 8 ≤ length (now m)) ⌝ }
+    ensures { λ r. ⌜ (r ≡ true → HasOwn (now (p .entry)) a (now (m .entry)) v at) ⌝ }
 {
     if v < number(p, 1) {
         return false;
     }
-    if counts.length == number(p, a + 4) {
-        return counts.entries == number(p, a + 5);
-    }
-    false
+    wire::octets_at(m, at + 4) == number(p, a + 7)
 }
 
 // What the counts of the dimension at `at` say of the group whose block is at a, as one number: how many groups and
@@ -181,9 +180,6 @@ fn surplus_at(p: &&[u64], a: usize, depth: usize, m: &&[u8], v: usize, at: usize
 {
     let s = *p;
     let counts = wire::sizes_at(prepared::is_big(s), *m, at + 4);
-    if are_own(s, a, v, counts) {
-        return 0;
-    }
     if !wire::are_whole(counts) {
         return LIMIT + 17;
     }
@@ -203,8 +199,29 @@ fn surplus_in(p: &&[u64], a: usize, depth: usize, m: &&[u8], v: usize, at: usize
     ensures { λ r. ⌜ r ≡ (if isCounted (now (now (p .entry))) then coded (countsAt (now (now (p .entry))) depth a
         (now (now (m .entry))) v at) else 0) ⌝ }
 {
-    if prepared::is_counted(*p) {
-        return surplus_at(p, a, depth, m, v, at);
+    let s = *p;
+    if !prepared::is_counted(s) {
+        return 0;
+    }
+    if has_own(s, a, *m, v, at) {
+        return 0;
+    }
+    surplus_at(p, a, depth, m, v, at)
+}
+
+// What is wrong with a group whose blocks have l octets and are to have `least`, by the one number for its surplus: 17,
+// 18 or 21, or 0 for nothing.
+fn fault_in(l: usize, least: usize, surplus: usize) -> u8
+    ensures { λ r. ⌜ r ≡ faultIn l least surplus ⌝ }
+{
+    if surplus == LIMIT + 17 {
+        return 17;
+    }
+    if l < least {
+        return 18;
+    }
+    if LIMIT <= surplus {
+        return 21;
     }
     0
 }
@@ -234,14 +251,9 @@ pub fn open_group(
         return refuse(17, at);
     }
     let surplus = surplus_in(p, a, depth, m, v, at);
-    if surplus == LIMIT + 17 {
-        return refuse(17, at);
-    }
-    if sizes.length < least {
-        return refuse(18, at);
-    }
-    if LIMIT <= surplus {
-        return refuse(21, at);
+    let fault = fault_in(sizes.length, least, surplus);
+    if 0 < fault {
+        return refuse(fault, at);
     }
     Opened::Of(Entries {
         length: sizes.length,
@@ -260,8 +272,10 @@ pub fn entries_of(p: &&[u64], a: usize, depth: usize, m: &&[u8], v: usize, at: u
     let sizes = wire::sizes_at(prepared::is_big(s), *m, at);
     let mut surplus = 0;
     if prepared::is_counted(s) {
-        // A second caller of surplus_at: so surplus_in's test is joined to its callers, and not surplus_at to it.
-        surplus = surplus_at(p, a, depth, m, v, at);
+        if !has_own(s, a, *m, v, at) {
+            // A second caller of surplus_at: so surplus_in's tests are joined to its callers, and not surplus_at to it.
+            surplus = surplus_at(p, a, depth, m, v, at);
+        }
     }
     Entries {
         length: sizes.length,

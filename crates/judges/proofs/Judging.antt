@@ -32,7 +32,7 @@ use Rattle.prepared.specs.Numbers.{spread}
 use Rattle.prepared.specs.Names.{listsAt}
 use Rattle.prepared.specs.Positions.{IsBlock, datasFrom, fieldAt, groupsFrom, innerAt, isCounted, manyDatas}
 use Rattle.prepared.specs.Positions.{manyGroups, shapeAt}
-use Rattle.prepared.proofs.Open.{no-datas-at, no-groups-at}
+use Rattle.prepared.proofs.Open.{no-datas-at, no-groups-at, some-follow}
 use Rattle.prepared.proofs.Ranges.{in-range}
 use Rattle.judges.specs.Judges.{capped, datasEnd, fieldEnd, fieldsEnd, judged, listingEnd}
 use Rattle.judges.specs.Judges.{limit, octetsEnd, rowEnd}
@@ -453,8 +453,8 @@ pub plain-next : (p : List ℕ) (depth a : ℕ) (l pool : List ℕ) (all seen k 
     → lastAt p depth a l pool all seen k i ≡ lastAt p depth a l pool all seen (k - 1) x
 plain-next p depth a l pool all seen k i x u follow b w z h m c e =
     entry-plain (isCounted p) l pool (shapeAt p a) (innerAt p depth a) all seen k i h x u e
-    (no-groups-at p depth (manyGroups p a) (groupsFrom p a) (omega (arith, b .follow, w, z)))
-    (no-datas-at p (manyDatas p a) (datasFrom p a) (omega (arith, b .follow, w, z)))
+    (no-groups-at p depth (manyGroups p a) (groupsFrom p a) (omega (arith, some-follow b, w, z)))
+    (no-datas-at p (manyDatas p a) (datasFrom p a) (omega (arith, some-follow b, w, z)))
     m c
 
 -- The octets of k blocks are a number of the machine's.

@@ -16,7 +16,7 @@ use Rattle.layout.specs.Values.{Values, measure}
 use Rattle.layout.specs.declared.Refusal.{Refusal}
 use Rattle.prepared.specs.Positions.{BlockAt, IsBlock, manyDatas, datasFrom, manyFields, manyGroups, groupsFrom}
 use Rattle.prepared.specs.Positions.{innerAt, isBig, isCounted, shapeAt, versionAt}
-use Rattle.prepared.proofs.Open.{no-datas-at, no-groups-at}
+use Rattle.prepared.proofs.Open.{no-datas-at, no-groups-at, some-follow}
 use Rattle.wire.specs.Walks.{walked}
 use Rattle.wire.specs.declared.Walked as Walked
 use Rattle.wire.specs.declared.Walked.{Walked}
@@ -361,9 +361,9 @@ plain-sought p depth a m v path i k start follow b w z fit q =
     let walks = plain-walked p depth a m v k start (manyFields p a) follow b refl w z fit .0 in
     let e = word path (i + 1) in
     let spot = plain-spot p m v (shapeAt p a) (innerAt p depth a) depth (k .length)
-    (no-groups-at p depth (manyGroups p a) (groupsFrom p a) (omega (arith, b .follow, w, z)))
-    (no-datas-at p (manyDatas p a) (datasFrom p a) (omega (arith, b .follow, w, z))) path (i + 2) q (k .count) e start
-    fit in
+    (no-groups-at p depth (manyGroups p a) (groupsFrom p a) (omega (arith, some-follow b, w, z)))
+    (no-datas-at p (manyDatas p a) (datasFrom p a) (omega (arith, some-follow b, w, z))) path (i + 2) q (k .count) e
+    start fit in
     let g : groupsIn (k .surplus) ≡ 0 = omega arith in
     let d : datasIn (k .surplus) ≡ 0 = omega arith in
     rw (g, d) (rw spot (sym (told-found 0 _ _)

@@ -19,7 +19,7 @@ use Rattle.layout.specs.BookRules.{fieldAt, parseDatas, parseFields, word}
 use Rattle.layout.proofs.Results.{either}
 use Rattle.layout.proofs.TypeLaws.{each-type}
 use Rattle.number_types.specs.Value.{orderOf}
-use Rattle.prepared.specs.Numbers.{blockOf, blockSize, datasOf, fieldsOf, placeOf, spread, tableOf}
+use Rattle.prepared.specs.Numbers.{blockOf, blockSize, datasOf, fieldsOf, ownCounts, placeOf, spread, tableOf}
 use Rattle.prepared.proofs.Accepted.{datas-length, fields-length}
 use Rattle.prepared.proofs.Prepared.{length-table}
 use Rattle.prepare.specs.Positions.{manyDatas, elementsAt, manyFields, manyGroups, headAt, shapeAt}
@@ -113,14 +113,20 @@ no-fields ls b f (suc left) h = absurd (omega arith)
 
 -- ---- a block's numbers
 
+pub counts-fit : (order g d : ℕ) → order ≤ 1 → g < 65536 → d < 65536 → ownCounts order g d < 2 ^ 64
+counts-fit zero g d h k l = omega arith
+counts-fit (suc zero) g d h k l = omega arith
+counts-fit (suc (suc order)) g d h k l = absurd (omega arith)
+
 -- The block at word w of the octets s, its head stored by sixes, of the length l and the counts f, g and d.
-pub head-stored : (s : List ℕ) (w id since need next at l f g d : ℕ) (d₀ d₁ d₂ : List ℕ) → l ≡ word (wordsOf s) w
+pub head-stored : (s : List ℕ) (w id since need order next at l f g d : ℕ) (d₀ d₁ d₂ : List ℕ)
+    → l ≡ word (wordsOf s) w
     → f ≡ manyFields s w → g ≡ manyGroups s w → d ≡ manyDatas s w
     → d₁ ≡ sets d₀ at (id ∷ since ∷ l ∷ f ∷ g ∷ d ∷ [])
-    → d₂ ≡ sets d₁ (at + 6) (need ∷ (g + d) ∷ next ∷ (at + 12 + 7 * f + 2 * d + 6 * f) ∷ (at + 12 + 7 * f)
+    → d₂ ≡ sets d₁ (at + 6) (need ∷ ownCounts order g d ∷ next ∷ (at + 12 + 7 * f + 2 * d + 6 * f) ∷ (at + 12 + 7 * f)
     ∷ (at + 12 + 7 * f + 2 * d) ∷ [])
-    → d₂ ≡ sets d₀ at (headAt s w id since need next at)
-head-stored s w id since need next at l f g d d₀ d₁ d₂ el ef eg ed p q =
+    → d₂ ≡ sets d₀ at (headAt s w id since need order next at)
+head-stored s w id since need order next at l f g d d₀ d₁ d₂ el ef eg ed p q =
     let n : at + 12 + 7 * f + 2 * d + 6 * f ≡ at + sizeAt s w = omega arith in
     q ∙ rw (p, n, el, ef, eg, ed) (simp towards-suc)
 
@@ -150,7 +156,7 @@ module _ (ls : List NameList) (s : List ℕ) (w : ℕ) where
 
     pub block-is : (version id since need next at : ℕ) → need ≡ needOf version (shapeAt ls s w)
         → blockOf ls from big version id since (shapeAt ls s w) (manyGroups s w) next at
-        ≡ headAt s w id since need next at ++ elementsAt ls s w from big
+        ≡ headAt s w id since need (orderOf big) next at ++ elementsAt ls s w from big
     block-is version id since need next at en =
         let f = manyFields s w in
         let d = manyDatas s w in

@@ -11,6 +11,7 @@ use Rattle.layout.specs.Octets.{wordsOf}
 use Rattle.layout.specs.Lists.{NameList}
 use Rattle.layout.specs.Book.{Groups, Shape, groupSinces, more, need as needOf, none}
 use Rattle.layout.specs.BookRules.{word}
+use Rattle.number_types.specs.Value.{orderOf}
 use Rattle.prepared.specs.Numbers.{blockOf, blockSize, count, groupsOf, groupsSize}
 use Rattle.prepared.proofs.Prepared.{length-groups}
 use Rattle.prepare.specs.Positions.{BlockAt, IsRow, Opened, elementsAt, groupAt, manyGroups, groupSize, groupsAt}
@@ -173,12 +174,12 @@ module _ (ls : List NameList) (from : ℕ) (big : Bool) (version : ℕ) where
     pub group-stored : (id since need next at : ℕ) (d d₁ d₂ d₃ : List ℕ) → need ≡ needOf version (shapeAt ls s w)
         → next ≡ at + groupSize s depth w → d₁ ≡ sets d (at + 12) (elementsAt ls s w from big)
         → d₂ ≡ sets d₁ (at + sizeAt s w) (groupsOf ls from big version (innerAt ls s depth w) (at + sizeAt s w))
-        → d₃ ≡ sets d₂ at (headAt s w id since need next at)
+        → d₃ ≡ sets d₂ at (headAt s w id since need (orderOf big) next at)
         → d₃ ≡ sets d at (groupsOf ls from big version (groupAt ls s depth w id since) at)
     unfolding groupsOf
     group-stored id since need next at d d₁ d₂ d₃ en ex p q r =
         let x = at + sizeAt s w in
-        let head = headAt s w id since need next at in
+        let head = headAt s w id since need (orderOf big) next at in
         let elements = elementsAt ls s w from big in
         let inner = groupsOf ls from big version (innerAt ls s depth w) x in
         let long : at + 12 + length elements ≡ x = omega (arith, elements-long ls s w from big) in

@@ -10,7 +10,7 @@ use Rattle.layout.specs.Types.{typeAt}
 use Rattle.layout.specs.Book.{Groups, Shape, more, none}
 use Rattle.layout.specs.BookRules.{word, parseDatas, parseFields}
 use Rattle.layout.specs.Lists.{NameList}
-use Rattle.prepared.specs.Numbers.{groupsSize, spread, tableOf}
+use Rattle.prepared.specs.Numbers.{groupsSize, ownCounts, spread, tableOf}
 
 -- What is worked out of a field of the type t with this order, whose list is at `place`.
 abbrev pub worked : ℕ → ℕ → ℕ → List ℕ
@@ -41,10 +41,11 @@ module _ (s : List ℕ) (w : ℕ) where
   abbrev pub sizeAt : ℕ
   sizeAt = 12 + 13 * manyFields + 2 * manyDatas
 
-  abbrev pub headAt : ℕ → ℕ → ℕ → ℕ → ℕ → List ℕ
-  headAt id since need next at =
-      id ∷ since ∷ word (wordsOf s) w ∷ manyFields ∷ manyGroups ∷ manyDatas ∷ need ∷ (manyGroups + manyDatas) ∷ next
-      ∷ (at + sizeAt) ∷ (at + 12 + 7 * manyFields) ∷ (at + 12 + 7 * manyFields + 2 * manyDatas) ∷ []
+  abbrev pub headAt : ℕ → ℕ → ℕ → ℕ → ℕ → ℕ → List ℕ
+  headAt id since need order next at =
+      id ∷ since ∷ word (wordsOf s) w ∷ manyFields ∷ manyGroups ∷ manyDatas ∷ need
+      ∷ ownCounts order manyGroups manyDatas ∷ next ∷ (at + sizeAt) ∷ (at + 12 + 7 * manyFields)
+      ∷ (at + 12 + 7 * manyFields + 2 * manyDatas) ∷ []
 
 -- The shape of the block at word w, and its elements' numbers, the first list standing at `from` and `big` being the
 -- order of the book's messages.

@@ -194,12 +194,13 @@ fn put_head(
     id: usize,
     since: usize,
     need: usize,
+    order: usize,
     next: usize,
     room: &mut [u64],
     at: usize,
 )
-    requires { ⌜ (groupsFrom (now body) w ≤ length (now body) / 2) × (at + 12 ≤ length (now room)) ⌝ }
-    ensures { λ _. ⌜ now (room .exit) ≡ sets (now (room .entry)) at (headAt (now (body .entry)) w id since need
+    requires { ⌜ (groupsFrom (now body) w ≤ length (now body) / 2) × (order ≤ 1) × (at + 12 ≤ length (now room)) ⌝ }
+    ensures { λ _. ⌜ now (room .exit) ≡ sets (now (room .entry)) at (headAt (now (body .entry)) w id since need order
         next at) ⌝ }
 {
     let l = book::word(body, w);
@@ -208,8 +209,18 @@ fn put_head(
     let d = book::word(body, w + 3);
     let datas = at + 12 + 7 * f;
     let table = datas + 2 * d;
+    let counts = (255 * order + 1) * (g + 65536 * d);
     put_six(room, at, id, since, l, f, g, d);
-    put_six(room, at + 6, need, g + d, next, table + 6 * f, datas, table);
+    put_six(
+        room,
+        at + 6,
+        need,
+        counts,
+        next,
+        table + 6 * f,
+        datas,
+        table,
+    );
 }
 
 // Does nothing. Its contract is a law: what the first of the n groups at word w is good for.
@@ -249,7 +260,7 @@ fn put_group(
         x = r.word;
         left = left - 1;
     }
-    put_head(body, w, id, since, need, to, room, at);
+    put_head(body, w, id, since, need, order_of(book), to, room, at);
     Ends { word: x, at: to }
 }
 

@@ -1,20 +1,34 @@
 -- What a pass over prepared numbers cites instead of a check.
 use mathlib.Core.Path.{_≡_, refl}
+use mathlib.Core.Bool.{Bool, false, true}
 use mathlib.Core.List.{List, []}
-use Prim.Native.Nat.{ℕ, zero, suc, _+_, _-_, _*_, _≤_, _<_}
+use Prim.Native.Nat.{ℕ, zero, suc, _+_, _-_, _*_, _^_, _≤_, _<_}
 use native.Mathlib.Omega.{arith}
 use lib.ListN.{length}
 use borrow.Author.Tests.{le-leb}
 use Rattle.layout.specs.Result.{if_then_else_}
 use Rattle.layout.specs.Book.{groupSinces, none, present}
 use Rattle.layout.specs.BookRules.{parseDatas, word}
-use Rattle.prepared.specs.Positions.{IsBlock, IsField, IsRow, Opened, fieldsFrom, groupsAt, manyFields}
-use Rattle.prepared.specs.Positions.{nextFrom, tableFrom, versionAt}
+use Rattle.number_types.specs.Value.{orderOf}
+use Rattle.prepared.specs.Numbers.{ownCounts}
+use Rattle.prepared.specs.Positions.{IsBlock, IsField, IsRow, Opened, fieldsFrom, groupsAt, isBig, manyDatas}
+use Rattle.prepared.specs.Positions.{manyFields, manyGroups, nextFrom, tableFrom, versionAt}
 use Rattle.layout.proofs.Results.{none-left}
 
 -- Where a block stands, the numbers before the slots do.
 pub head-there : {p : List ℕ} {a : ℕ} → IsBlock p a → 5 < length p
 head-there b = omega (arith, b .fieldsFit)
+
+-- The counts of a block are 0 only if nothing follows it.
+counts-bound : (big : Bool) (g d : ℕ) → g ≤ 16 → d ≤ 16
+    → (g + d ≤ ownCounts (orderOf big) g d) × (ownCounts (orderOf big) g d < 2 ^ 32)
+unfolding if_then_else_
+counts-bound false g d h k = (omega arith, omega arith)
+counts-bound true g d h k = (omega arith, omega arith)
+
+pub some-follow : {p : List ℕ} {a : ℕ} → IsBlock p a
+    → (manyGroups p a + manyDatas p a ≤ word p (a + 7)) × (word p (a + 7) < 2 ^ 32)
+some-follow {p} b = rw (b .counts) (counts-bound (isBig p) _ _ (b .fewGroups) (b .fewDatas))
 
 -- No groups are no tree.
 pub no-groups-at : (p : List ℕ) (depth n a : ℕ) → n ≤ 0 → groupsAt p depth n a ≡ none

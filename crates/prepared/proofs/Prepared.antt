@@ -17,9 +17,10 @@ use Rattle.layout.proofs.Fields.{field-good}
 use Rattle.layout.proofs.Present.{present-up}
 use Rattle.layout.proofs.Results.{and-left, and-right}
 use Rattle.layout.proofs.Stands.{Stands, split-to}
+use Rattle.number_types.specs.Value.{orderOf}
 use Rattle.prepared.specs.Numbers.{blockOf, blockSize, contentsOf, count, datasOf, fieldsOf, groupsOf, groupsSize}
 use Rattle.prepared.specs.Numbers.{bodiesOf, listsFrom, listsNumbers, listsSize, placeOf, preparedOf, rowOf}
-use Rattle.prepared.specs.Numbers.{sizesOf, slotsOf, tableOf}
+use Rattle.prepared.specs.Numbers.{ownCounts, sizesOf, slotsOf, tableOf}
 use Rattle.prepared.specs.Names.{HasNames, listsAt}
 use Rattle.prepared.specs.Positions.{Derived, IsBlock, IsRow, Sized, fieldAt, groupsAt, isBig, shapeAt, versionAt}
 use Rattle.prepared.specs.Fits.{Fits, FitsShape, IsNamed}
@@ -248,8 +249,9 @@ module _ (p : List ℕ) (short : length p ≤ 65535) (sized : Sized p) (from : �
 
       abbrev head : List ℕ
       head =
-          i ∷ since ∷ s .length ∷ fields ∷ count inner ∷ datas ∷ need (versionAt p) s ∷ (count inner + datas) ∷ next
-          ∷ (at + blockSize s) ∷ (at + 12 + 7 * fields) ∷ (at + 12 + 7 * fields + 2 * datas) ∷ []
+          i ∷ since ∷ s .length ∷ fields ∷ count inner ∷ datas ∷ need (versionAt p) s
+          ∷ ownCounts (orderOf (isBig p)) (count inner) datas ∷ next ∷ (at + blockSize s) ∷ (at + 12 + 7 * fields)
+          ∷ (at + 12 + 7 * fields + 2 * datas) ∷ []
 
       abbrev tables : List ℕ
       tables = datasOf (s .datas) ++ table p from leads (s .fields)
@@ -305,7 +307,7 @@ module _ (p : List ℕ) (short : length p ≤ 65535) (sized : Sized p) (from : �
                 head-is 6 (omega arith)
                 ∙ need-up (versionAt p) v 0 (s .fields) (rising-up _ _ _ _ (le-refl _) (fits .sinces)) h
                 ∙ ap (λ (z : Shape). need v z) (sym shape-is);
-            follow = rw (head-is 7 (omega arith), head-is 4 (omega arith), head-is 5 (omega arith)) refl;
+            counts = rw (head-is 7 (omega arith), head-is 4 (omega arith), head-is 5 (omega arith)) refl;
             derived = λ j h.
                 subst (λ (z : ℕ). Derived p (z + 6 * j) (fieldAt p (at + 12 + 7 * j))) (sym (head-is 11 (omega arith)))
                 (table-stands p from leads (s .fields) (s .length) 0 (at + 12) _ _ _ (fits .named)

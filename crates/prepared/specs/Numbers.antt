@@ -70,19 +70,25 @@ tableOf ls from big (f ∷ fs) =
 abbrev pub count : Groups → ℕ
 count gs = length (groupSinces gs)
 
+-- What a dimension has behind its first two numbers where it counts g groups and d data, neither above 255: four
+-- octets, taken as one number, the least significant octet first.
+abbrev pub ownCounts : ℕ → ℕ → ℕ → ℕ
+ownCounts order g d = (255 * order + 1) * (g + 65536 * d)
+
 -- How many numbers a block has without its groups.
 abbrev pub blockSize : Shape → ℕ
 blockSize s = 12 + 7 * length (s .fields) + 2 * length (s .datas) + 6 * length (s .fields)
 
 -- A block at `at` with g groups: id, since, declared length; counts of fields, groups and data; the need at the book's
--- version; how many groups and data follow its octets; the places after it and its groups, of its groups, of its data
--- and of its fields' table. Then its fields, its data, and the table.
+-- version; the counts of its groups and data as they stand in a dimension, 0 if nothing follows its octets; the places
+-- after it and its groups, of its groups, of its data and of its fields' table. Then its fields, its data, and the
+-- table.
 abbrev pub blockOf : List NameList → ℕ → Bool → ℕ → ℕ → ℕ → Shape → ℕ → ℕ → ℕ → List ℕ
 blockOf ls from big version id since s g next at =
     let f = length (s .fields) in
     let d = length (s .datas) in
-    (id ∷ since ∷ s .length ∷ f ∷ g ∷ d ∷ need version s ∷ (g + d) ∷ next ∷ (at + blockSize s) ∷ (at + 12 + 7 * f)
-    ∷ (at + 12 + 7 * f + 2 * d) ∷ [])
+    (id ∷ since ∷ s .length ∷ f ∷ g ∷ d ∷ need version s ∷ ownCounts (orderOf big) g d ∷ next ∷ (at + blockSize s)
+    ∷ (at + 12 + 7 * f) ∷ (at + 12 + 7 * f + 2 * d) ∷ [])
     ++ (fieldsOf (s .fields) ++ (datasOf (s .datas) ++ tableOf ls from big (s .fields)))
 
 unfoldable pub groupsSize : Groups → ℕ

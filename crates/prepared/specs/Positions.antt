@@ -10,9 +10,9 @@ use Rattle.layout.specs.Types.{typeAt}
 use Rattle.layout.specs.Book.{Field, Shape, Groups, none, more, dataSinces, need, present}
 use Rattle.layout.specs.BookRules.{word, fieldAt as fieldBy, parseFields, parseDatas, shapeGood}
 use Rattle.layout.specs.Message.{dimensionSize}
-use Rattle.number_types.specs.Value.{coded}
+use Rattle.number_types.specs.Value.{coded, orderOf}
 use Rattle.prepared.specs.Names.{HasNames, listsAt}
-use Rattle.prepared.specs.Numbers.{spread as spreadOf}
+use Rattle.prepared.specs.Numbers.{ownCounts, spread as spreadOf}
 
 -- The book's version.
 abbrev pub versionAt : List ℕ → ℕ
@@ -92,7 +92,7 @@ module _ (p : List ℕ) (a : ℕ) where
     pub rising : (i j : ℕ) → i ≤ j → j < manyFields → word p (fieldsFrom + 7 * i + 5) ≤ word p (fieldsFrom + 7 * j + 5)
     pub datasHere : (v : ℕ) → versionAt p ≤ v → present v (dataSinces (shapeAt .datas)) ≡ manyDatas
     pub needs : (v : ℕ) → versionAt p ≤ v → word p (a + 6) ≡ need v shapeAt
-    pub follow : word p (a + 7) ≡ manyGroups + manyDatas
+    pub counts : word p (a + 7) ≡ ownCounts (orderOf (isBig p)) manyGroups manyDatas
     pub derived : (i : ℕ) → i < manyFields → Derived p (tableFrom + 6 * i) (fieldAt p (fieldsFrom + 7 * i))
 
 -- The n groups in a row at a, `depth` more levels being left.

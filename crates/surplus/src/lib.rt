@@ -135,7 +135,7 @@ fn skip_entries(
         if m.len() - x < sizes.length {
             return wire::refuse(16, place);
         }
-        let groups = skip_row(counted, big, m, levels, sizes.groups, x + sizes.length);
+        let groups = skip_groups(counted, big, m, levels, sizes.groups, x + sizes.length);
         let Walked::To { next, .. } = groups else {
             return groups;
         };
@@ -189,7 +189,7 @@ fn skip_group(counted: bool, big: bool, m: &[u8], levels: usize, at: usize) -> W
 }
 
 // n surplus groups.
-fn skip_row(counted: bool, big: bool, m: &[u8], levels: usize, n: usize, at: usize) -> Walked
+pub fn skip_row(counted: bool, big: bool, m: &[u8], levels: usize, n: usize, at: usize) -> Walked
     requires { ⌜ at ≤ length (now m) ⌝ }
     ensures { λ r. ⌜ r ≡ walked skipEnd (inRow n (skipGroup counted big (now (m .entry)) levels) at) ⌝ }
     ensures { λ r. ⌜ Inside (length (now (m .entry))) at r ⌝ }

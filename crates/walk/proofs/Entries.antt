@@ -20,7 +20,7 @@ use Rattle.prepared.specs.Names.{listsAt}
 use Rattle.prepared.specs.Positions.{IsBlock, manyDatas, datasFrom, manyFields, fieldsFrom, manyGroups, groupsFrom}
 use Rattle.prepared.specs.Positions.{innerAt, isBig, shapeAt}
 use Rattle.prepared.proofs.Accepted.{fields-length}
-use Rattle.prepared.proofs.Open.{no-datas-at, no-groups-at}
+use Rattle.prepared.proofs.Open.{no-datas-at, no-groups-at, some-follow}
 use Rattle.wire.specs.Walks.{walked}
 use Rattle.wire.specs.declared.Walked.the-variants.{To, Refused}
 use Rattle.wire.proofs.Answers.{refused-on}
@@ -127,6 +127,6 @@ plain-walked p depth a m v e start fields follow b f w z h =
     let g : groupsIn (e .surplus) ≡ 0 = omega arith in
     let d : datasIn (e .surplus) ≡ 0 = omega arith in
     let walk = plain-entries p m v s depth (e .length) (innerAt p depth a)
-    (no-groups-at p depth (manyGroups p a) (groupsFrom p a) (omega (arith, b .follow, w, z)))
-    (no-datas-at p (manyDatas p a) (datasFrom p a) (omega (arith, b .follow, w, z))) (e .count) 0 start h in
+    (no-groups-at p depth (manyGroups p a) (groupsFrom p a) (omega (arith, some-follow b, w, z)))
+    (no-datas-at p (manyDatas p a) (datasFrom p a) (omega (arith, some-follow b, w, z))) (e .count) 0 start h in
     (rw (q, zero-plus, g, d) (sym walk), (omega arith, h, omega (arith, few)))

@@ -8,6 +8,7 @@ ghost use lib.ListN.{length};
 ghost use Rattle.layout.specs.Contracts.{refusal};
 ghost use Rattle.layout.specs.Message.{readData};
 ghost use Rattle.layout.specs.Result.{_and_};
+ghost use Rattle.octets.specs.Spelt.{Spelt};
 ghost use Rattle.ordered.specs.Order.{SpeltBy};
 ghost use Rattle.wire.specs.Walks.{walked, dataEnd, Inside};
 ghost use Rattle.wire.specs.Headers.{ChecksHeader, IsHeader};
@@ -95,6 +96,14 @@ pub fn sizes_at(big: bool, m: &[u8], at: usize) -> Sizes
         return sizes_in(true, m, at);
     }
     sizes_in(false, m, at)
+}
+
+// The same two numbers as one, the least significant octet first, whatever the order: to be compared as they stand.
+pub fn octets_at(m: &[u8], at: usize) -> usize
+    requires { ⌜ at + 4 ≤ length (now m) ⌝ }
+    ensures { λ r. ⌜ Spelt 4 (now (m .entry)) at r ⌝ }
+{
+    octets::get4(m, at) as usize
 }
 
 // Whether neither is 65535.

@@ -25,7 +25,7 @@ pub struct Cursor {
 }
 
 // What is read once of a block for all its entries: its octets, its fields, where what is worked out of them stands,
-// and how many groups and data follow.
+// and the counts of what follows.
 pub struct Head {
     pub length: usize,
     pub fields: usize,

@@ -11,7 +11,7 @@ use borrow.Fn.PlainCycle.{Measures, is, falls, and}
 use lib.ListN.{length}
 use Rattle.layout.specs.BookRules.{word}
 use Rattle.prepared.specs.Positions.{BlockAt, isBig}
-use Rattle.prepared.proofs.Open.{head-there}
+use Rattle.prepared.proofs.Open.{head-there, some-follow}
 use Rattle.prepared.proofs.number.Reads as number-reads
 use Rattle.prepared.proofs.dimension_size.Reads as dimension-size-reads
 use Rattle.prepared.proofs.is_big.Reads as is-big-reads
@@ -491,14 +491,7 @@ module _ (t : ℕ) where
   entries-add-if1 c =
       let start = c .before .before .before .before .before .before in
       let block = start .pre .1 .0 .block in
-      omega (
-        arith,
-        c .before .number2 .ensures,
-        block .follow,
-        block .fewGroups,
-        block .fewDatas,
-        start .pre .1 .2 .less,
-      )
+      omega (arith, c .before .number2 .ensures, some-follow block, start .pre .1 .2 .less)
 
   entries-mul-if2 : entries-Need entries-lts.Need-mul-if2
   entries-mul-if2 c =

@@ -11,10 +11,12 @@ use Rattle.layout.specs.Book.{need as needOf}
 use Rattle.prepare.specs.Names.{GoodLists, bigIn, fromIn, listsIn, versionOf}
 use Rattle.prepare.specs.Positions.{BlockAt, shapeAt}
 use Rattle.book.proofs.word.Reads as word-reads
+use Rattle.prepare.proofs.Blocks.{order-few}
 use Rattle.prepare.proofs.Rows.{Storing, end-is, first-fits, group-stored, groups-stored, next-is, storing-on}
 use Rattle.prepare.proofs.Rows.{storing-starts}
 use Rattle.prepare.proofs.groups_from.Reads as groups-from-reads
 use Rattle.prepare.proofs.open_row.Reads as open-row-reads
+use Rattle.prepare.proofs.order_of.Reads as order-of-reads
 use Rattle.prepare.proofs.put_elements.Reads as put-elements-reads
 use Rattle.prepare.proofs.put_head.Reads as put-head-reads
 use Rattle.prepare.proofs.size_block.Reads as size-block-reads
@@ -57,6 +59,8 @@ module _ (t : ℕ) where
     open-row-reads.Learnt,
     below,
     reads.Post,
+    order-of-reads.Asked,
+    order-of-reads.Learnt,
     put-head-reads.Asked,
     put-head-reads.Learnt,
   )
@@ -104,13 +108,17 @@ module _ (t : ℕ) where
 
   put-head-requires : Need lts.Need-put-head-requires
   put-head-requires c κs =
-      let inv = c .before .before .loop .inv in
-      (inv .0 .fits, omega (arith, inv .2 .fits, inv .2 .filling .long))
+      let inv = c .before .before .before .loop .inv in (
+        inv .0 .fits,
+        rw (c .before .order-of .ensures) (order-few _),
+        omega (arith, inv .2 .fits, inv .2 .filling .long),
+      )
 
   returns : Need lts.Need-returns
   returns c =
       let head = c .before .before in
-      let none = head .before .before in
+      let order = head .before .before in
+      let none = order .before in
       let l = none .before in
       let inv = l .loop .inv in
       let elements = l .before .before .before .before .before .before in
@@ -119,7 +127,7 @@ module _ (t : ℕ) where
         (end-is _ _ _ _ (inv .2) (none .loop-test .left), next),
         group-stored _ _ _ _ _ _ _ (inv .0) _ _ _ _ _ (start .args .room .now) _ _ _ (inv .1) next
             (elements .put-elements .ensures .1) (groups-stored _ _ _ _ (inv .2) (none .loop-test .left))
-            (head .put-head .ensures),
+            (rw (order .order-of .ensures) at (head .put-head .ensures)),
       )
 
 pub +put-group-spec : {M : Type 1} → statement M
@@ -149,6 +157,7 @@ pub +put-group-spec : {M : Type 1} → statement M
     (λ c. omega arith)
     (λ c. omega arith)
     (loop-again t)
+    (λ c κs. c .before .loop .inv .3)
     (put-head-requires t)
     (λ c. rw length-sets at (ap length (returns t c .1)))
     (returns t))

@@ -11,7 +11,7 @@ use Rattle.layout.specs.Book.{need}
 use Rattle.layout.specs.BookRules.{word}
 use Rattle.layout.proofs.Results.{and-right}
 use Rattle.prepared.specs.Positions.{BlockAt, IsRow, Sized, groupsAt, innerAt, nextFrom, shapeAt}
-use Rattle.prepared.proofs.Open.{head-there, no-datas-at, no-groups-at}
+use Rattle.prepared.proofs.Open.{head-there, no-datas-at, no-groups-at, some-follow}
 use Rattle.prepared.proofs.dimension_size.Reads as dimension-size-reads
 use Rattle.prepared.proofs.number.Reads as number-reads
 use Rattle.prepared.proofs.open_row.Reads as open-row-reads
@@ -97,6 +97,12 @@ module _ (t : ℕ) where
       → entries-lts.InvT-loop → entries-lts.MeasureT-loop → Type 0) → Type 0
   entries-Need n = n entries-claims entries-at entries-reads.Post entries-Inv entries-μ-loop
 
+  entries-add-follow : entries-Need entries-lts.Need-add-follow
+  entries-add-follow c =
+      let number = c .before in
+      let pre = number .before .before .before .before .pre .1 in
+      omega (arith, number .number .ensures, some-follow (pre .0 .0 .block), pre .0 .2)
+
   entries-loop-holds : entries-Need entries-lts.Need-loop-holds
   entries-loop-holds c =
       let groups = c .before in
@@ -124,15 +130,17 @@ module _ (t : ℕ) where
       let call = c .before .before .before in
       let i = call .before .before in
       let inv = i .before .loop .inv in
-      let none = rw (inv .0 .2, inv .0 .0 .block .follow) at (c .if1 .taken) in
+      let none = rw (inv .0 .2) at (c .if1 .taken) in
+      let some = some-follow (inv .0 .0 .block) in
       let o = entry-open _ _ _ _ _ _ _ _ _ _ (i .loop-test .taken) (inv .2 .room .whole) in
       let fields = going-call (inv .2) _ (o .same) (call .store-fields .ensures .0) in
       let groups = going-call fields _ refl (stored-none (none-skipped _ _
-      (groups-end _ _ _ _ _ _ _ (no-groups-at _ _ _ _ (omega (arith, none)))) (omega (arith, none, inv .0 .3)))) in (
+      (groups-end _ _ _ _ _ _ _ (no-groups-at _ _ _ _ (omega (arith, none, some))))
+      (omega (arith, none, inv .0 .3)))) in (
         inv .0,
         record { short = inv .1 .short; inside = call .store-fields .ensures .1 },
         going-call groups _ refl (stored-none (none-skipped _ _
-            (datas-end _ _ _ _ _ _ (no-datas-at _ _ _ (omega (arith, none)))) (omega (arith, none, inv .0 .4)))),
+            (datas-end _ _ _ _ _ _ (no-datas-at _ _ _ (omega (arith, none, some)))) (omega (arith, none, inv .0 .4)))),
       )
 
   entries-store-row-requires : entries-Need entries-lts.Need-store-row-requires
@@ -328,7 +336,7 @@ pub +store-entries+store-row-spec : {M : Type 1} → statement M
     close entries-μ row-μ
     (λ t.
     entries-lts.spec (entries-claims t) (entries-at t) entries-reads.Post entries-Inv entries-μ-loop
-    (λ c. omega arith) (λ c κs. omega arith) (λ c. omega arith) (λ c κs. search needs)
+    (λ c. omega arith) (λ c κs. omega arith) (entries-add-follow t) (λ c κs. search needs)
     (λ c κs. search needs) (entries-loop-holds t) (λ c. omega arith)
     (entries-store-fields-requires t) (λ c. omega arith) (entries-loop-again t) (entries-store-row-requires t)
     (entries-store-datas-requires t) (λ c. omega arith) (entries-loop-again-2 t) (λ c. omega arith)

@@ -11,7 +11,7 @@ use borrow.Fn.PlainCycle.{Measures, is, falls, and}
 use lib.ListN.{length}
 use Rattle.prepared.specs.Positions.{BlockAt, IsRow, isBig, manyFields}
 use Rattle.prepared.proofs.Accepted.{fields-length}
-use Rattle.prepared.proofs.Open.{head-there, no-groups-at}
+use Rattle.prepared.proofs.Open.{head-there, no-groups-at, some-follow}
 use Rattle.prepared.proofs.number.Reads as number-reads
 use Rattle.prepared.proofs.dimension_size.Reads as dimension-size-reads
 use Rattle.prepared.proofs.is_big.Reads as is-big-reads
@@ -128,7 +128,7 @@ module _ (t : ℕ) where
       let start = c .before .before .before .before .before in
       let block = start .pre .1 .0 .block in
       let less = start .pre .1 .2 .less in
-      omega (arith, c .before .number2 .ensures, block .follow, block .fewGroups, block .fewDatas, less)
+      omega (arith, c .before .number2 .ensures, some-follow block, less)
 
   entries-mul-if2 : entries-Need entries-lts.Need-mul-if2
   entries-mul-if2 c =

@@ -6,6 +6,7 @@ use native.Mathlib.Omega.{arith}
 use borrow.Author.Needs.{needs}
 use borrow.Fn.Kinds.{In, Out}
 use borrow.Fn.PlainCycle.{Measures, is, falls, and}
+use Rattle.prepared.proofs.Open.{some-follow}
 use Rattle.prepared.specs.Positions.{BlockAt, IsRow, groupsAt, innerAt, isBig, isCounted, nextFrom, shapeAt}
 use Rattle.prepared.proofs.Accepted.{datas-length}
 use Rattle.prepared.proofs.number.Reads as number-reads
@@ -98,13 +99,14 @@ module _ (t : ℕ) where
       let call = c .before .before .before .before in
       let i = call .before .before in
       let inv = i .before .loop .inv in
-      let none = rw (inv .0 .1 .follow, inv .0 .0 .block .follow) at (c .if1 .taken) in
+      let none = rw (inv .0 .1 .follow) at (c .if1 .taken) in
+      let some = some-follow (inv .0 .0 .block) in
       let fields = call .write-block .ensures in
       let laid = going-call (inv .2) _ (entries-step _ _ _ _ _ _ _ (i .loop-test .taken)) fields in
-      let groups = going-call laid _ refl (stored-none (groups-end _ _ _ _ _ _ _ _ _ (omega (arith, none)))) in (
+      let groups = going-call laid _ refl (stored-none (groups-end _ _ _ _ _ _ _ _ _ (omega (arith, none, some)))) in (
         inv .0,
         zeros-on (inv .1) fields,
-        going-call groups _ refl (stored-none (datas-end _ _ _ _ _ (rw datas-length (omega (arith, none))))),
+        going-call groups _ refl (stored-none (datas-end _ _ _ _ _ (rw datas-length (omega (arith, none, some))))),
       )
 
   entries-write-row-requires : entries-Need entries-lts.Need-write-row-requires
