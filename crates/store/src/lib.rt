@@ -112,8 +112,7 @@ fn pass_groups(p: &[u64], depth: usize, m: &[u8], n: usize, at: usize) -> usize
         (now (m .entry))) ⌝ }
 {
     let big = prepared::is_big(p);
-    // A second caller of skip_row: so the test of skip_groups is joined to its callers, and not the loop to it.
-    let surplus = surplus::skip_row(prepared::is_counted(p), big, m, depth, n, at);
+    let surplus = surplus::skip_groups(prepared::is_counted(p), big, m, depth, n, at);
     let Walked::To { next, .. } = surplus else {
         return at;
     };

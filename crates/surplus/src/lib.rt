@@ -135,15 +135,19 @@ fn skip_entries(
         if m.len() - x < sizes.length {
             return wire::refuse(16, place);
         }
-        let groups = skip_groups(counted, big, m, levels, sizes.groups, x + sizes.length);
-        let Walked::To { next, .. } = groups else {
-            return groups;
-        };
-        let datas = skip_datas(big, m, sizes.datas, next);
-        let Walked::To { next: end, .. } = datas else {
+        x = x + sizes.length;
+        if 0 < sizes.groups {
+            let groups = skip_row(counted, big, m, levels, sizes.groups, x);
+            let Walked::To { next, .. } = groups else {
+                return groups;
+            };
+            x = next;
+        }
+        let datas = skip_datas(big, m, sizes.datas, x);
+        let Walked::To { next, .. } = datas else {
             return datas;
         };
-        x = end;
+        x = next;
         left = left - 1;
     }
     Walked::To {
@@ -189,7 +193,7 @@ fn skip_group(counted: bool, big: bool, m: &[u8], levels: usize, at: usize) -> W
 }
 
 // n surplus groups.
-pub fn skip_row(counted: bool, big: bool, m: &[u8], levels: usize, n: usize, at: usize) -> Walked
+fn skip_row(counted: bool, big: bool, m: &[u8], levels: usize, n: usize, at: usize) -> Walked
     requires { ⌜ at ≤ length (now m) ⌝ }
     ensures { λ r. ⌜ r ≡ walked skipEnd (inRow n (skipGroup counted big (now (m .entry)) levels) at) ⌝ }
     ensures { λ r. ⌜ Inside (length (now (m .entry))) at r ⌝ }

@@ -10,7 +10,7 @@ returns c =
     let call = c .before .before in
     let counted = call .before in
     let big = counted .before in
-    let said = rw (counted .is-counted .ensures, big .is-big .ensures) at (call .skip-row .ensures .0) in
+    let said = rw (counted .is-counted .ensures, big .is-big .ensures) at (call .skip-groups .ensures .0) in
     absurd (skip-not-refused _ (big .before .before .before .pre .0) said (c .enum-told .given .1))
 
 returns-2 : tie.Need-returns-2
@@ -19,9 +19,9 @@ returns-2 c =
     let call = told .before .before in
     let counted = call .before in
     let big = counted .before in
-    let said = rw (counted .is-counted .ensures, big .is-big .ensures) at (call .skip-row .ensures .0) in (
+    let said = rw (counted .is-counted .ensures, big .is-big .ensures) at (call .skip-groups .ensures .0) in (
       skip-end _ (big .before .before .before .pre .0) said (told .surplus .given .1),
-      lies-on _ _ _ _ _ (call .skip-row .ensures .1) (told .surplus .given .1) .1,
+      lies-on _ _ _ _ _ (call .skip-groups .ensures .1) (told .surplus .given .1) .1,
     )
 
 pub pass-groups-spec : {M : Type 1} → statement M

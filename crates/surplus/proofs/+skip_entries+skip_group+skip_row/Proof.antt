@@ -1,14 +1,17 @@
 -- The groups call themselves: a row's groups, a group's entries with their rows. The measure of a call is the levels
 -- left, and within a level the order of the calls.
 use mathlib.Core.Path.{_∙_, _≡_, ap, refl, sym}
+use mathlib.Core.Logic.{⊎-elim}
 use Prim.Native.Nat.{ℕ, _*_, _+_, _<_, _≤_}
 use native.Mathlib.Nat.{mul-le-mul-right}
 use native.Mathlib.Omega.{arith}
 use borrow.Author.Needs.{needs}
 use borrow.Fn.Kinds.{In, Out}
 use borrow.Fn.PlainCycle.{Measures, is, falls, and}
-use Rattle.layout.specs.Message.{readDimension, skipEntry, skipGroup}
-use Rattle.layout.specs.Result.{done}
+use lib.ListN.{length}
+use Rattle.layout.specs.Message.{inRow, readDimension, skipEntry, skipGroup}
+use Rattle.layout.specs.Result.{Result, done}
+use Rattle.layout.proofs.Results.{none-left}
 use Rattle.wire.specs.Walks.{skipEnd, walked}
 use Rattle.wire.proofs.Answers.{inv-refused, lies-on, refuses}
 use Rattle.wire.proofs.refuse.Reads as refuse-reads
@@ -23,30 +26,24 @@ use Rattle.surplus.proofs.pass_octets.Reads as octets-reads
 use Rattle.surplus.proofs.skip_datas.Reads as datas-reads
 use Rattle.surplus.proofs.skip_entries.Reads as entries-reads
 use Rattle.surplus.proofs.skip_entries.Kinds as entries-kinds
-use Rattle.surplus.proofs.+skip_entries+skip_group+skip_groups+skip_row.Lts-skip_entries as entries-lts
+use Rattle.surplus.proofs.+skip_entries+skip_group+skip_row.Lts-skip_entries as entries-lts
 use Rattle.surplus.proofs.skip_group.Reads as group-reads
 use Rattle.surplus.proofs.skip_group.Kinds as group-kinds
-use Rattle.surplus.proofs.+skip_entries+skip_group+skip_groups+skip_row.Lts-skip_group as group-lts
-use Rattle.surplus.proofs.skip_groups.Reads as groups-reads
-use Rattle.surplus.proofs.skip_groups.Kinds as groups-kinds
-use Rattle.surplus.proofs.+skip_entries+skip_group+skip_groups+skip_row.Lts-skip_groups as groups-lts
+use Rattle.surplus.proofs.+skip_entries+skip_group+skip_row.Lts-skip_group as group-lts
 use Rattle.surplus.proofs.skip_row.Reads as row-reads
 use Rattle.surplus.proofs.skip_row.Kinds as row-kinds
-use Rattle.surplus.proofs.+skip_entries+skip_group+skip_groups+skip_row.Lts-skip_row as row-lts
-use Rattle.surplus.proofs.+skip_entries+skip_group+skip_groups+skip_row.{statement}
-use Rattle.surplus.proofs.+skip_entries+skip_group+skip_groups+skip_row.Tie.{close}
+use Rattle.surplus.proofs.+skip_entries+skip_group+skip_row.Lts-skip_row as row-lts
+use Rattle.surplus.proofs.+skip_entries+skip_group+skip_row.{statement}
+use Rattle.surplus.proofs.+skip_entries+skip_group+skip_row.Tie.{close}
 
 abbrev entries-μ : Measures 1 entries-kinds.ps ℕ
-entries-μ κs a = 4 * a .1 .1 .1 .0 + 3
-
-abbrev groups-μ : Measures 1 groups-kinds.ps ℕ
-groups-μ κs a = 4 * a .1 .1 .1 .0 + 2
+entries-μ κs a = 3 * a .1 .1 .1 .0 + 2
 
 abbrev row-μ : Measures 1 row-kinds.ps ℕ
-row-μ κs a = 4 * a .1 .1 .1 .0 + 1
+row-μ κs a = 3 * a .1 .1 .1 .0 + 1
 
 abbrev group-μ : Measures 1 group-kinds.ps ℕ
-group-μ κs a = 4 * a .1 .1 .1 .0
+group-μ κs a = 3 * a .1 .1 .1 .0
 
 abbrev entries-Inv : entries-lts.InvT-loop
 entries-Inv counted big m levels sizes place start x₀ left₀ x left =
@@ -69,9 +66,6 @@ module _ (t : ℕ) where
   abbrev group-at : In 1 group-kinds.ps
   group-at = and 1 group-kinds.ps (is 1 group-kinds.ps group-μ t) group-reads.Pre
 
-  abbrev groups-at : In 1 groups-kinds.ps
-  groups-at = and 1 groups-kinds.ps (is 1 groups-kinds.ps groups-μ t) groups-reads.Pre
-
   abbrev row-at : In 1 row-kinds.ps
   row-at = and 1 row-kinds.ps (is 1 row-kinds.ps row-μ t) row-reads.Pre
 
@@ -79,8 +73,8 @@ module _ (t : ℕ) where
   entries-claims = (
     refuse-reads.Asked,
     refuse-reads.Learnt,
-    and 1 groups-kinds.ps (falls 1 groups-kinds.ps _<_ groups-μ t) groups-reads.Pre,
-    groups-reads.Post,
+    and 1 row-kinds.ps (falls 1 row-kinds.ps _<_ row-μ t) row-reads.Pre,
+    row-reads.Post,
     datas-reads.Asked,
     datas-reads.Learnt,
   )
@@ -98,40 +92,59 @@ module _ (t : ℕ) where
   entries-returns-2 : entries-Need entries-lts.Need-returns-2
   entries-returns-2 c =
       let call = c .before .before in
-      let i = call .before .before .before .before in
+      let i = call .before .before .before .before .before .before in
       let e = c .enum-told .given .1 in
       skips-refused (i .before .loop .inv) (i .loop-test .taken) _ _ e
-      (entry-refused _ _ _ _ _ _ (omega arith) _ _ (inv-refused _ _ _ (sym e ∙ call .skip-groups .ensures .0)))
+      (entry-refused _ _ _ _ _ _ (omega arith) _ _ (inv-refused _ _ _ (sym e ∙ call .skip-row .ensures .0)))
 
-  entries-skip-datas-requires : entries-Need entries-lts.Need-skip-datas-requires
-  entries-skip-datas-requires c κs =
-      let told = c .before in
-      lies-on _ _ _ _ _ (told .before .before .skip-groups .ensures .1) (told .groups .given .1) .1
+  abbrev entry-of : entries-Need entries-lts.Joined2 → entries-Need entries-lts.In-loop
+  entry-of c = c .before .before .before .before .before
+
+  -- Whether it has groups or not, the entry's data start where they end.
+  entries-row : (c : entries-Need entries-lts.Joined2) → let loop = entry-of c .before in
+      let s = loop .before .before .args in
+      let y = loop .loop .x + s .sizes .length in
+      (inRow (s .sizes .groups) (skipGroup (s .counted) (s .big) (s .m .now) (s .levels)) y ≡ done (c .if2 .x))
+      × (y ≤ c .if2 .x) × (c .if2 .x ≤ length (s .m .now))
+  unfolding inRow
+  entries-row c =
+      let loop = entry-of c .before in
+      let s = loop .before .before .args in
+      let row : ℕ → Result ℕ = λ n.
+      inRow n (skipGroup (s .counted) (s .big) (s .m .now) (s .levels)) (loop .loop .x + s .sizes .length) in
+      ⊎-elim
+      (λ w. let e = w .3 .given .1 in
+      let on = lies-on _ _ _ _ _ (w .1 .ensures .1) e in (
+        inv-skip _ _ _ (sym e ∙ w .1 .ensures .0) ∙ ap done (sym (w .5)),
+        omega (arith, on .0, w .5),
+        omega (arith, on .1, w .5),
+      ))
+      (λ w. (
+        ap row (none-left (w .0 .left)) ∙ ap done (sym (w .1)),
+        omega (arith, w .1),
+        omega (arith, w .1),
+      ))
+      (c .if2 .came)
 
   entries-returns-3 : entries-Need entries-lts.Need-returns-3
   entries-returns-3 c =
       let call = c .before .before in
-      let told = call .before .before in
-      let call-row = told .before .before in
-      let i = call-row .before .before .before .before in
-      let row = inv-skip _ _ _ (sym (told .groups .given .1) ∙ call-row .skip-groups .ensures .0) in
+      let i = entry-of (call .before) in
       let e = c .enum-told2 .given .1 in
       skips-refused (i .before .loop .inv) (i .loop-test .taken) _ _ e
-      (entry-datas _ _ _ _ _ _ (omega arith) _ row ∙ inv-refused _ _ _ (sym e ∙ call .skip-datas .ensures .0))
+      (entry-datas _ _ _ _ _ _ (omega arith) _ (entries-row (call .before) .0)
+      ∙ inv-refused _ _ _ (sym e ∙ call .skip-datas .ensures .0))
 
   entries-loop-again : entries-Need entries-lts.Need-loop-again
   entries-loop-again c =
-      let datas-told = c .before in
-      let call = datas-told .before .before in
-      let told = call .before .before in
-      let call-row = told .before .before in
-      let i = call-row .before .before .before .before in
-      let row = inv-skip _ _ _ (sym (told .groups .given .1) ∙ call-row .skip-groups .ensures .0) in
-      let datas = inv-skip _ _ _ (sym (datas-told .datas .given .1) ∙ call .skip-datas .ensures .0) in
-      let on = lies-on _ _ _ _ _ (call-row .skip-groups .ensures .1) (told .groups .given .1) in
-      let end = lies-on _ _ _ _ _ (call .skip-datas .ensures .1) (datas-told .datas .given .1) in
-      skips-on (i .before .loop .inv) (i .loop-test .taken) _ (entry-datas _ _ _ _ _ _ (omega arith) _ row ∙ datas)
-      (omega (arith, on .0, end .0)) (end .1)
+      let told = c .before in
+      let call = told .before .before in
+      let row = entries-row (call .before) in
+      let i = entry-of (call .before) in
+      let datas = inv-skip _ _ _ (sym (told .datas .given .1) ∙ call .skip-datas .ensures .0) in
+      let end = lies-on _ _ _ _ _ (call .skip-datas .ensures .1) (told .datas .given .1) in
+      skips-on (i .before .loop .inv) (i .loop-test .taken) _ (entry-datas _ _ _ _ _ _ (omega arith) _ (row .0) ∙ datas)
+      (omega (arith, row .1, end .0)) (end .1)
 
   abbrev group-claims : group-lts.Claims
   group-claims = (
@@ -214,13 +227,6 @@ module _ (t : ℕ) where
       passed-from _ _ _ (rw (sized .size-of .ensures) at (c .skip-entries .ensures))
       (group-entries _ _ _ _ _ _ (group-told (sized .before .before .before)) (omega arith)) (omega arith)
 
-  abbrev groups-claims : groups-lts.Claims
-  groups-claims = (and 1 row-kinds.ps (falls 1 row-kinds.ps _<_ row-μ t) row-reads.Pre, row-reads.Post)
-
-  -- None are passed where they start.
-  groups-returns : groups-lts.Need-returns groups-claims groups-at groups-reads.Post
-  groups-returns c = skips-end {m = c .before .before .args .m .now} (skips-first _ _ (omega arith)) (omega arith)
-
   abbrev row-claims : row-lts.Claims
   row-claims = (and 1 group-kinds.ps (falls 1 group-kinds.ps _<_ group-μ t) group-reads.Pre, group-reads.Post)
 
@@ -246,9 +252,9 @@ module _ (t : ℕ) where
       skips-on (i .before .loop .inv) (i .loop-test .taken) _ (inv-skip _ _ _ (sym e ∙ call .skip-group .ensures .0))
       (on .0) (on .1)
 
-pub +skip-entries+skip-group+skip-groups+skip-row-spec : {M : Type 1} → statement M
-+skip-entries+skip-group+skip-groups+skip-row-spec =
-    close entries-μ group-μ groups-μ row-μ
+pub +skip-entries+skip-group+skip-row-spec : {M : Type 1} → statement M
++skip-entries+skip-group+skip-row-spec =
+    close entries-μ group-μ row-μ
     (λ t.
     entries-lts.spec (entries-claims t) (entries-at t) entries-reads.Post entries-Inv entries-μ-loop
     (λ c. skips-first _ _ (omega arith))
@@ -260,7 +266,7 @@ pub +skip-entries+skip-group+skip-groups+skip-row-spec : {M : Type 1} → statem
     (λ c. search needs)
     (λ c. search needs)
     (entries-returns-2 t)
-    (entries-skip-datas-requires t)
+    (λ c κs. entries-row t c .2)
     (λ c. search needs)
     (λ c. search needs)
     (entries-returns-3 t)
@@ -285,11 +291,6 @@ pub +skip-entries+skip-group+skip-groups+skip-row-spec : {M : Type 1} → statem
     (group-skip-entries-requires t)
     (group-returns-3 t)
     (group-returns-4 t))
-    (λ t.
-    groups-lts.spec (groups-claims t) (groups-at t) groups-reads.Post
-    (groups-returns t)
-    (λ c κs. (omega arith, omega arith))
-    (λ c. search needs))
     (λ t.
     row-lts.spec (row-claims t) (row-at t) row-reads.Post row-Inv row-μ-loop
     (λ c. skips-first _ _ (omega arith))
