@@ -99,7 +99,8 @@ fn list_rest(p: &[u64])
     let mut message = io::large_buffer();
     let size = io::read_full(STDIN_FILENO, &mut message);
     let mut room = [0u64; 6000];
-    match stream::list(p, &message[..size], &mut room) {
+    let m = &message[..size];
+    match stream::list(&p, &m, &mut room) {
         Counted::Count(count) => show_records(&room, count),
         Counted::Refused(refusal) => show_refusal(refusal),
     }

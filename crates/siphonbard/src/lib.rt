@@ -160,7 +160,10 @@ pub extern "C" fn siphonbard_list(book: &[u8], m: &[u8], room: &mut [u64]) -> Co
     match prepare::prepare_octets(book, &mut numbers) {
         Counted::Refused(refusal) => say_counted(Counted::Refused(refusal)),
         // Not by the export below: stream::list is short enough for the compiler to join it to both.
-        Counted::Count(n) => say_counted(stream::list(&numbers[..n], m, room)),
+        Counted::Count(n) => {
+            let p = &numbers[..n];
+            say_counted(stream::list(&p, &m, room))
+        }
     }
 }
 
@@ -223,7 +226,7 @@ pub extern "C" fn siphonbard_stream_list(p: &[u64], m: &[u8], room: &mut [u64]) 
     ensures { λ r. ⌜ RepliesList (listIn (bookAt (now (p .entry))) (now (m .entry))) (now (room .entry)) r
         (now (room .exit)) ⌝ }
 {
-    say_counted(stream::list(p, m, room))
+    say_counted(stream::list(&p, &m, room))
 }
 
 // The answer for one place of a message, asked as above.

@@ -45,13 +45,14 @@ fn count_records(p: &[u64], a: usize, k: usize) -> usize
 
 // Lists a message: the number of records, which are stored from the room's start. A walk checks and counts, and then,
 // if there is room, a pass stores; else the place of the refusal is the number of records.
-pub fn list(p: &[u64], m: &[u8], room: &mut [u64]) -> Counted
-    requires { ⌜ IsPrepared (now p) ⌝ }
-    ensures { λ r. ⌜ ListsAs (listIn (bookAt (now (p .entry))) (now (m .entry))) (now (room .entry)) r
+pub fn list(p: &&[u64], m: &&[u8], room: &mut [u64]) -> Counted
+    requires { ⌜ IsPrepared (now (now p)) ⌝ }
+    ensures { λ r. ⌜ ListsAs (listIn (bookAt (now (now (p .entry)))) (now (now (m .entry)))) (now (room .entry)) r
         (now (room .exit)) ⌝ }
 {
-    let path = &p[0..0];
-    match whole::enter(&p, &m, &path) {
+    let s = *p;
+    let path = &s[0..0];
+    match whole::enter(p, m, &path) {
         Entered::Refused(refusal) => Counted::Refused(refusal),
         Entered::At {
             block,
@@ -59,7 +60,7 @@ pub fn list(p: &[u64], m: &[u8], room: &mut [u64]) -> Counted
             records,
             spot,
         } => {
-            let all = count_records(p, block, records);
+            let all = count_records(s, block, records);
             if room.len() < 3 * all {
                 return Counted::Refused(Refusal {
                     number: 40,
@@ -72,7 +73,7 @@ pub fn list(p: &[u64], m: &[u8], room: &mut [u64]) -> Counted
                 surplus: 65536 * spot.groups,
             };
             let start = Cursor { at: 12, n: 0 };
-            store::store_entries(&p, block, 4, &m, version, root, room, start);
+            store::store_entries(p, block, 4, m, version, root, room, start);
             Counted::Count(all)
         }
     }

@@ -29,7 +29,7 @@ returns-2 : tie.Need-returns-2
 unfolding listOf _>>=_
 returns-2 c =
     let call = c .before .before .before in
-    let e = has (call .before .before .before .before) .prepared .back in
+    let e = has (call .before .before .before .before .before .before) .prepared .back in
     let said = list-said (c .say-counted2 .ensures) (call .list .ensures) in
     record { reply = rw e (said .reply); room = rw e (said .room) }
 
@@ -38,4 +38,4 @@ siphonbard-list-spec =
     tie.close
     (tie.spec (λ c. search needs) (λ c κs. search needs) (λ c. search needs) (λ c κs. search needs) (λ c. search needs)
     (λ c. has (c .before) .fits) (λ c. sym (length-take-le _ _ (has (c .before .before) .fits)))
-    (λ c κs. has (c .before .before .before) .prepared .is) (λ c κs. search needs) returns (λ c. search needs) returns-2)
+    (λ c κs. has (c .before .before .before .before .before) .prepared .is) (λ c κs. search needs) returns (λ c. search needs) returns-2)
