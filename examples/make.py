@@ -10,7 +10,7 @@ import sys
 from schema_book import block, book, data, enumeration, field, flags, group
 
 # ---- The books: a fill; one with a quantity where there was padding, and a condition more; the same, big-endian; the
-# same with counted dimensions, and one with the deliveries of each mill ----
+# same with counted dimensions, and one with the deliveries of each mill; one by which nothing can be sent ----
 
 SCHEMA, FILL = 7, 1
 BLOCK = 28  # octets of a fill's block, in all books
@@ -56,6 +56,9 @@ COUNTED = book(SCHEMA, 1, NEWER_TEMPLATES, NEWER_LISTS, dimension=4)
 WITH_DELIVERIES = group(78, block(4, MILL, [DELIVERIES]))
 DELIVERED_TEMPLATES = {FILL: block(BLOCK, FIELDS + [QUANTITY], [WITH_DELIVERIES], [NOTE])}
 DELIVERED = book(SCHEMA, 2, DELIVERED_TEMPLATES, NEWER_LISTS, dimension=4)
+
+# A block of 65,530 octets, and no room behind it for the mills and the note, which have at least 6.
+LONG = book(SCHEMA, 1, {FILL: block(65530, FIELDS + [QUANTITY], [MILLS], [NOTE])}, NEWER_LISTS)
 
 # ---- The messages: x is an octet of padding ----
 
@@ -116,6 +119,7 @@ FILES = {
     "books/big.book": BIG,
     "books/counted.book": COUNTED,
     "books/delivered.book": DELIVERED,
+    "books/long.book": LONG,
     "messages/older_fill.sbe": OLDER_FILL,
     "messages/newer_fill.sbe": NEWER_FILL,
     "messages/forty_mills.sbe": FORTY_MILLS,

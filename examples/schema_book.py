@@ -45,7 +45,8 @@ def flags(bits):
 def book(schema, version, templates, lists={}, byte_order="little", dimension=2):
     """The octets of a book with a block for each template id, and an enumeration or flags for each list id. The byte
     order is that of its messages: "big" where the sender's are big-endian. The dimension is how many numbers a group's
-    has: 4 where the sender counts groups and data there."""
+    has: 4 where the sender counts groups and data there. A template's block leaves room in the 65,535 octets of a
+    message for a header, for a dimension for each of its groups and for two octets for each of its data."""
     return octets(words(schema, version, sorted(templates.items()), sorted(lists.items()), byte_order, dimension))
 
 

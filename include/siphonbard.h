@@ -58,6 +58,11 @@ extern "C" {
 #define SIPHONBARD_REFUSED_BOOK_LAYOUT 5
 /* When a since breaks its rule. Place: the template's number. */
 #define SIPHONBARD_REFUSED_BOOK_SINCE 6
+/*
+ * When a header, a template's root block, a dimension per root group and two octets per root data exceed 65,535 octets
+ * together. Place: the template's number.
+ */
+#define SIPHONBARD_REFUSED_BOOK_UNSENDABLE 7
 
 /* When the message is under 12 or over 65,535 octets. Place: 0. */
 #define SIPHONBARD_REFUSED_MESSAGE_SIZE 10
@@ -173,7 +178,7 @@ typedef struct {
  * All but the first check and prepare the book at each call, in 66 kB of the stack (8,260 numbers).
  */
 
-/* Whether the octets are a schema book: accepted, or 1 to 6. */
+/* Whether the octets are a schema book: accepted, or 1 to 7. */
 siphonbard_checked siphonbard_check_book(const uint8_t *book, size_t book_len);
 
 /* Whether the message is one of the book's: accepted, or 1 to 22. */
@@ -208,7 +213,7 @@ siphonbard_found siphonbard_place(const uint8_t *book, size_t book_len, const ui
                                   uint64_t element);
 
 /*
- * Writes a message of the template from the listing, at the room's start, and gives how many octets it has, or 1 to 6
+ * Writes a message of the template from the listing, at the room's start, and gives how many octets it has, or 1 to 7
  * or 50 to 55. The listing has a record per element, in the order of siphonbard_list; its starts count from the
  * pool's first octet, and SIPHONBARD_IS_ABSENT, SIPHONBARD_IS_OUT_OF_RANGE and SIPHONBARD_IS_UNLISTED are answered 51.
  * The listing of a message is written back with that message as the pool.
@@ -240,7 +245,7 @@ siphonbard_counted siphonbard_write(const uint8_t *book, size_t book_len, uint64
  */
 
 /*
- * Checks the book, stores its prepared numbers from the room's start, and gives how many they are; or 1 to 6 as
+ * Checks the book, stores its prepared numbers from the room's start, and gives how many they are; or 1 to 7 as
  * siphonbard_check_book, or 40. Numbers of the room past them are left as they were; after a refusal all of them are.
  *
  * The place of SIPHONBARD_REFUSED_ROOM_TOO_SMALL is how many numbers there are, whatever the room. To ask for that

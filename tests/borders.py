@@ -94,16 +94,27 @@ def inside(groups=(), datas=(), dimension=2):
     return book(block(8, (), [young(1, groups=groups, datas=datas)]), version=2, dimension=dimension)
 
 
+def long(more, groups=0, datas=0, dimension=2, group=group()):
+    """A book of so many root groups and data, whose shortest message is so much longer than one may be."""
+    length = LONGEST + more - 2 * dimension * groups - 2 * datas
+    return book(block(length, (), [group] * groups, [data()] * datas), dimension=dimension)
+
+
 def of_lists(*lists, **more):
     """A book of these lists, which nothing uses."""
     return book(ONE, lists=lists, **more)
 
+
+HEADER = 12  # octets
+LONGEST = 65535 - HEADER  # octets of the longest root block
 
 EMPTY = block(0)
 ONE = block(8, [field()])
 FULL = block(64, fields(64))
 FIVE = block(8, [field(type=9)])
 SIX = block(8, [field(since=1)])
+SEVEN = block(LONGEST + 1)
+WIDE = group(groups=[group()] * 16, datas=[data()] * 16)
 MISSING = block(8, [field(list=0)])
 
 BORDERS = [
@@ -184,8 +195,9 @@ BORDERS = [
     ("a list whose numbers rise by one", of_lists(bits(6, 7)), "accepted"),
     ("a list whose numbers stay", of_lists(bits(7, 7)), "refused 4 1"),
     ("a list whose numbers fall", of_lists(bits(7, 6)), "refused 4 1"),
-    ("block length 65534", book(block(65534)), "accepted"),
+    ("block length 65534 is no 5", book(block(65534)), "refused 7 0"),
     ("block length 65535", book(block(65535)), "refused 5 0"),
+    ("a group's block length 65534", book(block(0, (), [group(length=65534)])), "accepted"),
     ("a group's block length 65535", book(block(0, (), [group(length=65535)])), "refused 5 0"),
     ("type 8", book(block(8, [field(type=8)])), "accepted"),
     ("type 9", book(block(8, [field(type=9)])), "refused 5 0"),
@@ -202,7 +214,7 @@ BORDERS = [
     ("int64 at 25, next at 33", book(block(40, [field(type="int64", offset=25), field(offset=33)])), "accepted"),
     ("an offset above the previous one and under its end",
      book(block(40, [field(type="int64"), field(offset=1)])), "refused 5 0"),
-    ("an offset whose end passes 65,535", book(block(65534, [field(type="uint64", offset=65534)])), "refused 5 0"),
+    ("an offset whose end passes 65,535", book(block(LONGEST, [field(type="uint64", offset=65534)])), "refused 5 0"),
     ("a field that names a list where there is none", book(MISSING), "refused 5 0"),
     ("a field that names list 4 of 4 and 9", naming(4), "accepted"),
     ("a field that names list 9 of 4 and 9", naming(9), "accepted"),
@@ -254,6 +266,28 @@ BORDERS = [
     ("a group in a group above the version, four numbers", inside([young(3)], dimension=4), "refused 6 0"),
     ("a group in a group older than it, four numbers", inside([young(0)], dimension=4), "refused 6 0"),
     ("groups in a group that fall, four numbers", inside([young(2), young(1)], dimension=4), "refused 6 0"),
+    ("a shortest message of 65,535 octets", long(0), "accepted"),
+    ("a shortest message of 65,536 octets", long(1), "refused 7 0"),
+    ("a shortest message of 65,535 octets with a group", long(0, 1), "accepted"),
+    ("a shortest message of 65,536 octets with a group", long(1, 1), "refused 7 0"),
+    ("a shortest message of 65,535 octets with 16 groups", long(0, 16), "accepted"),
+    ("a shortest message of 65,536 octets with 16 groups", long(1, 16), "refused 7 0"),
+    ("a shortest message of 65,535 octets with a data", long(0, 0, 1), "accepted"),
+    ("a shortest message of 65,536 octets with a data", long(1, 0, 1), "refused 7 0"),
+    ("a shortest message of 65,535 octets with 16 data", long(0, 0, 16), "accepted"),
+    ("a shortest message of 65,536 octets with 16 data", long(1, 0, 16), "refused 7 0"),
+    ("a shortest message of 65,535 octets with 16 groups and 16 data", long(0, 16, 16), "accepted"),
+    ("a shortest message of 65,536 octets with 16 groups and 16 data", long(1, 16, 16), "refused 7 0"),
+    ("a shortest message of 65,535 octets, four numbers", long(0, dimension=4), "accepted"),
+    ("a shortest message of 65,536 octets, four numbers", long(1, dimension=4), "refused 7 0"),
+    ("a shortest message of 65,535 octets with a group, four numbers", long(0, 1, dimension=4), "accepted"),
+    ("a shortest message of 65,536 octets with a group, four numbers", long(1, 1, dimension=4), "refused 7 0"),
+    ("a shortest message of 65,535 octets with 16 groups and 16 data, four numbers", long(0, 16, 16, 4), "accepted"),
+    ("a shortest message of 65,536 octets with 16 groups and 16 data, four numbers", long(1, 16, 16, 4), "refused 7 0"),
+    ("65,535 octets, and 16 groups and 16 data inside a group", long(0, 1, group=WIDE), "accepted"),
+    ("65,536 octets, and 16 groups and 16 data inside a group", long(1, 1, group=WIDE), "refused 7 0"),
+    ("the same of 65,535 octets, four numbers", long(0, 1, dimension=4, group=WIDE), "accepted"),
+    ("the same of 65,536 octets, four numbers", long(1, 1, dimension=4, group=WIDE), "refused 7 0"),
     ("4 in the last template hides 5 in the first", book(FIVE, ONE, [0]), "refused 4 2"),
     ("4 in the last template hides 4 in a list", book(ONE, [0], lists=[values()]), "refused 4 1"),
     ("4 in the last list hides 5 in the first template", book(MISSING, ONE, lists=[bits(1), values()]), "refused 4 3"),
@@ -262,6 +296,17 @@ BORDERS = [
     ("5 of a missing list hides 6 in the first template", book(SIX, ONE, MISSING, lists=[bits(1)]), "refused 5 2"),
     ("5 at the first template that has it", book(ONE, FIVE, FIVE), "refused 5 1"),
     ("6 at the first template that has it", book(ONE, SIX, SIX), "refused 6 1"),
+    ("6 in the last template hides 7 in the first", book(SEVEN, ONE, SIX), "refused 6 2"),
+    ("6 in the first template hides 7 in the last", book(SIX, ONE, SEVEN), "refused 6 0"),
+    ("5 in the last template hides 7 in the first", book(SEVEN, ONE, FIVE), "refused 5 2"),
+    ("5 in the first template hides 7 in the last", book(FIVE, ONE, SEVEN), "refused 5 0"),
+    ("4 in the last template hides 7 in the first", book(SEVEN, ONE, [0]), "refused 4 2"),
+    ("4 in a list hides 7 in the first template", book(SEVEN, ONE, lists=[bits(1), values()]), "refused 4 3"),
+    ("6 and 7 in one template", book(block(LONGEST + 1, [field(since=1)])), "refused 6 0"),
+    ("7 in the first template", book(SEVEN, ONE), "refused 7 0"),
+    ("7 in the last template", book(ONE, SEVEN), "refused 7 1"),
+    ("7 at the first template that has it", book(ONE, SEVEN, SEVEN), "refused 7 1"),
+    ("7 in the last of 64 templates", book(*[EMPTY] * 63, SEVEN), "refused 7 63"),
 ]
 
 

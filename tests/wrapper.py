@@ -1,7 +1,8 @@
 #!/usr/bin/env python3
 """wrapper.py: tries examples/python/siphonbard.py over the shared object that SIPHONBARD_SO names: listings of none to
 many records, a place, a message that is written back, a number that its list lacks, texts, big-endian messages, groups
-that count what is in their entries, a book whose octets are gone, the largest book, and refusals with their words.
+that count what is in their entries, a book whose octets are gone, the largest book, the longest template, and refusals
+with their words.
 
 Prints what is wrong. The last line is 'wrapper: N passed, 0 failed'."""
 import struct
@@ -213,6 +214,17 @@ def prepares_the_largest():
     return (len(octets), Book(octets).list(message)), (8192, [(Kind.NUMBER, value, 0) for value in range(61)])
 
 
+def writes_the_longest():
+    """A group without entries and a data without octets behind a root block that leaves no more room; then an octet of
+    data more, and a root block of an octet more."""
+    octets = [book(7, 0, {1: block(length, groups=OLDER_GROUP, datas=[data(5)])}) for length in (65517, 65518)]
+    by, records = Book(octets[0]), [(Kind.GROUP, 0, 0), (Kind.OCTETS, 0, 0)]
+    message = by.write(1, records, b"")
+    too_long = [refuses(by.write, 1, [records[0], (Kind.OCTETS, 0, 1)], b"M"), refuses(Book, octets[1])]
+    came = len(message), by.list(message), [said[:2] for said in too_long]
+    return came, (65535, [(Kind.GROUP, 0, 0), (Kind.OCTETS, 65535, 0)], [(55, 0), (7, 0)])
+
+
 def octet_fields(count):
     return [field(1, "uint8", offset=offset) for offset in range(count)]
 
@@ -233,6 +245,12 @@ def refuses_a_template():
     octets = book(7, 0, {1: block(0), 2: block(0, octet_fields(1))})
     words = "a block length, or a field's type, length, presence, offset or list, breaks its rule"
     return refuses(Book, octets), (5, 1, "refused 5 in template 1: " + words)
+
+
+def refuses_an_unsendable_template():
+    """The words before those of the rule, too."""
+    number, place, words = refuses(Book, book(7, 0, {1: block(0), 2: block(65524)}))
+    return (number, place, words.split(":")[0]), (7, 1, "refused 7 in template 1")
 
 
 def refuses_a_list():
@@ -256,8 +274,9 @@ TESTS = [(lists, count) for count in COUNTS] + [
     (places,), (writes_back,), (tells_unlisted,), (writes_listed,), (refuses_unlisted,), (reads_texts,),
     (tells_what_is_no_text,), (writes_texts,), (refuses_texts,), (reads_either_order,), (places_in_big_endian,),
     (writes_either_order,), (refuses_the_other_order,), (reads_more_inside,), (writes_counts,), (refuses_counts,),
-    (outlives_its_octets,), (prepares_the_largest,),
-    (refuses_a_book,), (refuses_a_template,), (refuses_a_list,), (refuses_a_message,), (refuses_a_room,),
+    (outlives_its_octets,), (prepares_the_largest,), (writes_the_longest,),
+    (refuses_a_book,), (refuses_a_template,), (refuses_an_unsendable_template,), (refuses_a_list,),
+    (refuses_a_message,), (refuses_a_room,),
 ]
 
 

@@ -55,6 +55,9 @@ static const char *const MEANING[] = {
     [SIPHONBARD_REFUSED_BOOK_LAYOUT] =
         "a block length, or a field's type, length, presence, offset or list, breaks its rule",
     [SIPHONBARD_REFUSED_BOOK_SINCE] = "a since breaks its rule",
+    [SIPHONBARD_REFUSED_BOOK_UNSENDABLE] =
+        "a header, a template's root block, a dimension per root group and two octets per root data exceed 65,535 "
+        "octets together",
     [SIPHONBARD_REFUSED_MESSAGE_SIZE] = "the message is under 12 or over 65,535 octets",
     [SIPHONBARD_REFUSED_HEADER_NULL] = "a header number is 65535",
     [SIPHONBARD_REFUSED_SCHEMA_DIFFERS] = "the message's schema id is not the book's",
@@ -89,7 +92,7 @@ static void show_place(uint64_t number, uint64_t place)
 {
     if (number == SIPHONBARD_REFUSED_BOOK_BLOCK)
         printf(" in body %" PRIu64, place);
-    if (number >= SIPHONBARD_REFUSED_BOOK_LAYOUT && number <= SIPHONBARD_REFUSED_BOOK_SINCE)
+    if (number >= SIPHONBARD_REFUSED_BOOK_LAYOUT && number <= SIPHONBARD_REFUSED_BOOK_UNSENDABLE)
         printf(" in template %" PRIu64, place);
     if (number >= SIPHONBARD_REFUSED_MESSAGE_SIZE && number <= SIPHONBARD_REFUSED_GROUP_TOO_DEEP)
         printf(" at octet %" PRIu64, place);

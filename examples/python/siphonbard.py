@@ -124,6 +124,12 @@ class Refusal(enum.IntEnum):
         "the template's number",
     )
     BOOK_SINCE = 6, "a since breaks its rule", "the template's number"
+    BOOK_UNSENDABLE = (
+        7,
+        "a header, a template's root block, a dimension per root group and two octets per root data exceed 65,535 "
+        "octets together",
+        "the template's number",
+    )
     MESSAGE_SIZE = 10, "the message is under 12 or over 65,535 octets", "0"
     HEADER_NULL = 11, "a header number is 65535", "the first such number's offset"
     SCHEMA_DIFFERS = 12, "the message's schema id is not the book's", "4"
@@ -173,7 +179,7 @@ class Refusal(enum.IntEnum):
 # are its templates' and then its lists'. There is always room for a prepared book, so that 40 is a listing's.
 COUNTED = [
     (Refusal.BOOK_BLOCK, Refusal.BOOK_BLOCK, " in body %d"),
-    (Refusal.BOOK_LAYOUT, Refusal.BOOK_SINCE, " in template %d"),
+    (Refusal.BOOK_LAYOUT, Refusal.BOOK_UNSENDABLE, " in template %d"),
     (Refusal.MESSAGE_SIZE, Refusal.GROUP_TOO_DEEP, " at octet %d"),
     (Refusal.ROOM_TOO_SMALL, Refusal.ROOM_TOO_SMALL, " for %d records"),
     (Refusal.RECORD_WRONG, Refusal.ENTRIES_TOO_MANY, " at record %d"),

@@ -41,7 +41,7 @@ pub struct Book {
 }
 
 impl Book {
-    /// The book, or 1 to 6.
+    /// The book, or 1 to 7.
     pub fn checked(octets: &[u8]) -> Result<Book, Refusal> {
         let mut room = vec![0; ffi::PREPARED_MOST];
         let count = ffi::prepare(octets, &mut room)?;

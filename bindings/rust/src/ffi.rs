@@ -58,7 +58,7 @@ pub struct Found {
 }
 
 extern "C" {
-    /// Whether the octets are a schema book: accepted, or 1 to 6.
+    /// Whether the octets are a schema book: accepted, or 1 to 7.
     pub fn siphonbard_check_book(book: *const u8, book_len: usize) -> Checked;
     /// Whether the message is one of the book's: accepted, or 1 to 22.
     pub fn siphonbard_check(book: *const u8, book_len: usize, message: *const u8, message_len: usize) -> Checked;
@@ -84,7 +84,7 @@ extern "C" {
         ask: u64,
         element: u64,
     ) -> Found;
-    /// Writes a message of the template into the room, or 1 to 6 or 50 to 55. `listing_len` counts numbers, three a
+    /// Writes a message of the template into the room, or 1 to 7 or 50 to 55. `listing_len` counts numbers, three a
     /// record.
     pub fn siphonbard_write(
         book: *const u8,
@@ -97,7 +97,7 @@ extern "C" {
         room: *mut u8,
         room_len: usize,
     ) -> Counted;
-    /// Checks the book and stores its prepared numbers in the room, or 1 to 6 or 40; the place of 40 is how many they
+    /// Checks the book and stores its prepared numbers in the room, or 1 to 7 or 40; the place of 40 is how many they
     /// are.
     pub fn siphonbard_prepare(book: *const u8, book_len: usize, room: *mut u64, room_len: usize) -> Counted;
     /// [`siphonbard_check`] by a prepared book: accepted, or 10 to 22.

@@ -62,7 +62,7 @@ pub use book::Book;
 pub use listing::Listing;
 pub use refusal::Refusal;
 
-/// Whether the octets are a schema book; else 1 to 6.
+/// Whether the octets are a schema book; else 1 to 7.
 pub fn check_book(book: &[u8]) -> Result<(), Refusal> {
     ffi::check_book(book)
 }
@@ -111,7 +111,7 @@ pub fn place(book: &[u8], message: &[u8], steps: &[Step], element: Element) -> R
     ffi::place(book, message, steps, element)
 }
 
-/// Writes a message of the template from the listing, at the room's start, and gives how many octets it has; or 1 to 6
+/// Writes a message of the template from the listing, at the room's start, and gives how many octets it has; or 1 to 7
 /// or 50 to 55. The room past the message is left as it was; after a refusal all of it is.
 ///
 /// The listing is as [`list`] gives it, three numbers a record, a record for every element of the book's template.
@@ -122,7 +122,7 @@ pub fn write(book: &[u8], template_id: u16, listing: &[u64], pool: &[u8], room: 
     ffi::write(book, template_id, listing, pool, room)
 }
 
-/// A message of the template from the listing, or 1 to 6 or 50 to 55.
+/// A message of the template from the listing, or 1 to 7 or 50 to 55.
 pub fn write_all(book: &[u8], template_id: u16, listing: &[u64], pool: &[u8]) -> Result<Vec<u8>, Refusal> {
     Book::checked(book)?.write_all(template_id, listing, pool)
 }

@@ -3,7 +3,7 @@ use std::fmt;
 
 /// A call said no: the number of the rule that is broken, and where.
 ///
-/// 1 to 6 are the book's (the place is 0, or a template's number from 4 on; of 4 the lists count on behind the
+/// 1 to 7 are the book's (the place is 0, or a template's number from 4 on; of 4 the lists count on behind the
 /// templates), 10 to 22 the message's (the place is an offset in it), 30 and 31 those of a place asked for, 40 that of
 /// a listing's room (the place is the number of records), 50 to 55 those of writing (the place is 0, or a record's
 /// number from 51 to 54). A refused call altered nothing. A [`Book`](crate::Book) makes its own room, so that 40 is
@@ -69,6 +69,8 @@ refusals! {
     BOOK_LAYOUT = 5, "a block length, or a field's type, length, presence, offset or list, breaks its rule",
         "the template's number";
     BOOK_SINCE = 6, "a since breaks its rule", "the template's number";
+    BOOK_UNSENDABLE = 7, "a header, a template's root block, a dimension per root group and two octets per root data \
+        exceed 65,535 octets together", "the template's number";
     MESSAGE_SIZE = 10, "the message is under 12 or over 65,535 octets", "0";
     HEADER_NULL = 11, "a header number is 65535", "the first such number's offset";
     SCHEMA_DIFFERS = 12, "the message's schema id is not the book's", "4";
@@ -104,7 +106,7 @@ impl fmt::Display for Refusal {
         write!(f, "refused {}", self.number)?;
         match self.number {
             Refusal::BOOK_BLOCK => write!(f, " in body {}", self.place)?,
-            Refusal::BOOK_LAYOUT..=Refusal::BOOK_SINCE => write!(f, " in template {}", self.place)?,
+            Refusal::BOOK_LAYOUT..=Refusal::BOOK_UNSENDABLE => write!(f, " in template {}", self.place)?,
             Refusal::MESSAGE_SIZE..=Refusal::GROUP_TOO_DEEP => write!(f, " at octet {}", self.place)?,
             Refusal::ROOM_TOO_SMALL => write!(f, " for {} records", self.place)?,
             Refusal::RECORD_WRONG..=Refusal::ENTRIES_TOO_MANY => write!(f, " at record {}", self.place)?,

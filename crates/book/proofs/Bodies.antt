@@ -4,19 +4,21 @@ use mathlib.Core.Bool.{Bool, false, true}
 use mathlib.Core.List.{List, _∷_}
 use Prim.Native.Nat.{_+_, _-_, _<_, _≤_, suc, ℕ}
 use native.Mathlib.Omega.{arith}
-use lib.Dec.{ltb}
+use lib.Dec.{leb, ltb}
 use lib.ListN.{drop, length, take}
 use borrow.Author.Tests.{eq-eqb, lt-ltb, ne-eqb}
 use Rattle.layout.specs.Result.{Result, _>>=_, asRefusal, done, if_then_else_, must, refused}
 use Rattle.layout.specs.Lists.{NameList}
-use Rattle.layout.specs.Book.{Groups, Shape, Template}
-use Rattle.layout.specs.BookRules.{eachMust, layoutGood, parseBodies, parseBody}
-use Rattle.layout.specs.BookRules.{parseContents, parseGroups, parseShape, sinceGood, word}
+use Rattle.layout.specs.Book.{Format, Groups, Shape, Template}
+use Rattle.layout.specs.BookRules.{eachMust, layoutGood, leastLength, lengthKept, parseBodies, parseBody, parseContents}
+use Rattle.layout.specs.BookRules.{parseGroups, parseShape, sinceGood, word}
+use Rattle.layout.specs.Message.{mostMessage}
 use Rattle.layout.specs.Contracts.{checked}
-use Rattle.book.specs.Answers.{allRules, blockOf, bodyOf, bodyRules, firstOf, groupsRules, ruled, rowOf, seenOr}
-use Rattle.book.specs.Answers.{verdictOf}
+use Rattle.book.specs.Answers.{allRules, blockOf, bodyOf, bodyRules, firstOf, groupsRules, leastAt, rowOf, ruled}
+use Rattle.book.specs.Answers.{seenOr, verdictOf}
 use Rattle.book.proofs.Groups.{BlockIs, RowIs, block-broken, block-is, row-broken, row-is}
 use Rattle.book.proofs.Rows.{contents-step}
+use Rattle.layout.proofs.Accepted.{groups-length, shape-counts}
 use Rattle.layout.proofs.Results.{bind-done, none-left}
 use Rattle.layout.specs.declared.Refusal.{Refusal}
 use Rattle.layout.specs.declared.Checked.the-variants as Checked
@@ -26,12 +28,24 @@ use Rattle.book.specs.declared.Block.the-variants as Block
 use Rattle.book.specs.declared.Body.{Body}
 use Rattle.book.specs.declared.Body.the-variants as Body
 
-module _ (ls : List NameList) (b : List ℕ) (counted : Bool) (version : ℕ) where
+-- What 7 measures is what a body's words say.
+least-is : (ls : List NameList) (b : List ℕ) (format : Format) (g x y : ℕ) (s : Shape) (gs : Groups)
+    → parseShape ls b 0 0 ≡ done (s, g, x)
+    → parseGroups ls b 4 g x ≡ done (gs, y)
+    → leastLength format s gs ≡ leastAt (format .inGroups) b
+least-is ls b format g x y s gs e i =
+    let c = shape-counts ls b 0 0 (s, g, x) e in
+    rw (groups-length ls b 4 g x (gs, y) i, c .0, c .1, c .2) refl
+
+module _ (ls : List NameList) (b : List ℕ) (format : Format) (version : ℕ) where
+  abbrev counted : Bool
+  counted = format .inGroups
+
   abbrev root : Result (Shape × ℕ × ℕ)
   root = parseShape ls b 0 0
 
   abbrev answer : Body
-  answer = bodyOf counted version (parseBody ls b)
+  answer = bodyOf format version (parseBody ls b)
 
   pub body-block : Block.Broken ≡ blockOf version 0 version version root → answer ≡ Body.Broken
   unfolding parseBody bodyOf _>>=_
@@ -56,13 +70,15 @@ module _ (ls : List NameList) (b : List ℕ) (counted : Bool) (version : ℕ) wh
       unfolding parseBody bodyOf must _>>=_
       body-left h = rw (is-block .is, is-row .is, ne-eqb y (length b) h) refl
 
-      pub body-whole : y ≡ length b → answer ≡ Body.Whole (allRules q p)
+      pub body-whole : y ≡ length b → answer ≡ Body.Whole (allRules q p) (leb (leastAt counted b) mostMessage)
       unfolding parseBody bodyOf must _>>=_
       body-whole h =
-          rw (is-block .is, is-row .is, eq-eqb y (length b) h)
-          (ap (λ (r : Rules). Body.Whole (allRules r (groupsRules counted version 0 version (is-row .groups))))
+          let short = leb (leastAt counted b) mostMessage in
+          let least = least-is ls b format g x y (is-block .shape) (is-row .groups) (is-block .is) (is-row .is) in
+          rw (is-block .is, is-row .is, eq-eqb y (length b) h, least)
+          (ap (λ (r : Rules). Body.Whole (allRules r (groupsRules counted version 0 version (is-row .groups))) short)
           (sym (is-block .rules))
-          ∙ ap (λ (r : Rules). Body.Whole (allRules q r)) (sym (is-row .rules)))
+          ∙ ap (λ (r : Rules). Body.Whole (allRules q r) short) (sym (is-row .rules)))
 
 -- ---- one check after the other
 
@@ -80,17 +96,25 @@ stops (refused n p) k r e = sym e
 
 -- ---- all bodies
 
-body-broken : (counted : Bool) (version : ℕ) (x : Result (Shape × Groups)) → Body.Broken ≡ bodyOf counted version x
+body-broken : (format : Format) (version : ℕ) (x : Result (Shape × Groups)) → Body.Broken ≡ bodyOf format version x
     → (n : ℕ) × (p : ℕ) × (x ≡ refused n p)
 unfolding bodyOf
-body-broken counted version (done r) e = absurd (let z : _≡_ {A = ℕ} 0 1 = cc in omega arith)
-body-broken counted version (refused n p) e = (n, p, refl)
+body-broken format version (done r) e = absurd (let z : _≡_ {A = ℕ} 0 1 = cc in omega arith)
+body-broken format version (refused n p) e = (n, p, refl)
 
-body-is : (counted : Bool) (version : ℕ) (q : Rules) (x : Result (Shape × Groups))
-    → Body.Whole q ≡ bodyOf counted version x → (r : Shape × Groups) × (x ≡ done r) × (q ≡ bodyRules counted version r)
+-- A whole body keeps these rules.
+record BodyIs (format : Format) (version : ℕ) (q : Rules) (short : Bool) (x : Result (Shape × Groups)) : Type 0 where
+  body : Shape × Groups
+  is : x ≡ done body
+  rules : q ≡ bodyRules (format .inGroups) version body
+  length : short ≡ leb (leastLength format (body .0) (body .1)) mostMessage
+
+body-is : (format : Format) (version : ℕ) (q : Rules) (short : Bool) (x : Result (Shape × Groups))
+    → Body.Whole q short ≡ bodyOf format version x
+    → BodyIs format version q short x
 unfolding bodyOf
-body-is counted version q (done r) e = (r, refl, cc)
-body-is counted version q (refused n p) e = absurd (let z : _≡_ {A = ℕ} 0 1 = cc in omega arith)
+body-is format version q short (done r) e = record { body = r; is = refl; rules = cc; length = cc }
+body-is format version q short (refused n p) e = absurd (let z : _≡_ {A = ℕ} 0 1 = cc in omega arith)
 
 -- One template more: it is the first to break a rule, or another was before it.
 seen-next : (seen n t : ℕ) (keeps : Bool) (x : Result (Unit {0})) → t < 64
@@ -110,36 +134,37 @@ each-next : (f : Template → Bool) (seen n t : ℕ) (x : Template) (xs : List T
 unfolding eachMust
 each-next f seen n t x xs h = seen-next seen n t (f x) (eachMust f n (suc t) xs) h
 
-ruled-next : (lists : Result (Unit {0})) (counted : Bool) (version t five six : ℕ) (x : Template)
+ruled-next : (lists : Result (Unit {0})) (format : Format) (version t five six seven : ℕ) (x : Template)
     (y : Result (List Template)) → t < 64
-    → ruled lists counted version t five six (y >>= λ xs. done (x ∷ xs))
-    ≡ ruled lists counted version (suc t) (firstOf five (layoutGood x) t)
-    (firstOf six (sinceGood counted version x) t) y
+    → ruled lists format version t five six seven (y >>= λ xs. done (x ∷ xs))
+    ≡ ruled lists format version (suc t) (firstOf five (layoutGood x) t)
+    (firstOf six (sinceGood (format .inGroups) version x) t) (firstOf seven (lengthKept format x) t) y
 unfolding ruled
-ruled-next lists counted version t five six x (done xs) h =
+ruled-next lists format version t five six seven x (done xs) h =
     rw (
       bind-done,
       bind-done,
       bind-done,
       each-next layoutGood five 5 t x xs h,
-      each-next
-          (sinceGood counted version) six 6 t x xs h,
+      each-next (sinceGood (format .inGroups) version) six 6 t x xs h,
+      each-next (lengthKept format) seven 7 t x xs h,
     ) refl
-ruled-next lists counted version t five six x (refused n p) h = unfold _>>=_ in refl
+ruled-next lists format version t five six seven x (refused n p) h = unfold _>>=_ in refl
 
-module _ (ls : List NameList) (b : List ℕ) (lists : Result (Unit {0})) (counted : Bool)
-    (version t five six left w : ℕ)
+module _ (ls : List NameList) (b : List ℕ) (lists : Result (Unit {0})) (format : Format)
+    (version t five six seven left w : ℕ)
   where
     abbrev verdict : Result (Unit {0})
-    verdict = ruled lists counted version t five six (parseBodies ls b t (parseContents b left w))
+    verdict = ruled lists format version t five six seven (parseBodies ls b t (parseContents b left w))
 
     -- Where no body is left, the lists verdict, or else what was seen.
     module _ (h : left ≤ 0) where
-      rows-end : verdict ≡ (lists >>= λ _. seenOr five 5 (done tt) >>= λ _. seenOr six 6 (done tt))
+      rows-end : verdict
+          ≡ (lists >>= λ _. seenOr five 5 (done tt) >>= λ _. seenOr six 6 (done tt) >>= λ _. seenOr seven 7 (done tt))
       unfolding parseContents parseBodies ruled eachMust
       rows-end = rw (none-left h, bind-done) refl
 
-      pub bodies-end : Checked.Accepted ≡ checked lists → checked verdict ≡ verdictOf five six
+      pub bodies-end : Checked.Accepted ≡ checked lists → checked verdict ≡ verdictOf five six seven
       unfolding verdictOf
       bodies-end e = rw rows-end (goes-on lists _ e)
 
@@ -150,29 +175,35 @@ module _ (ls : List NameList) (b : List ℕ) (lists : Result (Unit {0})) (counte
       abbrev body : List ℕ
       body = take (word b (w + 2)) (drop (word b (w + 1)) b)
 
-      pub bodies-broken : Body.Broken ≡ bodyOf counted version (parseBody ls body) → verdict ≡ refused 4 t
+      pub bodies-broken : Body.Broken ≡ bodyOf format version (parseBody ls body) → verdict ≡ refused 4 t
       unfolding parseBodies ruled asRefusal _>>=_
       bodies-broken e =
-          let k = body-broken counted version (parseBody ls body) e in
+          let k = body-broken format version (parseBody ls body) e in
           rw (contents-step b left w h, k .2) refl
 
       -- What comes of the bodies after one that keeps these rules.
-      abbrev others : Rules → ℕ → Result (Unit {0})
-      others q n =
-          ruled lists counted version n (firstOf five (q .layout) t) (firstOf six (q .since) t)
+      abbrev others : Rules → Bool → ℕ → Result (Unit {0})
+      others q short n =
+          ruled lists format version n (firstOf five (q .layout) t) (firstOf six (q .since) t) (firstOf seven short t)
           (parseBodies ls b n (parseContents b (left - 1) (w + 3)))
 
-      pub bodies-next : t < 64 → (q : Rules) → Body.Whole q ≡ bodyOf counted version (parseBody ls body)
-          → verdict ≡ others q (t + 1)
-      bodies-next few q e =
-          let k = body-is counted version q (parseBody ls body) e in
+      pub bodies-next : t < 64 → (q : Rules) (short : Bool)
+          → Body.Whole q short ≡ bodyOf format version (parseBody ls body)
+          → verdict ≡ others q short (t + 1)
+      bodies-next few q short e =
+          let k = body-is format version q short (parseBody ls body) e in
           let i : t + 1 ≡ suc t = omega arith in
-          rw i (next (k .0) (k .1) ∙ ap (λ (r : Rules). others r (suc t)) (sym (k .2)))
+          let kept = leb (leastLength format (k .body .0) (k .body .1)) mostMessage in
+          rw i
+          (next (k .body) (k .is) ∙ ap (λ (r : Rules). others r kept (suc t)) (sym (k .rules))
+          ∙ ap (λ (x : Bool). others q x (suc t)) (sym (k .length)))
         where
           next : (r : Shape × Groups) → parseBody ls body ≡ done r
-              → verdict ≡ others (bodyRules counted version r) (suc t)
+              → verdict ≡ others (bodyRules (format .inGroups) version r)
+              (leb (leastLength format (r .0) (r .1)) mostMessage) (suc t)
           next r e =
               unfold parseBodies asRefusal allRules in
               rw (contents-step b left w h, e, bind-done)
-              (ruled-next lists counted version t five six (record { id = word b w; shape = r .0; groups = r .1 })
+              (ruled-next lists format version t five six seven
+              (record { id = word b w; shape = r .0; groups = r .1 })
               (parseBodies ls b (suc t) (parseContents b (left - 1) (w + 3))) few)

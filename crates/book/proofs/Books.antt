@@ -9,30 +9,29 @@ use borrow.Author.Tests.{eq-eqb, ne-eqb}
 use Rattle.layout.specs.Result.{Result, _>>=_, done, if_then_else_, must, refused}
 use Rattle.layout.specs.Octets.{wordsOf}
 use Rattle.layout.specs.Book.{Book, Template}
-use Rattle.layout.specs.BookRules.{bookOf, checkContents, contentsEnd, contentsSize, eachMust, formatOf, headGood}
-use Rattle.layout.specs.BookRules.{headSize, layoutGood, listGood, listRows, listsOf, parseBodies, sinceGood}
-use Rattle.layout.specs.BookRules.{sizeGood, templateRows, word}
+use Rattle.layout.specs.BookRules.{bookOf, checkContents, checkTemplates, contentsEnd, contentsSize, eachMust, formatOf}
+use Rattle.layout.specs.BookRules.{headGood, headSize, listGood, listRows, listsOf, parseBodies, sizeGood, templateRows}
+use Rattle.layout.specs.BookRules.{treeOf, word}
 use Rattle.layout.specs.Contracts.{checked, refusal}
-use Rattle.layout.proofs.Results.{bind-done}
+use Rattle.layout.proofs.Results.{bind-assoc, bind-done}
 use Rattle.book.specs.Answers.{bodiesOf, ruled, seenOr}
 use Rattle.book.proofs.Bodies.{goes-on, stops}
 use Rattle.layout.specs.declared.Refusal.{Refusal}
 use Rattle.layout.specs.declared.Checked.the-variants as Checked
 
 -- What is made at last does not show in a check.
-both-checked : {B : Type 0} (y z : Result (Unit {0})) (b : B)
-    → checked (y >>= λ _. z >>= λ _. done b) ≡ checked (y >>= λ _. z)
+made-checked : {B : Type 0} (y : Result (Unit {0})) (b : B) → checked (y >>= λ _. done b) ≡ checked y
 unfolding checked _>>=_
-both-checked (done u) (done v) b = refl
-both-checked (done u) (refused n p) b = refl
-both-checked (refused n p) z b = refl
+made-checked (done u) b = refl
+made-checked (refused n p) b = refl
 
-all-checked : {A B : Type 0} (x : Result A) (l : Result (Unit {0})) (f g : A → Result (Unit {0})) (k : A → B)
-    → checked (x >>= λ a. l >>= λ _. f a >>= λ _. g a >>= λ _. done (k a))
-    ≡ checked (x >>= λ a. l >>= λ _. f a >>= λ _. g a)
-all-checked (done a) (done u) f g k = rw (bind-done, bind-done, bind-done, bind-done) (both-checked (f a) (g a) (k a))
-all-checked (done a) (refused n p) f g k = unfold checked _>>=_ in refl
-all-checked (refused n p) l f g k = unfold checked _>>=_ in refl
+all-checked : {A B : Type 0} (x : Result A) (l : Result (Unit {0})) (k : A → B) (f : B → Result (Unit {0}))
+    → checked (x >>= (λ a. l >>= λ _. done (k a)) >>= λ b. f b >>= λ _. done b)
+    ≡ checked (x >>= λ a. l >>= λ _. f (k a))
+unfolding checked _>>=_
+all-checked (done a) (done u) k f = made-checked (f (k a)) (k a)
+all-checked (done a) (refused n p) k f = refl
+all-checked (refused n p) l k f = refl
 
 -- ---- the contents
 
@@ -61,33 +60,44 @@ module _ (b : List ℕ) where
 
 module _ (s : List ℕ) where
   pub book-size : sizeGood s ≡ false → checked (bookOf s) ≡ Checked.Refused (refusal 1 0)
-  unfolding bookOf must _>>=_ checked
+  unfolding bookOf treeOf must _>>=_ checked
   book-size a = rw a refl
 
   module _ (size : sizeGood s ≡ true) where
     pub book-head : headGood (wordsOf s) ≡ false → checked (bookOf s) ≡ Checked.Refused (refusal 2 0)
-    unfolding bookOf must _>>=_ checked
+    unfolding bookOf treeOf must _>>=_ checked
     book-head a = rw (size, a) refl
 
     module _ (head : headGood (wordsOf s) ≡ true) where
+      abbrev tree : List Template → Book
+      tree ts =
+          let b = wordsOf s in
+          record { schema = word b 0; version = word b 1; format = formatOf b; lists = listsOf b; templates = ts }
+
+      -- What comes after the contents.
+      abbrev bodies : Result Book
+      bodies =
+          let b = wordsOf s in
+          parseBodies (listsOf b) b 0 (templateRows b) >>= λ ts. eachMust listGood 4 (word b 2) (listsOf b)
+          >>= λ _. done (tree ts)
+
+      after-head : bookOf s ≡ (checkContents (wordsOf s) >>= λ _. bodies >>= λ b. checkTemplates b >>= λ _. done b)
+      unfolding bookOf treeOf must
+      after-head = rw (size, head, bind-done, bind-done) (bind-assoc (checkContents (wordsOf s)) (λ _. bodies) _)
+
       pub book-contents : (r : Refusal) → Checked.Refused r ≡ checked (checkContents (wordsOf s))
           → checked (bookOf s) ≡ Checked.Refused r
-      unfolding bookOf must
-      book-contents r e = rw (size, head, bind-done, bind-done) (stops (checkContents (wordsOf s)) _ r e)
+      book-contents r e = rw after-head (stops (checkContents (wordsOf s)) _ r e)
 
       pub book-bodies : Checked.Accepted ≡ checked (checkContents (wordsOf s))
           → checked (bookOf s) ≡ checked (bodiesOf (wordsOf s))
-      unfolding bookOf must ruled seenOr if_then_else_
+      unfolding checkTemplates ruled seenOr if_then_else_
       book-bodies e =
           let b = wordsOf s in
-          rw (size, head, bind-done, bind-done)
+          rw after-head
           (goes-on (checkContents b) _ e
-          ∙ all-checked (parseBodies (listsOf b) b 0 (templateRows b)) (eachMust listGood 4 (word b 2) (listsOf b))
-          (eachMust layoutGood 5 0) (eachMust (sinceGood (formatOf b .inGroups) (word b 1)) 6 0) (tree b))
-        where
-          tree : List ℕ → List Template → Book
-          tree b ts =
-              record { schema = word b 0; version = word b 1; format = formatOf b; lists = listsOf b; templates = ts }
+          ∙ all-checked (parseBodies (listsOf b) b 0 (templateRows b)) (eachMust listGood 4 (word b 2) (listsOf b)) tree
+          checkTemplates)
 
 -- Contents that are accepted are kept.
 pub contents-kept : (x : Result (Unit {0})) → Checked.Accepted ≡ checked x → x ≡ done tt

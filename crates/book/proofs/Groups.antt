@@ -92,11 +92,14 @@ row-broken counted version low high (refused n p) e = (n, p, refl)
 -- ---- the parts of a body lie in it
 
 shape-within : (ls : List NameList) (b : List ℕ) (few w : ℕ) (r : Shape × ℕ × ℕ)
-    → parseShape ls b few w ≡ done r → r .2 ≤ length b
+    → parseShape ls b few w ≡ done r → (w + 4 ≤ length b) × (r .2 ≤ length b)
 unfolding parseShape
 shape-within ls b few w r e =
-    let p = inv-bind _ _ _ (inv-bind _ _ _ (inv-bind _ _ _ e .next) .next) in
-    subst (λ (x : Shape × ℕ × ℕ). x .2 ≤ length b) (done-inj (p .next)) (leb-true _ _ (inv-must _ _ _ _ (p .first)))
+    let k = inv-bind _ _ _ e in
+    let p = inv-bind _ _ _ (inv-bind _ _ _ (k .next) .next) in (
+      leb-true _ _ (inv-must _ _ _ _ (k .first)),
+      subst (λ (x : Shape × ℕ × ℕ). x .2 ≤ length b) (done-inj (p .next)) (leb-true _ _ (inv-must _ _ _ _ (p .first))),
+    )
 
 groups-within : (ls : List NameList) (b : List ℕ) (depth n w : ℕ) (r : Groups × ℕ)
     → parseGroups ls b depth n w ≡ done r → w ≤ length b → r .1 ≤ length b
@@ -109,13 +112,13 @@ groups-within ls b (suc depth) (suc n) w r e h =
     let q = inv-bind _ _ _ (p .next) in
     let k = inv-bind _ _ _ (q .next) in
     let y = groups-within ls b depth (p .value .1) (p .value .2) (q .value) (q .first)
-    (shape-within ls b 1 (w + 2) (p .value) (p .first)) in
+    (shape-within ls b 1 (w + 2) (p .value) (p .first) .1) in
     subst (λ (x : Groups × ℕ). x .1 ≤ length b) (done-inj (k .next))
     (groups-within ls b (suc depth) n (q .value .1) (k .value) (k .first) y)
 
 pub block-within : (ls : List NameList) (b : List ℕ) (few w version low high top g x : ℕ) (q : Rules)
     → Block.Whole g x q ≡ blockOf version low high top (parseShape ls b few w)
-    → x ≤ length b
+    → (w + 4 ≤ length b) × (x ≤ length b)
 block-within ls b few w version low high top g x q e =
     shape-within ls b few w _ (block-is version low high top g x q _ e .is)
 

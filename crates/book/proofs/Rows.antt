@@ -12,8 +12,9 @@ use Rattle.layout.specs.Octets.{wordsOf}
 use Rattle.layout.specs.Lists.{findNames, missing, namesOf}
 use Rattle.layout.specs.BookRules.{ContentsRow, checkContents, contentsEnd, contentsSize, headGood, headSize, listRows}
 use Rattle.layout.specs.BookRules.{listsOf, nameListOf, parseContents, templateRows, word}
-use Rattle.layout.proofs.Results.{and-left, and-right, done-inj, inv-bind, inv-must}
-use Rattle.book.specs.Rows.{BookHead, HasLists, IsListRow, endOf, listAt, listedAmong, listedOf}
+use Rattle.layout.specs.Message.{dimensionSize}
+use Rattle.layout.proofs.Results.{and-left, and-right, done-inj, each-way, inv-bind, inv-must, or-left}
+use Rattle.book.specs.Rows.{BookHead, HasLists, IsListRow, countedIn, endOf, listAt, listedAmong, listedOf}
 use Rattle.book.proofs.Words.{length-words}
 use Rattle.book.specs.declared.Contents.the-variants as Contents
 use Rattle.book.specs.declared.Listed.the-variants.{At, Missing}
@@ -163,6 +164,15 @@ head-says s h =
       few = leb-true _ _ (and-left _ _ g);
       fits = rw (← (length-words s)) (leb-true _ _ (and-left _ _ (and-right _ _ (and-right _ _ g))));
     }
+
+-- A dimension has as many numbers as the head's last word says.
+pub dimension-is : (s : List ℕ) → BookHead s → 2 * word (wordsOf s) 6 ≡ dimensionSize (countedIn s)
+dimension-is s h =
+    let n = word (wordsOf s) 6 in
+    let g = and-right _ _ (and-right _ _ (and-right _ _ (and-right _ _ (h .good)))) in
+    let two-or-four = and-right _ _ (and-right _ _ (and-right _ _ g)) in
+    each-way (eqb n 4) (λ e. rw (e, eqb-true n 4 e) refl)
+    (λ e. rw (e, eqb-true n 2 (or-left _ _ two-or-four e)) refl)
 
 -- A book that is too short for a head has none that is good.
 pub head-short : (b : List ℕ) → length b < headSize → headGood b ≡ false

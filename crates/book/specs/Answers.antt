@@ -2,14 +2,15 @@
 use mathlib.Core.Path.{_≡_}
 use mathlib.Core.Bool.{Bool, true}
 use mathlib.Core.List.{List}
-use Prim.Native.Nat.{_<_, ℕ}
+use Prim.Native.Nat.{_*_, _+_, _<_, ℕ}
 use lib.Dec.{leb, ltb}
 use Rattle.layout.specs.Result.{Result, _>>=_, _and_, done, if_then_else_, refused}
 use Rattle.layout.specs.Octets.{wordsOf}
-use Rattle.layout.specs.Book.{Field, Groups, Shape, Template, end, fieldSinces}
+use Rattle.layout.specs.Book.{Field, Format, Groups, Shape, Template, end, fieldSinces}
 use Rattle.layout.specs.BookRules.{eachMust, fieldGood, fieldsGood, fieldsSince, formatOf, groupsGood, groupsSince}
-use Rattle.layout.specs.BookRules.{layoutGood, listGood, listsOf, parseBodies, shapeGood, shapeSince, sinceGood}
-use Rattle.layout.specs.BookRules.{templateRows, word}
+use Rattle.layout.specs.BookRules.{layoutGood, leastLength, lengthKept, listGood, listsOf, parseBodies, shapeGood}
+use Rattle.layout.specs.BookRules.{shapeSince, sinceGood, templateRows, word}
+use Rattle.layout.specs.Message.{dimensionSize, headerSize, mostMessage}
 use Rattle.layout.specs.Contracts.{checked}
 use Rattle.layout.specs.declared.Checked.{Checked}
 use Rattle.book.specs.declared.Rules.{Rules}
@@ -73,9 +74,15 @@ abbrev pub bodyRules : Bool → ℕ → Shape × Groups → Rules
 bodyRules counted version r =
     allRules (shapeRules version 0 version version (r .0)) (groupsRules counted version 0 version (r .1))
 
-unfoldable pub bodyOf : Bool → ℕ → Result (Shape × Groups) → Body
-bodyOf counted version (done r) = Body.the-variants.Whole (bodyRules counted version r)
-bodyOf counted version (refused n p) = Body.the-variants.Broken
+unfoldable pub bodyOf : Format → ℕ → Result (Shape × Groups) → Body
+bodyOf format version (done r) =
+    Body.the-variants.Whole (bodyRules (format .inGroups) version r)
+    (leb (leastLength format (r .0) (r .1)) mostMessage)
+bodyOf format version (refused n p) = Body.the-variants.Broken
+
+-- What 7 measures, by a body's words.
+abbrev pub leastAt : Bool → List ℕ → ℕ
+leastAt counted b = headerSize + word b 0 + dimensionSize counted * word b 2 + 2 * word b 3
 
 -- ---- all bodies: "lowest number found in any template, then the first template that has it"
 
@@ -91,20 +98,22 @@ firstOf seen keeps t = if ltb seen noTemplate then seen else if keeps then noTem
 unfoldable pub seenOr : ℕ → ℕ → Result (Unit {0}) → Result (Unit {0})
 seenOr seen n x = if ltb seen noTemplate then refused n seen else x
 
--- 4 of the lists, and 5 and 6 for the templates x from number t on, `five` and `six` being the first that broke a rule
--- before them.
-unfoldable pub ruled : Result (Unit {0}) → Bool → ℕ → ℕ → ℕ → ℕ → Result (List Template) → Result (Unit {0})
-ruled lists counted version t five six x = do
+-- 4 of the lists, and 5, 6 and 7 for the templates x from number t on, `five`, `six` and `seven` being the first that
+-- broke a rule before them.
+unfoldable pub ruled : Result (Unit {0}) → Format → ℕ → ℕ → ℕ → ℕ → ℕ → Result (List Template) → Result (Unit {0})
+ruled lists format version t five six seven x = do
   ts ← x
   _ ← lists
   _ ← seenOr five 5 (eachMust layoutGood 5 t ts)
-  seenOr six 6 (eachMust (sinceGood counted version) 6 t ts)
+  _ ← seenOr six 6 (eachMust (sinceGood (format .inGroups) version) 6 t ts)
+  seenOr seven 7 (eachMust (lengthKept format) 7 t ts)
 
-unfoldable pub verdictOf : ℕ → ℕ → Checked
-verdictOf five six = checked (seenOr five 5 (done tt) >>= λ _. seenOr six 6 (done tt))
+unfoldable pub verdictOf : ℕ → ℕ → ℕ → Checked
+verdictOf five six seven =
+    checked (seenOr five 5 (done tt) >>= λ _. seenOr six 6 (done tt) >>= λ _. seenOr seven 7 (done tt))
 
--- 4 to 6, over the words of a book.
+-- 4 to 7, over the words of a book.
 abbrev pub bodiesOf : List ℕ → Result (Unit {0})
 bodiesOf b =
-    ruled (eachMust listGood 4 (word b 2) (listsOf b)) (formatOf b .inGroups) (word b 1) 0 noTemplate noTemplate
+    ruled (eachMust listGood 4 (word b 2) (listsOf b)) (formatOf b) (word b 1) 0 noTemplate noTemplate noTemplate
     (parseBodies (listsOf b) b 0 (templateRows b))

@@ -1,5 +1,5 @@
-// Checks a schema book: accepted, or the refusal 1 to 6 with its place. One walk over the words of each body finds
-// whether the body is whole (4) and, if it is, whether it keeps the rules of 5 and of 6. Then the lists are judged (4).
+// Checks a schema book: accepted, or the refusal 1 to 7 with its place. One walk over the words of each body finds
+// whether the body is whole (4) and, if it is, whether it keeps the rules of 5, 6 and 7. Then the lists are judged (4).
 use layout::Checked;
 use layout::Refusal;
 ghost use mathlib.Core.Path.{_≡_};
@@ -13,13 +13,13 @@ ghost use Rattle.layout.specs.Octets.{wordsOf};
 ghost use Rattle.layout.specs.Types.{typeAt};
 ghost use Rattle.layout.specs.Lists.{isOneOf};
 ghost use Rattle.layout.specs.Book.{dataSinces};
-ghost use Rattle.layout.specs.BookRules.{checkContents, climbing, contentsEnd, eachMust, fieldAt, greatest, headGood};
-ghost use Rattle.layout.specs.BookRules.{listGood, listsOf, namesGood, parseBody, parseContents, parseDatas};
+ghost use Rattle.layout.specs.BookRules.{checkContents, climbing, contentsEnd, eachMust, fieldAt, formatOf, greatest};
+ghost use Rattle.layout.specs.BookRules.{headGood, listGood, listsOf, namesGood, parseBody, parseContents, parseDatas};
 ghost use Rattle.layout.specs.BookRules.{parseFields, parseGroups, parseShape, rising, sizeGood, word as wordOf};
 ghost use Rattle.layout.specs.BookRules.{youngest as youngestOf};
 ghost use Rattle.layout.specs.Contracts.{checked, refusal, ChecksBook};
-ghost use Rattle.book.specs.Answers.{IsWord, allRules, groupRules, fieldOf, fieldsRules, blockOf, rowOf, bodyOf};
-ghost use Rattle.book.specs.Answers.{firstOf, verdictOf, bodiesOf};
+ghost use Rattle.book.specs.Answers.{IsWord, allRules, blockOf, bodiesOf, bodyOf, fieldOf, fieldsRules, firstOf};
+ghost use Rattle.book.specs.Answers.{groupRules, leastAt, rowOf, verdictOf};
 ghost use Rattle.book.specs.Rows.{BookHead, EndsLow, HasLists, IsListRow, countedIn, endOf, listAt, listFits};
 ghost use Rattle.book.specs.Rows.{listedOf};
 
@@ -52,8 +52,9 @@ pub enum Row {
     Broken,
 }
 
+// A body: whether its template's shortest message is short enough, which is the rule of 7.
 pub enum Body {
-    Whole(Rules),
+    Whole { rules: Rules, short: bool },
     Broken,
 }
 
@@ -76,6 +77,11 @@ const ROW: usize = 3;
 
 // No template has this number.
 const NO_TEMPLATE: usize = 64;
+
+// How many octets a message's header has, and a message at most.
+const HEADER: usize = 12;
+
+const MOST: usize = 65535;
 
 fn refuse(number: u8, place: usize) -> Checked
     ensures { λ r. ⌜ r ≡ Checked.Refused (refusal number place) ⌝ }
@@ -512,10 +518,20 @@ fn check_groups(
     Row::Whole { next: w, rules }
 }
 
+// How many octets the shortest message of a body's template has: its header, the root block, a dimension for each root
+// group and a length for each root data.
+fn least_length(book: &[u8], body: &[u8]) -> usize
+    requires { ⌜ HasLists (now book) × (4 ≤ length (now body) / 2) ⌝ }
+    ensures { λ r. ⌜ r ≡ leastAt (countedIn (now (book .entry))) (wordsOf (now (body .entry))) ⌝ }
+{
+    let dimension = 2 * word(book, 6);
+    HEADER + word(body, 0) + dimension * word(body, 2) + 2 * word(body, 3)
+}
+
 // A body is one block, and nothing after it.
 fn check_body(book: &[u8], body: &[u8], version: usize) -> Body
     requires { ⌜ HasLists (now book) ⌝ }
-    ensures { λ r. ⌜ r ≡ bodyOf (countedIn (now (book .entry))) version (parseBody (listsOf (wordsOf (now
+    ensures { λ r. ⌜ r ≡ bodyOf (formatOf (wordsOf (now (book .entry)))) version (parseBody (listsOf (wordsOf (now
         (book .entry)))) (wordsOf (now (body .entry)))) ⌝ }
 {
     let block = check_block(book, body, 0, 0, version, 0, version, version);
@@ -532,7 +548,10 @@ fn check_body(book: &[u8], body: &[u8], version: usize) -> Body
         return Body::Broken;
     };
     if next == body.len() / 2 {
-        return Body::Whole(all_rules(own, below));
+        return Body::Whole {
+            rules: all_rules(own, below),
+            short: least_length(book, body) <= MOST,
+        };
     }
     Body::Broken
 }
@@ -552,8 +571,8 @@ fn first_of(seen: usize, keeps: bool, t: usize) -> usize
     t
 }
 
-fn verdict(five: usize, six: usize) -> Checked
-    ensures { λ r. ⌜ r ≡ verdictOf five six ⌝ }
+fn verdict(five: usize, six: usize, seven: usize) -> Checked
+    ensures { λ r. ⌜ r ≡ verdictOf five six seven ⌝ }
 {
     if five < NO_TEMPLATE {
         return refuse(5, five);
@@ -561,10 +580,14 @@ fn verdict(five: usize, six: usize) -> Checked
     if six < NO_TEMPLATE {
         return refuse(6, six);
     }
+    if seven < NO_TEMPLATE {
+        return refuse(7, seven);
+    }
     Checked::Accepted
 }
 
-// The bodies of all templates: 4 where one is broken or a list is, else 5 at the first that breaks its rule, else 6.
+// The bodies of all templates: 4 where one is broken or a list is, else 5 at the first that breaks its rule, else 6,
+// else 7.
 fn check_bodies(book: &[u8]) -> Checked
     requires { ⌜ HasLists (now book) ⌝ }
     ensures { λ r. ⌜ r ≡ checked (bodiesOf (wordsOf (now (book .entry)))) ⌝ }
@@ -575,21 +598,23 @@ fn check_bodies(book: &[u8]) -> Checked
     let mut w = HEAD;
     let mut five = NO_TEMPLATE;
     let mut six = NO_TEMPLATE;
+    let mut seven = NO_TEMPLATE;
     while 0 < left {
         let start = 2 * word(book, w + 1);
         let end = start + 2 * word(book, w + 2);
         let body = check_body(book, &book[start..end], version);
-        let Body::Whole(rules) = body else {
+        let Body::Whole { rules, short } = body else {
             return refuse(4, t);
         };
         five = first_of(five, rules.layout, t);
         six = first_of(six, rules.since, t);
+        seven = first_of(seven, short, t);
         t = t + 1;
         w = w + ROW;
         left = left - 1;
     }
     let Checked::Refused(refusal) = check_lists(book) else {
-        return verdict(five, six);
+        return verdict(five, six, seven);
     };
     Checked::Refused(refusal)
 }

@@ -15,7 +15,7 @@ use Rattle.layout.specs.Result.{_>>=_, _and_, done, must, orRefuse, refused}
 use Rattle.layout.specs.Lists.{noNames}
 use Rattle.layout.specs.Octets.{AllOctets, Numbers64}
 use Rattle.layout.specs.Book.{Book, Template, findTemplate}
-use Rattle.layout.specs.BookRules.{bookOf}
+use Rattle.layout.specs.BookRules.{bookOf, leastLength}
 use Rattle.layout.specs.Values.{Values, answerAt, listing, measure}
 use Rattle.layout.specs.Message.{readMessage, templateId, versionOf}
 use Rattle.layout.specs.Reading.{checkOf, hasPlace, listOf, placeAsked, placeBy, stepsOf, wholeSteps}
@@ -23,8 +23,8 @@ use Rattle.layout.specs.Writing.{judgeListing, messageOctets, writeOf, writtenL
 use Rattle.layout.specs.Extension.{Extends}
 use Rattle.layout.specs.Contracts.{AnswersPlace, Checks, ChecksBook, Lists, Writes, checked, counted, found, refusal}
 use Rattle.layout.specs.Contracts.{roomAfter}
-use Rattle.layout.specs.Demands.{AlikeOrUnlisted, AsWritten, CallsAlike, OtherWay, Runs, contents, foundBeside, namesAt}
-use Rattle.layout.specs.Demands.{otherOrder, reordered}
+use Rattle.layout.specs.Demands.{AlikeOrUnlisted, AsWritten, CallsAlike, CanBeSent, NeverSent, OtherWay, Runs, contents}
+use Rattle.layout.specs.Demands.{foundBeside, namesAt, otherOrder, reordered, shortest}
 use Rattle.demands.proofs.Kept.{found-says, found-seen, seen, seen-by-none}
 use Rattle.demands.proofs.Numbers.{book-refuses, check-refuses, forty-lacks-room, place-refuses, refuses-with}
 use Rattle.demands.proofs.Numbers.{write-refuses}
@@ -33,7 +33,8 @@ use Rattle.demands.proofs.Outcomes.{first-is, goes-on, left, no-answer-
 use Rattle.demands.proofs.Outcomes.{refused-listing, refused-of, refused-writing, rest-is, same-length, stops}
 use Rattle.demands.proofs.Outcomes.{was-accepted, was-read, writes-on}
 use Rattle.demands.proofs.Theorems.{both-orders-write-alike, both-say-the-same, older-accepts, other-order}
-use Rattle.demands.proofs.Theorems.{read-writes-back, turned-reads-alike, written-length, written-reads-back}
+use Rattle.demands.proofs.Theorems.{read-writes-back, refused-is-never-sent, turned-reads-alike, written-length}
+use Rattle.demands.proofs.Theorems.{written-reads-back}
 use Rattle.demands.proofs.TwoBooks.{seen-answer}
 use Rattle.demands.proofs.Written.{lists-within, written-by}
 use Rattle.layout.proofs.Records.{listing-three}
@@ -82,8 +83,8 @@ writing-has-one-outcome book id l pool before after after′ r r′ c c′ =
 -- gives both by an equation. Which numbers they are:
 
 pub book-is-refused-with : (book : List ℕ) (z : Refusal) → ChecksBook book (Checked.Refused z)
-    → (1 ≤ z .number) × (z .number ≤ 6)
-book-is-refused-with book z c = refuses-with 1 6 _ _ _ (book-refuses book) (refused-of (bookOf book) z c)
+    → (1 ≤ z .number) × (z .number ≤ 7)
+book-is-refused-with book z c = refuses-with 1 7 _ _ _ (book-refuses book) (refused-of (bookOf book) z c)
 
 pub message-is-refused-with : (book m : List ℕ) (z : Refusal) → ChecksBook book Checked.Accepted
     → Checks book m (Checked.Refused z)
@@ -349,6 +350,25 @@ listed-writes-back book m b t v octets isBook known reads a room listed k lists 
     ∙ ap listing (one-tree book m (q .0) v (q .1) (record { by = b; accepted = isBook; reads = reads })) in
     let e = read-writes-back book m (length before) b t v octets isBook known reads a fits in
     (writes .answer ∙ rw (is, e) refl, writes .room ∙ rw (is, e) refl)
+
+-- ---- "Templates that can never be sent"
+
+-- A book that its check refuses with 7 has such a template at that place.
+pub refused-book-is-never-sent : (book : List ℕ) (n : ℕ) → ChecksBook book (Checked.Refused (refusal 7 n))
+    → NeverSent book n
+refused-book-is-never-sent book n c = refused-is-never-sent book n (refused-of (bookOf book) (refusal 7 n) c)
+
+-- A template that can be sent is written by the call, from the listing of no entries and no octets of data, into any
+-- room that has as many octets as rule 7 counts.
+pub shortest-is-written : (book : List ℕ) (b : Book) (t : Template) (c : CanBeSent book b t)
+    → let n = leastLength (b .format) (t .shape) (t .groups) in
+    (before after : List ℕ) (r : Counted) → n ≤ length before
+    → Writes book (t .id) (listing (shortest t (c .fields))) (c .pool) before r after
+    → (r ≡ Counted.Count n) × (after ≡ c .message ++ drop n before)
+unfolding counted roomAfter _>>=_
+shortest-is-written book b t c before after r fits writes =
+    let e = c .written (length before) (omega (arith, c .long)) in
+    (writes .answer ∙ rw (e, c .long) refl, writes .room ∙ rw (e, c .long) refl)
 
 -- ---- demand 3: "For accepted books, the newer a legal extension of the older, and any message whose template is in
 -- both"

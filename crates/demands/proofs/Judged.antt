@@ -1,27 +1,30 @@
 -- The second round trip, its listing: the listing of a message's tree is judged to be that tree.
-use mathlib.Core.Path.{_∙_, _≡_, ap, refl, subst, sym}
+use mathlib.Core.Path.{_∙_, _≡_, refl, subst, sym}
 use mathlib.Core.Bool.{Bool, false, true}
 use mathlib.Core.List.{List, [], _++_, _∷_, map}
-use Prim.Native.Nat.{_*_, _+_, _<_, _≤_, suc, zero, ℕ}
+use Prim.Native.Nat.{_*_, _+_, _≤_, suc, zero, ℕ}
 use native.Mathlib.Nat.{le-refl}
 use native.Mathlib.Omega.{arith}
 use lib.Dec.{eqb}
-use lib.ListN.{drop, getD, length, take}
+use lib.ListN.{drop, length, take}
 use borrow.Author.Tests.{eq-eqb, le-leb, leb-true, lt-ltb}
-use Rattle.layout.specs.Result.{Each, Result, _>>=_, _and_, _or_, done, if_then_else_, must}
+use Rattle.layout.specs.Result.{Each, Result, _>>=_, _and_, done, if_then_else_}
 use Rattle.layout.specs.Octets.{null16, number16, numberAt, textLength}
 use Rattle.layout.specs.Types.{TypeRow, classify, inRange, typeAt, valueOf}
-use Rattle.layout.specs.Lists.{beside, has}
+use Rattle.layout.specs.Lists.{beside}
 use Rattle.layout.specs.Book.{Data, Field, Groups, Shape, Template, dataSinces, end, fieldSinces, isArray, isChar}
 use Rattle.layout.specs.Book.{isOptional, more, need, needAfter, none}
 use Rattle.layout.specs.BookRules.{fieldsGood, lengthGood}
-use Rattle.layout.specs.Values.{Values, entry, group, listing, nil, recordOf, recordsOf}
+use Rattle.layout.specs.Values.{Values, entry, listing, nil, recordOf, recordsOf}
 use Rattle.layout.specs.Message.{Entry, arrayAt, dimensionSize, inside, readBlock, readData, readDatas, readEntries}
 use Rattle.layout.specs.Message.{readField, readGroups}
-use Rattle.layout.specs.Writing.{first, isThere, judgeArray, judgeBlock, judgeData, judgeDatas, judgeEntries}
-use Rattle.layout.specs.Writing.{judgeField, judgeFields, judgeGroups, judgeListing, judgeNull, judgeNumber}
-use Rattle.layout.specs.Writing.{judgeOctets, judgeText, second, textFits, third}
+use Rattle.layout.specs.Writing.{first, judgeArray, judgeBlock, judgeData, judgeDatas, judgeEntries, judgeField}
+use Rattle.layout.specs.Writing.{judgeFields, judgeGroups, judgeListing, judgeNumber, judgeOctets, judgeText, textFits}
+use Rattle.layout.specs.Writing.{third}
 use Rattle.layout.specs.Demands.{AllSound, Sound}
+use Rattle.demands.proofs.Judging.{Judges, all-judged, block-next, datas-next, datas-stop, entries-next}
+use Rattle.demands.proofs.Judging.{entries-stop, fields-next, fields-stop, groups-next, groups-stop, null-judged}
+use Rattle.demands.proofs.Judging.{null-text-judged, number-judged, octets-judged, record-is}
 use Rattle.demands.proofs.Needs.{need-grows}
 use Rattle.demands.proofs.Read.{data-read, datas-read, group-read}
 use Rattle.demands.proofs.Reread.{no-datas, no-groups}
@@ -31,55 +34,12 @@ use Rattle.layout.proofs.Present.{GoodGroups, GoodShape, UpTo}
 use Rattle.layout.proofs.Records.{record-three}
 use Rattle.layout.proofs.Results.{and-left, done-inj, inv-bind, inv-must}
 use Rattle.layout.proofs.Texts.{text-again, text-within}
-use Rattle.layout.proofs.Stands.{Stands, all-stands, split-to, three-stand}
+use Rattle.layout.proofs.Stands.{Stands, all-stands, split-to}
 use Rattle.layout.proofs.TypeLaws.{inside-not-null}
 use Rattle.layout.specs.declared.Answer.{Answer}
-use Rattle.layout.specs.declared.Answer.the-variants.{Group, Null, Number, Octets, OutOfRange}
+use Rattle.layout.specs.declared.Answer.the-variants.{Null, Number, Octets, OutOfRange}
 
 module _ (big : Bool) (l m : List ℕ) (v : ℕ) where
-  -- ---- records
-
-  record RecordIs (i a b c : ℕ) : Type 0 where
-    there : isThere l i ≡ true
-    is₁ : first l i ≡ a
-    is₂ : second l i ≡ b
-    is₃ : third l i ≡ c
-
-  record-is : (i a b c to : ℕ) → Stands l (3 * i) (a ∷ b ∷ c ∷ []) to → RecordIs i a b c
-  record-is i a b c to s =
-      let fits : 3 * i + 3 ≤ length l = omega (arith, s .ends, s .fits) in
-      let e : first l i ∷ second l i ∷ third l i ∷ [] ≡ a ∷ b ∷ c ∷ [] = sym (three-stand l (3 * i) fits .whole)
-      ∙ s .whole in
-      record {
-        there = le-leb (3 * i + 3) (length l) fits;
-        is₁ = ap (λ (x : List ℕ). getD x 0 0) e;
-        is₂ = ap (λ (x : List ℕ). getD x 1 0) e;
-        is₃ = ap (λ (x : List ℕ). getD x 2 0) e;
-      }
-
-  octets-judged : (fits : Bool) (i p n to : ℕ) → fits ≡ true → p + n ≤ length m
-      → Stands l (3 * i) (recordOf (Octets p n)) to
-      → judgeOctets l m fits i ≡ done (Octets p n)
-  unfolding judgeOctets must _>>=_ recordOf _and_
-  octets-judged fits i p n to y h s =
-      let r = record-is i 2 p n to s in
-      rw (r .there, r .is₁, r .is₂, r .is₃, le-leb (p + n) (length m) h, y) refl
-
-  number-judged : (f : Field) (i x to : ℕ) → inRange (typeAt (f .type)) x ≡ true
-      → eqb x (typeAt (f .type) .null) ≡ false → has (f .names) x ≡ true
-      → Stands l (3 * i) (recordOf (Number x)) to → judgeNumber l f i ≡ done (Number x)
-  unfolding judgeNumber if_then_else_ must _>>=_ recordOf _and_ _or_
-  number-judged f i x to o n y s =
-      let r = record-is i 0 x 0 to s in
-      rw (r .there, r .is₁, r .is₂, r .is₃, o, n, y) refl
-
-  null-judged : (f : Field) (i to : ℕ) → isOptional f ≡ true → Stands l (3 * i) (recordOf Null) to
-      → judgeNumber l f i ≡ done Null
-  unfolding judgeNumber if_then_else_ must _>>=_ recordOf _and_ _or_
-  null-judged f i to o s =
-      let r = record-is i 1 0 0 to s in
-      rw (r .there, r .is₁, r .is₂, r .is₃, o) refl
-
   -- ---- fields
 
   class-judged : (f : Field) (i x to : ℕ) → let a = beside (f .names) (classify (typeAt (f .type)) (isOptional f) x) in
@@ -93,19 +53,12 @@ module _ (big : Bool) (l m : List ℕ) (v : ℕ) where
       go : (b : Bool) → (isOptional f and eqb x (k .null)) ≡ b → (c : Bool) → inRange k x ≡ c
           → let a = beside (f .names) (if b then Null else if c then Number x else OutOfRange x) in
           Sound a → Stands l (3 * i) (recordOf a) to → judgeNumber l f i ≡ done a
-      go true e c o sound s = null-judged f i to (and-left _ _ e) s
+      go true e c o sound s = null-judged l m f i to (and-left _ _ e) s
       go false e true o sound s =
           let y = sound-listed (f .names) x sound in
           let q = beside-listed (f .names) x y in
-          rw q (number-judged f i x to o (inside-not-null (f .type) x o) y (rw q at s))
+          rw q (number-judged l m f i x to o (inside-not-null (f .type) x o) y (rw q at s))
       go false e false o sound s = absurd sound
-
-  null-text-judged : (f : Field) (i to : ℕ) → isOptional f ≡ true → Stands l (3 * i) (recordOf Null) to
-      → judgeText l m f i ≡ done Null
-  unfolding judgeNull if_then_else_ must _>>=_ recordOf _and_
-  null-text-judged f i to o s =
-      let r = record-is i 1 0 0 to s in
-      rw (r .there, r .is₁, r .is₂, r .is₃, o) refl
 
   text-judged : (f : Field) (i p to : ℕ) → let n = textLength (take (f .length) (drop p m)) in
       p + f .length ≤ length m → (isOptional f and eqb n 0) ≡ false → Stands l (3 * i) (recordOf (Octets p n)) to
@@ -114,7 +67,7 @@ module _ (big : Bool) (l m : List ℕ) (v : ℕ) where
   text-judged f i p to h e s =
       let n = textLength (take (f .length) (drop p m)) in
       let short = text-within (f .length) (drop p m) in
-      let r = record-is i 2 p n to (unfold recordOf in s) in
+      let r = record-is l m i 2 p n to (unfold recordOf in s) in
       let fits : textFits l m f i ≡ true = rw (
         r .is₂,
         r .is₃,
@@ -122,7 +75,7 @@ module _ (big : Bool) (l m : List ℕ) (v : ℕ) where
         eq-eqb _ _ (text-again (f .length) (drop p m)),
         e,
       ) refl in
-      rw (r .is₁) (octets-judged _ i p n to fits (omega arith) s)
+      rw (r .is₁) (octets-judged l m _ i p n to fits (omega arith) s)
 
   array-judged : (f : Field) (i p to : ℕ) → p + f .length ≤ length m → Stands l (3 * i) (recordOf (arrayAt m p f)) to
       → judgeArray l m f i ≡ done (arrayAt m p f)
@@ -136,11 +89,11 @@ module _ (big : Bool) (l m : List ℕ) (v : ℕ) where
           → let a = if c then (if b then Null else Octets p n) else Octets p (f .length) in
           Stands l (3 * i) (recordOf a) to
           → (if c then judgeText l m f i else judgeOctets l m (eqb (third l i) (f .length)) i) ≡ done a
-      go true true e s = null-text-judged f i to (and-left _ _ e) s
+      go true true e s = null-text-judged l m f i to (and-left _ _ e) s
       go true false e s = text-judged f i p to h e s
       go false b e s =
-          let r = record-is i 2 p (f .length) to (unfold recordOf in s) in
-          octets-judged _ i p (f .length) to (eq-eqb _ _ (r .is₃)) h s
+          let r = record-is l m i 2 p (f .length) to (unfold recordOf in s) in
+          octets-judged l m _ i p (f .length) to (eq-eqb _ _ (r .is₃)) h s
 
   field-judged : (f : Field) (i at to : ℕ) → lengthGood f ≡ true → f .since ≤ v → at + end f ≤ length m
       → Sound (readField big m v at f)
@@ -162,26 +115,12 @@ module _ (big : Bool) (l m : List ℕ) (v : ℕ) where
       go true y sound s = array-judged f i (at + f .offset) to (omega (arith, size-array f g y)) s
       go false y sound s = class-judged f i _ to sound s
 
-  fields-next : (f : Field) (fs : List Field) (i j : ℕ) (a : Answer) (r : List Answer)
-      → judgeField l m f i ≡ done a
-      → judgeFields l m fs (suc i) ≡ done (r, j) → judgeFields l m (f ∷ fs) i ≡ done (a ∷ r, j)
-  unfolding judgeFields _>>=_
-  fields-next f fs i j a r e q = rw (e, q) refl
-
-  fields-stop : (i : ℕ) → judgeFields l m [] i ≡ done ([], i)
-  unfolding judgeFields
-  fields-stop i = refl
-
-  -- Elements are judged to be what they were read as, up to the record at `to`.
-  abbrev Judges : {A : Type 0} → (ℕ → Result (A × ℕ)) → ℕ → ℕ → A → Type 0
-  Judges f i to a = (j : ℕ) × (to ≡ 3 * j) × (f i ≡ done (a, j))
-
   fields-judged : (fs : List Field) (i at len from e to : ℕ) → fieldsGood len from fs ≡ true → UpTo v (fieldSinces fs)
       → at + needAfter v e fs ≤ length m
       → Each Sound (map (readField big m v at) fs) → Stands l (3 * i) (recordsOf (map (readField big m v at) fs)) to
-      → Judges (judgeFields l m fs) i to (map (readField big m v at) fs)
+      → Judges l m (judgeFields l m fs) i to (map (readField big m v at) fs)
   unfolding Each recordsOf needAfter if_then_else_
-  fields-judged [] i at len from e to g u h sound s = (i, omega (arith, s .ends), fields-stop i)
+  fields-judged [] i at len from e to g u h sound s = (i, omega (arith, s .ends), fields-stop l m i)
   fields-judged (f ∷ fs) i at len from e to g u h sound s =
       let k = field-good len from f fs g in
       let a = readField big m v at f in
@@ -193,7 +132,7 @@ module _ (big : Bool) (l m : List ℕ) (v : ℕ) where
       let w = fields-judged fs (suc i) at len (end f) (end f) to (k .rest) (u .1) h′ (sound .1) (o .1) in (
         w .0,
         w .1,
-        fields-next f fs i (w .0) a rest
+        fields-next l m f fs i (w .0) a rest
             (field-judged f i at (3 * suc i) (k .length) (u .0) within (sound .0) (o .0)) (w .2),
       )
 
@@ -205,37 +144,28 @@ module _ (big : Bool) (l m : List ℕ) (v : ℕ) where
       let d = data-read big m v at a e in
       subst (λ (x : Answer × ℕ). Stands l (3 * i) (recordOf (x .0)) to → judgeData l m i ≡ done (x .0)) (d .is)
       (λ o.
-      let r = record-is i 2 (at + 2) (number16 big m at) to (unfold recordOf in o) in
-      octets-judged _ i (at + 2) (number16 big m at) to (lt-ltb (third l i) null16 (omega (arith, r .is₃, d .whole)))
+      let r = record-is l m i 2 (at + 2) (number16 big m at) to (unfold recordOf in o) in
+      octets-judged l m _ i (at + 2) (number16 big m at) to (lt-ltb (third l i) null16 (omega (arith, r .is₃, d .whole)))
       (d .fits) o) s
-
-  datas-next : (d : Data) (ds : List Data) (i j : ℕ) (a : Answer) (r : List Answer) → judgeData l m i ≡ done a
-      → judgeDatas l m ds (suc i) ≡ done (r, j) → judgeDatas l m (d ∷ ds) i ≡ done (a ∷ r, j)
-  unfolding judgeDatas _>>=_
-  datas-next d ds i j a r e q = rw (e, q) refl
-
-  datas-stop : (i : ℕ) → judgeDatas l m [] i ≡ done ([], i)
-  unfolding judgeDatas
-  datas-stop i = refl
 
   datas-judged : (ds : List Data) (i at to : ℕ) (r : List Answer × ℕ) → UpTo v (dataSinces ds)
       → readDatas big m v ds 0 at ≡ done r
-      → Stands l (3 * i) (recordsOf (r .0)) to → Judges (judgeDatas l m ds) i to (r .0)
+      → Stands l (3 * i) (recordsOf (r .0)) to → Judges l m (judgeDatas l m ds) i to (r .0)
   unfolding Each recordsOf
   datas-judged [] i at to r u e s =
       subst (λ (x : List Answer × ℕ). Stands l (3 * i) (recordsOf (x .0)) to
-      → Judges (judgeDatas l m []) i to (x .0)) (done-inj (sym (no-datas big m v at) ∙ e))
-      (λ o. (i, omega (arith, o .ends), datas-stop i)) s
+      → Judges l m (judgeDatas l m []) i to (x .0)) (done-inj (sym (no-datas big m v at) ∙ e))
+      (λ o. (i, omega (arith, o .ends), datas-stop l m i)) s
   datas-judged (d ∷ ds) i at to r u e s =
       let w = datas-read big m v d ds at r (u .0) e in
       let a = w .first .0 in
       let rest = w .rest .0 in
       subst (λ (x : List Answer × ℕ). Stands l (3 * i) (recordsOf (x .0)) to
-      → Judges (judgeDatas l m (d ∷ ds)) i to (x .0)) (w .is)
+      → Judges l m (judgeDatas l m (d ∷ ds)) i to (x .0)) (w .is)
       (λ o.
       let c = split-to (recordOf a) (recordsOf rest) (3 * suc i) (omega (arith, record-three a)) o in
       let k = datas-judged ds (suc i) (w .first .1) to (w .rest) (u .1) (w .after) (c .1) in
-      (k .0, k .1, datas-next d ds i (k .0) a rest (data-judged i at (3 * suc i) (w .first) (w .reads) (c .0)) (k .2)))
+      (k .0, k .1, datas-next l m d ds i (k .0) a rest (data-judged i at (3 * suc i) (w .first) (w .reads) (c .0)) (k .2)))
       s
 
   -- ---- blocks, entries, groups
@@ -244,15 +174,7 @@ module _ (big : Bool) (l m : List ℕ) (v : ℕ) where
   abbrev Agree : (ℕ → Result (Values × ℕ)) → (ℕ → Result (Values × ℕ)) → Type 0
   Agree f f′ =
       (at i to : ℕ) (r : Values × ℕ) → f at ≡ done r → AllSound (r .0) → Stands l (3 * i) (listing (r .0)) to
-      → Judges f′ i to (r .0)
-
-  block-next : (s : Shape) (f : ℕ → Result (Values × ℕ)) (i j k e : ℕ) (fs : List Answer) (g : Values)
-      (ds : List Answer)
-      → judgeFields l m (s .fields) i ≡ done (fs, j) → f j ≡ done (g, k)
-      → judgeDatas l m (s .datas) k ≡ done (ds, e)
-      → judgeBlock l m s f i ≡ done (fs, g, ds, e)
-  unfolding judgeBlock _>>=_
-  block-next s f i j k e fs g ds a b c = rw (a, b, c) refl
+      → Judges l m f′ i to (r .0)
 
   module _ (s : Shape) (f f′ : ℕ → Result (Values × ℕ)) (n : ℕ) (good : GoodShape v s) (enough : need v s ≤ n)
       (ih : Agree f f′) where
@@ -286,67 +208,43 @@ module _ (big : Bool) (l m : List ℕ) (v : ℕ) where
         (subst (λ (y : ℕ). Stands l y (recordsOf ds ++ rest) to) (w₂ .1) (o₂ .1)) in
         let w₃ = datas-judged (s .datas) (w₂ .0) (q .value .1) _ (k .value) (good .datasIn) (k .first) (o₃ .0) in (
           w₃ .0,
-          block-next s f′ i (w₁ .0) (w₂ .0) (w₃ .0) fs gs ds (w₁ .2) (w₂ .2) (w₃ .2),
+          block-next l m s f′ i (w₁ .0) (w₂ .0) (w₃ .0) fs gs ds (w₁ .2) (w₂ .2) (w₃ .2),
           subst (λ (y : ℕ). Stands l y rest to) (w₃ .1) (o₃ .1),
         )) in₁ in₂ st
-
-    entries-next : (k i j e : ℕ) (fs : List Answer) (g : Values) (ds : List Answer) (r : Values)
-        → judgeBlock l m s f′ i ≡ done (fs, g, ds, j)
-        → judgeEntries l m k (judgeBlock l m s f′) j ≡ done (r, e)
-        → judgeEntries l m (suc k) (judgeBlock l m s f′) i ≡ done (entry fs g ds r, e)
-    unfolding judgeEntries _>>=_
-    entries-next k i j e fs g ds r a b = rw (a, b) refl
-
-    entries-stop : (i : ℕ) → judgeEntries l m 0 (judgeBlock l m s f′) i ≡ done (nil, i)
-    unfolding judgeEntries
-    entries-stop i = refl
 
     entries-judged : (k : ℕ) → Agree (readEntries k (readBlock big m v s f 0 n))
         (judgeEntries l m k (judgeBlock l m s f′))
     unfolding readEntries AllSound listing
     entries-judged zero at i to r e sound st =
         subst (λ (x : Values × ℕ). Stands l (3 * i) (listing (x .0)) to
-        → Judges (judgeEntries l m 0 (judgeBlock l m s f′)) i to (x .0)) (done-inj e)
-        (λ o. (i, omega (arith, o .ends), entries-stop i)) st
+        → Judges l m (judgeEntries l m 0 (judgeBlock l m s f′)) i to (x .0)) (done-inj e)
+        (λ o. (i, omega (arith, o .ends), entries-stop l m s f′ i)) st
     entries-judged (suc k) at i to r e sound st =
         let p = inv-bind _ _ _ e in
         let q = inv-bind _ _ _ (p .next) in
         let b = p .value in
         let rest = q .value .0 in
         subst (λ (x : Values × ℕ). AllSound (x .0) → Stands l (3 * i) (listing (x .0)) to
-        → Judges (judgeEntries l m (suc k) (judgeBlock l m s f′)) i to (x .0)) (done-inj (q .next))
+        → Judges l m (judgeEntries l m (suc k) (judgeBlock l m s f′)) i to (x .0)) (done-inj (q .next))
         (λ sound′ o.
         let w = block-judged i at b (listing rest) to (sound′ .0) (sound′ .1) (p .first) o in
         let z = entries-judged k (b .3) (w .0) to (q .value) (q .first) (sound′ .2) (w .2) in
-        (z .0, z .1, entries-next k i (w .0) (z .0) (b .0) (b .1) (b .2) rest (w .1) (z .2))) sound st
-
-  groups-next : (id since : ℕ) (s : Shape) (inner rest : Groups) (i j k e : ℕ) (es gs : Values) → RecordIs i 4 k 0
-      → k < null16
-      → judgeEntries l m k (judgeBlock l m s (judgeGroups l m inner)) (suc i) ≡ done (es, j)
-      → judgeGroups l m rest j ≡ done (gs, e)
-      → judgeGroups l m (more id since s inner rest) i ≡ done (group (Group k) es gs, e)
-  unfolding judgeGroups must _>>=_ _and_
-  groups-next id since s inner rest i j k e es gs r h a b =
-      rw (r .there, r .is₁, r .is₂, r .is₃, lt-ltb k null16 h, a, b) refl
-
-  groups-stop : (i : ℕ) → judgeGroups l m none i ≡ done (nil, i)
-  unfolding judgeGroups
-  groups-stop i = refl
+        (z .0, z .1, entries-next l m s f′ k i (w .0) (z .0) (b .0) (b .1) (b .2) rest (w .1) (z .2))) sound st
 
   groups-judged : (counted : Bool) (gs : Groups) (levels : ℕ) → GoodGroups v levels gs
       → Agree (readGroups counted v big m v gs levels 0) (judgeGroups l m gs)
   unfolding GoodGroups AllSound listing recordOf
   groups-judged counted none levels good at i to r e sound st =
       subst (λ (x : Values × ℕ). Stands l (3 * i) (listing (x .0)) to
-      → Judges (judgeGroups l m none) i to (x .0)) (done-inj (sym (no-groups big m v counted levels at) ∙ e))
-      (λ o. (i, omega (arith, o .ends), groups-stop i)) st
+      → Judges l m (judgeGroups l m none) i to (x .0)) (done-inj (sym (no-groups big m v counted levels at) ∙ e))
+      (λ o. (i, omega (arith, o .ends), groups-stop l m i)) st
   groups-judged counted (more id since s inner rest) levels good at i to r e sound st =
       let w = group-read counted big m v id since s inner rest levels at r (good .0 .isIn) e in
       let k = w .sizes .entries in
       let es = w .entries .0 in
       let gs = w .others .0 in
       subst (λ (x : Values × ℕ). AllSound (x .0) → Stands l (3 * i) (listing (x .0)) to
-      → Judges (judgeGroups l m (more id since s inner rest)) i to (x .0)) (w .is)
+      → Judges l m (judgeGroups l m (more id since s inner rest)) i to (x .0)) (w .is)
       (λ sound′ o.
       let o₁ = split-to (4 ∷ k ∷ 0 ∷ []) (listing es ++ listing gs) (3 * suc i) (omega arith) o in
       let o₂ = split-to (listing es) (listing gs) _ refl (o₁ .1) in
@@ -357,7 +255,7 @@ module _ (big : Bool) (l m : List ℕ) (v : ℕ) where
       (subst (λ (y : ℕ). Stands l y (listing gs) to) (a .1) (o₂ .1)) in (
         c .0,
         c .1,
-        groups-next id since s inner rest i (a .0) k (c .0) es gs (record-is i 4 k 0 (3 * suc i) (o₁ .0))
+        groups-next l m id since s inner rest i (a .0) k (c .0) es gs (record-is l m i 4 k 0 (3 * suc i) (o₁ .0))
             (w .dimension .whole) (a .2) (c .2),
       )) sound st
 
@@ -369,11 +267,10 @@ module _ (big : Bool) (l m : List ℕ) (v : ℕ) where
       → readBlock big m v (t .shape) (readGroups counted v big m v (t .groups) levels 0) 0 n at ≡ done b
       → listing (entry (b .0) (b .1) (b .2) nil) ≡ l
       → judgeListing l m t ≡ done (entry (b .0) (b .1) (b .2) nil)
-  unfolding judgeListing must _>>=_ AllSound listing
+  unfolding AllSound listing
   listing-judged counted t levels n at b good gg enough sound e is =
       let w = block-judged (t .shape) (readGroups counted v big m v (t .groups) levels 0)
       (judgeGroups l m (t .groups)) n good enough (groups-judged counted (t .groups) levels gg)
       0 at b [] (length l) (sound .0) (sound .1) e
       (subst (λ (x : List ℕ). Stands l 0 x (length l)) (sym is) (all-stands l)) in
-      let q : 3 * w .0 ≡ length l = omega (arith, w .2 .ends) in
-      rw (w .1, eq-eqb (3 * w .0) (length l) q) refl
+      all-judged l m t (w .0) (b .0) (b .1) (b .2) (w .1) (omega (arith, w .2 .ends))

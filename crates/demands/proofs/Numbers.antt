@@ -10,7 +10,8 @@ use borrow.Author.Tests.{leb-false, leb-true}
 use Rattle.layout.specs.Result.{Result, _>>=_, _and_, asRefusal, done, must, orRefuse, refused}
 use Rattle.layout.specs.Lists.{NameList}
 use Rattle.layout.specs.Book.{Book, Data, Field, Format, Groups, Shape, Template, more, none}
-use Rattle.layout.specs.BookRules.{ContentsRow, bookOf, checkContents, contentsEnd, eachMust, parseBodies}
+use Rattle.layout.specs.BookRules.{ContentsRow, bookOf, checkContents, checkTemplates, contentsEnd, eachMust}
+use Rattle.layout.specs.BookRules.{parseBodies, treeOf}
 use Rattle.layout.specs.Values.{Step, Values, answerAt, elementIn, entry, group, measure, nil}
 use Rattle.layout.specs.Message.{Dimension, Entry, checkHeader, countAt, countGood, depthLimit, headerNumbers}
 use Rattle.layout.specs.Message.{headerWhole, inRow, readBlock, readData, readDatas, readDimension, readEntries}
@@ -73,43 +74,60 @@ module _ (low high : ℕ) where
       → ((u : Unit {0}) → Refuses (k u)) → Refuses (must t n p >>= k)
   refuses-unless t n p k h q = refuses-bind (must t n p) k (refuses-must t n p h) q
 
--- ---- 1 to 6
+wider : {A : Type 0} (low high low′ high′ : ℕ) (x : Result A) → low ≤ low′ → high′ ≤ high → Refuses low′ high′ x
+    → Refuses low high x
+unfolding Refuses
+wider low high low′ high′ (done a) l h q = tt
+wider low high low′ high′ (refused n p) l h q = omega arith
 
-rows-refuse : (low at : ℕ) (rows : List ContentsRow) → Refuses 1 6 (contentsEnd low at rows)
+-- ---- 1 to 7
+
+rows-refuse : (low at : ℕ) (rows : List ContentsRow) → Refuses 1 4 (contentsEnd low at rows)
 unfolding contentsEnd
-rows-refuse low at [] = refuses-done 1 6 _
-rows-refuse low at (r ∷ rs) = refuses-unless 1 6 _ 3 0 _ (omega arith) λ _. rows-refuse _ _ rs
+rows-refuse low at [] = refuses-done 1 4 _
+rows-refuse low at (r ∷ rs) = refuses-unless 1 4 _ 3 0 _ (omega arith) λ _. rows-refuse _ _ rs
 
-contents-refuse : (b : List ℕ) → Refuses 1 6 (checkContents b)
+contents-refuse : (b : List ℕ) → Refuses 1 4 (checkContents b)
 unfolding checkContents
 contents-refuse b =
-    refuses-bind 1 6 _ _ (rows-refuse 0 _ _) λ at.
-    refuses-bind 1 6 _ _ (rows-refuse 0 at _) λ e. refuses-must 1 6 _ 3 0 (omega arith)
+    refuses-bind 1 4 _ _ (rows-refuse 0 _ _) λ at.
+    refuses-bind 1 4 _ _ (rows-refuse 0 at _) λ e. refuses-must 1 4 _ 3 0 (omega arith)
 
 bodies-refuse : (ls : List NameList) (b : List ℕ) (t : ℕ) (rows : List ContentsRow)
-    → Refuses 1 6 (parseBodies ls b t rows)
+    → Refuses 1 4 (parseBodies ls b t rows)
 unfolding parseBodies
-bodies-refuse ls b t [] = refuses-done 1 6 _
+bodies-refuse ls b t [] = refuses-done 1 4 _
 bodies-refuse ls b t (r ∷ rs) =
-    refuses-bind 1 6 _ _ (refuses-as 1 6 _ 4 t (omega arith)) λ x.
-    refuses-bind 1 6 _ _ (bodies-refuse ls b (suc t) rs) λ xs. refuses-done 1 6 _
+    refuses-bind 1 4 _ _ (refuses-as 1 4 _ 4 t (omega arith)) λ x.
+    refuses-bind 1 4 _ _ (bodies-refuse ls b (suc t) rs) λ xs. refuses-done 1 4 _
 
-each-refuses : {A : Type 0} (f : A → Bool) (n t : ℕ) (xs : List A) → (1 ≤ n) × (n ≤ 6)
-    → Refuses 1 6 (eachMust f n t xs)
+each-refuses : {A : Type 0} (low high : ℕ) (f : A → Bool) (n t : ℕ) (xs : List A) → (low ≤ n) × (n ≤ high)
+    → Refuses low high (eachMust f n t xs)
 unfolding eachMust
-each-refuses f n t [] h = refuses-done 1 6 _
-each-refuses f n t (x ∷ xs) h = refuses-unless 1 6 _ n t _ h λ _. each-refuses f n (suc t) xs h
+each-refuses low high f n t [] h = refuses-done low high _
+each-refuses low high f n t (x ∷ xs) h =
+    refuses-unless low high _ n t _ h λ _. each-refuses low high f n (suc t) xs h
 
-pub book-refuses : (octets : List ℕ) → Refuses 1 6 (bookOf octets)
+pub tree-refuses : (octets : List ℕ) → Refuses 1 4 (treeOf octets)
+unfolding treeOf
+tree-refuses octets =
+    refuses-unless 1 4 _ 1 0 _ (omega arith) λ _.
+    refuses-unless 1 4 _ 2 0 _ (omega arith) λ _.
+    refuses-bind 1 4 _ _ (contents-refuse _) λ _.
+    refuses-bind 1 4 _ _ (bodies-refuse _ _ 0 _) λ ts.
+    refuses-bind 1 4 _ _ (each-refuses 1 4 _ 4 _ _ (omega arith)) λ _. refuses-done 1 4 _
+
+templates-refuse : (b : Book) → Refuses 5 7 (checkTemplates b)
+unfolding checkTemplates
+templates-refuse b =
+    refuses-bind 5 7 _ _ (each-refuses 5 7 _ 5 0 _ (omega arith)) λ _.
+    refuses-bind 5 7 _ _ (each-refuses 5 7 _ 6 0 _ (omega arith)) λ _. each-refuses 5 7 _ 7 0 _ (omega arith)
+
+pub book-refuses : (octets : List ℕ) → Refuses 1 7 (bookOf octets)
 unfolding bookOf
 book-refuses octets =
-    refuses-unless 1 6 _ 1 0 _ (omega arith) λ _.
-    refuses-unless 1 6 _ 2 0 _ (omega arith) λ _.
-    refuses-bind 1 6 _ _ (contents-refuse _) λ _.
-    refuses-bind 1 6 _ _ (bodies-refuse _ _ 0 _) λ ts.
-    refuses-bind 1 6 _ _ (each-refuses _ 4 _ _ (omega arith)) λ _.
-    refuses-bind 1 6 _ _ (each-refuses _ 5 0 _ (omega arith)) λ _.
-    refuses-bind 1 6 _ _ (each-refuses _ 6 0 _ (omega arith)) λ _. refuses-done 1 6 _
+    refuses-bind 1 7 _ _ (wider 1 7 1 4 _ (omega arith) (omega arith) (tree-refuses octets)) λ b.
+    refuses-bind 1 7 _ _ (wider 1 7 5 7 _ (omega arith) (omega arith) (templates-refuse b)) λ _. refuses-done 1 7 _
 
 -- ---- 10 to 20, and 21 and 22 where dimensions have counts
 
@@ -344,17 +362,12 @@ module _ (l pool : List ℕ) where
 
 -- ---- the operations, each after what it checks first
 
-wider : {A : Type 0} (low high : ℕ) (x : Result A) → 1 ≤ low → high ≤ 22 → Refuses low high x → Refuses 1 22 x
-unfolding Refuses
-wider low high (done a) l h q = tt
-wider low high (refused n p) l h q = omega arith
-
 check-refuses-any : (book m : List ℕ) → Refuses 1 22 (checkOf book m)
 unfolding checkOf
 check-refuses-any book m =
-    refuses-bind 1 22 _ _ (wider 1 6 _ (omega arith) (omega arith) (book-refuses book)) λ b.
+    refuses-bind 1 22 _ _ (wider 1 22 1 7 _ (omega arith) (omega arith) (book-refuses book)) λ b.
     refuses-bind 1 22 _ _
-    (wider 10 22 _ (omega arith) (omega arith) (message-refuses 22 (omega arith) m b λ _. omega arith)) λ r.
+    (wider 1 22 10 22 _ (omega arith) (omega arith) (message-refuses 22 (omega arith) m b λ _. omega arith)) λ r.
     refuses-done 1 22 _
 
 pub check-refuses : (high : ℕ) (book m : List ℕ) (b : Book) → bookOf book ≡ done b → 20 ≤ high

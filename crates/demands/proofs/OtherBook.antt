@@ -12,11 +12,11 @@ use Rattle.layout.specs.Result.{Each, _>>=_, done, must}
 use Rattle.layout.specs.Octets.{wordsOf}
 use Rattle.layout.specs.Lists.{NameList}
 use Rattle.layout.specs.Book.{Book}
-use Rattle.layout.specs.BookRules.{ContentsRow, bodyOf, bookOf, checkContents, contentsEnd, contentsSize, headGood}
-use Rattle.layout.specs.BookRules.{headSize, listRows, listsOf, nameListOf, parseBodies, parseContents, templateRows}
-use Rattle.layout.specs.BookRules.{word}
+use Rattle.layout.specs.BookRules.{ContentsRow, bodyOf, bookOf, checkContents, checkTemplates, contentsEnd}
+use Rattle.layout.specs.BookRules.{contentsSize, headGood, headSize, listRows, listsOf, nameListOf, parseBodies}
+use Rattle.layout.specs.BookRules.{parseContents, templateRows, treeOf, word}
 use Rattle.layout.specs.Demands.{otherOrder, reordered}
-use Rattle.layout.proofs.Results.{and-left, and-right, bind-done, inv-bind, inv-must, same-then}
+use Rattle.layout.proofs.Results.{and-left, and-right, bind-done, inv-bind, inv-both, inv-must, same-then}
 
 -- An octet of the word i is set.
 words-set : (s : List ℕ) (i x : ℕ) → i < length (wordsOf s)
@@ -130,11 +130,11 @@ exchanged (suc zero) h = refl
 exchanged (suc (suc n)) h = absurd (omega arith)
 
 -- s′ has the words of s but for word 5, where 0 and 1 are exchanged.
-book-same : (s s′ : List ℕ) → let w = wordsOf s in wordsOf s′ ≡ set w 5 (1 - word w 5) → length s′ ≡ length s
+tree-same : (s s′ : List ℕ) → let w = wordsOf s in wordsOf s′ ≡ set w 5 (1 - word w 5) → length s′ ≡ length s
     → headGood w ≡ true
-    → bookOf s′ ≡ (bookOf s >>= λ b. done (otherOrder b))
-unfolding bookOf
-book-same s s′ is long head =
+    → treeOf s′ ≡ (treeOf s >>= λ b. done (otherOrder b))
+unfolding treeOf
+tree-same s s′ is long head =
     let w = wordsOf s in
     let x = 1 - word w 5 in
     let h = head-order w head in
@@ -145,8 +145,6 @@ book-same s s′ is long head =
     rw (after-contents w x u c .0)
     (same-then _ _ _ _ (after-contents w x u c .1) λ ts _.
     same-then _ _ _ _ (rw (other-word w x 2 refl) refl) λ _ _.
-    same-then _ _ _ _ refl λ _ _.
-    same-then _ _ _ _ (rw (other-word w x 1 refl, other-word w x 6 refl) refl) λ _ _.
     rw (
       other-word w x 0 refl,
       other-word w x 1 refl,
@@ -168,8 +166,11 @@ order-set s head =
     ∙ getD-set-same w 5 (first + 256 * second) 0 (h .1) in
     put (1 - first) ∙ ap (set w 5) (omega (arith, is, leb-true (word w 5) 1 (h .0)))
 
+-- The order has no part in 5, 6 and 7.
 pub other-book : (book : List ℕ) (b : Book) → bookOf book ≡ done b → bookOf (reordered book) ≡ done (otherOrder b)
-unfolding bookOf
+unfolding bookOf treeOf checkTemplates
 other-book s b e =
-    let head = inv-must _ 2 0 _ (inv-bind _ _ _ (inv-bind _ _ _ e .next) .first) in
-    book-same s (reordered s) (order-set s head) (length-set s 10 _) head ∙ rw (e, bind-done) refl
+    let p = inv-both _ _ _ _ e in
+    let head = inv-must _ 2 0 _ (inv-bind _ _ _ (inv-bind _ _ _ (p .first) .next) .first) in
+    let t = tree-same s (reordered s) (order-set s head) (length-set s 10 _) head in
+    rw (t, p .first, bind-done, bind-done, p .second, bind-done, p .is) refl

@@ -8,28 +8,32 @@ use mathlib.Core.Option.{some}
 use Prim.Native.Nat.{_*_, _<_, _≤_, ℕ}
 use native.Mathlib.Omega.{arith}
 use lib.ListN.{length}
-use Rattle.layout.specs.Result.{Each, _>>=_, done}
+use Rattle.layout.specs.Result.{Each, _>>=_, done, refused}
 use Rattle.layout.specs.Octets.{AllOctets, Numbers64}
 use Rattle.layout.specs.Types.{typeAt}
-use Rattle.layout.specs.Lists.{beside, noNames, set}
+use Rattle.layout.specs.Lists.{beside, enumeration, noNames, set}
 use Rattle.layout.specs.Book.{Book, Template, findTemplate}
-use Rattle.layout.specs.BookRules.{bookOf}
+use Rattle.layout.specs.BookRules.{bookOf, leastLength}
 use Rattle.layout.specs.Values.{Step, Values, listing}
 use Rattle.layout.specs.Message.{readMessage, templateId, versionOf}
 use Rattle.layout.specs.Reading.{checkOf, hasPlace, listOf, placeOf}
 use Rattle.layout.specs.Writing.{judgeListing, messageOctets, writeOf, writtenLength}
 use Rattle.layout.specs.Extension.{Extends}
-use Rattle.layout.specs.Demands.{AlikeOrUnlisted, AsWritten, OtherWay, contents, namesAt, otherOrder, reordered}
+use Rattle.layout.specs.Demands.{AlikeOrUnlisted, AsWritten, CanBeSent, HasValue, NeverSent, OtherWay, contents}
+use Rattle.layout.specs.Demands.{namesAt, otherOrder, reordered}
+use Rattle.layout.proofs.HaveValues.{fields-have-values}
+use Rattle.layout.proofs.Least.{least-written}
 use Rattle.layout.proofs.Lengths.{written-long}
 use Rattle.demands.proofs.Kept.{seen-by-none, seen-says}
 use Rattle.demands.proofs.OtherBook.{other-book}
 use Rattle.demands.proofs.OtherOrder.{turned-message, writes-alike}
 use Rattle.demands.proofs.Returned.{written-back}
+use Rattle.demands.proofs.Sent.{never-sent, said-has-values, sent}
 use Rattle.demands.proofs.TwoBooks.{accepts-too, same-verdict, seen-answer}
 use Rattle.demands.proofs.Written.{reads-again, written-by}
 use Rattle.layout.proofs.Accepted.{EachField, accepted}
 use Rattle.layout.proofs.Bits.{bits-within}
-use Rattle.layout.proofs.Results.{bind-done}
+use Rattle.layout.proofs.Results.{and-left, and-right, bind-done, done-inj}
 use Rattle.layout.specs.declared.Element.{Element}
 
 -- ---- an accepted book
@@ -79,6 +83,43 @@ pub written-length : (book : List ℕ) (id : ℕ) (l pool : List ℕ) (b : Book)
     → judgeListing l pool t ≡ done r
     → length (messageOctets b t pool r) ≡ writtenLength b t r
 written-length book id l pool b t r e h j = written-long l pool b t r (accepted book b id t e h .1 .layout) j
+
+-- ---- "Templates that can never be sent"
+
+-- No message of a template is shorter than what rule 7 measures.
+pub none-is-shorter : (l pool : List ℕ) (b : Book) (t : Template) (r : Values)
+    → judgeListing l pool t ≡ done r
+    → leastLength (b .format) (t .shape) (t .groups) ≤ writtenLength b t r
+none-is-shorter = least-written
+
+-- Where a book is refused by 7, no listing of the template at that place has a message of at most 65,535 octets.
+pub refused-is-never-sent : (book : List ℕ) (n : ℕ) → bookOf book ≡ refused 7 n → NeverSent book n
+refused-is-never-sent = never-sent
+
+module _ (book : List ℕ) (b : Book) (id : ℕ) (t : Template) (isBook : bookOf book ≡ done b)
+    (isThere : findTemplate id (b .templates) ≡ some t) where
+  -- A template of an accepted book can be sent, if there is something to write for each field of its root: the listing
+  -- of no entries and no octets of data is written, given room.
+  pub can-be-sent : Each HasValue (t .shape .fields) → CanBeSent book b t
+  can-be-sent = sent book b t isBook (accepted book b id t isBook isThere .1)
+
+  -- There is, but for a required field whose list has values, and none in range.
+  pub has-values : Each (λ f. (f .names .kind ≡ enumeration → ⊥) → HasValue f) (t .shape .fields)
+  has-values =
+      let layout = accepted book b id t isBook isThere .1 .layout in
+      fields-have-values (t .shape .length) 0 (t .shape .fields) (and-right _ _ (and-left _ _ layout))
+
+  -- And if there is not, nothing is ever written.
+  pub sent-has-values : (l pool : List ℕ) (room : ℕ) (m : List ℕ)
+      → Numbers64 l
+      → writeOf book id l pool room ≡ done m
+      → Each HasValue (t .shape .fields)
+  sent-has-values l pool room m small e =
+      let w = written-by book id l pool room m e in
+      let same : w .by ≡ b = done-inj (sym (w .good) ∙ isBook) in
+      let found : some (w .template) ≡ some t = sym (rw same at (w .found)) ∙ isThere in
+      let is : w .template ≡ t = cc in
+      said-has-values l pool small t (w .said) (rw is at (w .judged))
 
 -- ---- demand 3: "For accepted books, the newer a legal extension of the older, and any message whose template is in
 -- both"

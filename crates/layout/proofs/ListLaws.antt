@@ -1,6 +1,6 @@
 -- A list that has grown still has what it had, and an answer beside it is seen beside the older one as it would be seen
 -- there at once.
-use mathlib.Core.Path.{_∙_, _≡_, refl, sym}
+use mathlib.Core.Path.{_∙_, _≡_, refl, subst, sym}
 use mathlib.Core.Bool.{Bool, false, false≢true, true}
 use mathlib.Core.List.{List, [], _∷_}
 use Prim.Native.Nat.{_/_, _<_, suc, zero, ℕ}
@@ -15,7 +15,7 @@ use Rattle.layout.specs.Book.{Field, withNames}
 use Rattle.layout.specs.BookRules.{climbing, greatest}
 use Rattle.layout.specs.Message.{arrayAt, readField}
 use Rattle.layout.specs.Demands.{Sound}
-use Rattle.layout.proofs.Results.{and-left, and-right, either, or-right}
+use Rattle.layout.proofs.Results.{and-left, and-right, each-way, either, or-right}
 use Rattle.layout.specs.declared.Answer.{Answer}
 use Rattle.layout.specs.declared.Answer.the-variants.{Absent, Group, Null, Number, Octets, OutOfRange, Unlisted}
 
@@ -28,30 +28,26 @@ both : (a b : Bool) → a ≡ true → b ≡ true → (a and b) ≡ true
 unfolding _and_
 both a b p q = rw (p, q) refl
 
--- What is one of these is one of those, where each of these is.
-one-of-more : (ns ns′ : List ℕ) → Each (λ n. isOneOf n ns′ ≡ true) ns → (x : ℕ) → isOneOf x ns ≡ true
-    → isOneOf x ns′ ≡ true
+-- What holds of each of these holds of x, which is one of them.
+pub one-of : (P : ℕ → Type 0) (ns : List ℕ) → Each P ns → (x : ℕ) → isOneOf x ns ≡ true → P x
 unfolding Each isOneOf
-one-of-more [] ns′ a x h = absurd (false≢true h)
-one-of-more (n ∷ ns) ns′ a x h = go (eqb x n) refl (one-of-more ns ns′ (a .1) x)
-  where
-    go : (b : Bool) → eqb x n ≡ b → (isOneOf x ns ≡ true → isOneOf x ns′ ≡ true) → isOneOf x ns′ ≡ true
-    go true e ih = rw (eqb-true x n e) (a .0)
-    go false e ih = ih (or-right _ _ h e)
+one-of P [] a x h = absurd (false≢true h)
+one-of P (n ∷ ns) a x h =
+    each-way (eqb x n) (λ e. subst P (sym (eqb-true x n e)) (a .0)) (λ e. one-of P ns (a .1) x (or-right _ _ h e))
 
 module _ (ns ns′ : List ℕ) (more : Each (λ n. isOneOf n ns′ ≡ true) ns) where
   only-more : (i w x : ℕ) → onlyBits ns i w x ≡ true → onlyBits ns′ i w x ≡ true
   unfolding onlyBits
   only-more i zero x h = refl
   only-more i (suc w) x h =
-      both _ _ (or-either _ _ _ (and-left _ _ h) (one-of-more ns ns′ more i))
+      both _ _ (or-either _ _ _ (and-left _ _ h) (one-of _ ns more i))
       (only-more (suc i) w (x / 2) (and-right _ _ h))
 
   listed-more : (k : Kind) (x : ℕ) → isListed k ns x ≡ true → isListed k ns′ x ≡ true
   unfolding isListed
   listed-more free x h = refl
   listed-more missing x h = h
-  listed-more enumeration x h = one-of-more ns ns′ more x h
+  listed-more enumeration x h = one-of _ ns more x h
   listed-more set x h = only-more _ _ x h
 
 pub has-more : (old new : Names) → KeepsNames old new → (x : ℕ) → has old x ≡ true → has new x ≡ true

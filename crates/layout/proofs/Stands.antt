@@ -111,15 +111,17 @@ unfolding inOrder
 order-turned false s = reverse-reverse s
 order-turned true s = refl
 
-octets-then : (s r : List ℕ) → AllOctets s → AllOctets r → AllOctets (s ++ r)
-octets-then [] r h k i = k i
-octets-then (b ∷ s) r h k zero = h zero
-octets-then (b ∷ s) r h k (suc i) = octets-then s r (λ j. h (suc j)) k i
+-- What bounds the numbers of two lists bounds those of one after the other.
+pub below-then : {n : ℕ} (s r : List ℕ) → ((i : ℕ) → getD s i 0 < n) → ((i : ℕ) → getD r i 0 < n)
+    → (i : ℕ) → getD (s ++ r) i 0 < n
+below-then [] r h k i = k i
+below-then (b ∷ s) r h k zero = h zero
+below-then (b ∷ s) r h k (suc i) = below-then s r (λ j. h (suc j)) k i
 
 octets-reversed : (s : List ℕ) → AllOctets s → AllOctets (reverse s)
 octets-reversed [] h i = h i
 octets-reversed (b ∷ s) h i =
-    rw (reverse-cons b s) (octets-then (reverse s) (b ∷ []) (octets-reversed s λ j. h (suc j)) last i)
+    rw (reverse-cons b s) (below-then (reverse s) (b ∷ []) (octets-reversed s λ j. h (suc j)) last i)
   where
     last : AllOctets (b ∷ [])
     last zero = h zero

@@ -71,7 +71,7 @@ abbrev pub templateA : Template
 templateA = record { id = 1; shape = rootWith noList [] []; groups = groupsWith noList [] none }
 
 -- The formats: whether big-endian, and whether dimensions have four numbers.
-abbrev little : Format
+abbrev pub little : Format
 little = record { big = false; inGroups = false }
 
 abbrev big : Format
@@ -81,7 +81,7 @@ abbrev four : Format
 four = record { big = false; inGroups = true }
 
 -- A book whose only template has this root block and these groups.
-abbrev single : Format → ℕ → List NameList → Shape → Groups → Book
+abbrev pub single : Format → ℕ → List NameList → Shape → Groups → Book
 single format version ls s gs =
     record {
       schema = 7;

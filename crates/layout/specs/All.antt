@@ -7,7 +7,7 @@ use Rattle.layout.specs.Book.{findTemplate, needAfter, groupSinces, pres
 use Rattle.layout.specs.BookRules.{parseFields, parseDatas, parseShape, parseGroups, parseBody, climbing}
 use Rattle.layout.specs.BookRules.{kindGood, fieldsGood, groupsGood, rising, fieldsSince, groupsSince}
 use Rattle.layout.specs.BookRules.{parseContents, contentsEnd, checkContents, parseBodies, eachMust, bookOf}
-use Rattle.layout.specs.BookRules.{youngest}
+use Rattle.layout.specs.BookRules.{youngest, treeOf, checkTemplates}
 use Rattle.layout.specs.Values.{recordOf, recordsOf, listing, measure, groupOf, entriesOf, entriesFrom}
 use Rattle.layout.specs.Values.{groupsIn, elementOf, elementIn, answerAt}
 use Rattle.layout.specs.Message.{inRow, readData, readDimension, skipEntry, skipGroup, readEntries, readField}
@@ -28,7 +28,8 @@ unfolding
     findNames isOneOf onlyBits isListed beside
     findTemplate needAfter groupSinces present
     parseFields parseDatas parseShape parseGroups parseBody climbing kindGood fieldsGood groupsGood rising
-    fieldsSince youngest groupsSince parseContents contentsEnd checkContents parseBodies eachMust bookOf
+    fieldsSince youngest groupsSince parseContents contentsEnd checkContents parseBodies eachMust
+    treeOf checkTemplates bookOf
     recordOf recordsOf listing measure groupOf entriesOf entriesFrom groupsIn elementOf elementIn answerAt
     countGood inRow readData readDimension skipEntry skipGroup readEntries arrayAt readField readDatas readBlock
     readGroup readGroups headerWhole checkHeader surplusOf readWhole readRoot readMessage

@@ -1,4 +1,4 @@
--- From a book's octets to its tree, or the refusal 1 to 6: "lowest number found in any template, then the first
+-- From a book's octets to its tree, or the refusal 1 to 7: "lowest number found in any template, then the first
 -- template that has it".
 use mathlib.Core.Bool.{Bool, not, true, false}
 use mathlib.Core.List.{List, [], _∷_, map}
@@ -9,8 +9,9 @@ use Rattle.layout.specs.Result.{Result, done, refused, _>>=_, must, asRe
 use Rattle.layout.specs.Octets.{wordsOf, null16}
 use Rattle.layout.specs.Types.{typeAt}
 use Rattle.layout.specs.Lists.{Kind, NameList, enumeration, findNames, free, isOneOf, missing, set}
-use Rattle.layout.specs.Book.{Field, Data, Shape, Groups, none, more, Template, Format, Book, end, isArray}
-use Rattle.layout.specs.Book.{fieldSinces, dataSinces}
+use Rattle.layout.specs.Book.{Book, Data, Field, Format, Groups, Shape, Template, dataSinces, end, fieldSinces}
+use Rattle.layout.specs.Book.{groupSinces, isArray, more, none}
+use Rattle.layout.specs.Message.{dimensionSize, headerSize, mostMessage}
 
 abbrev pub word : List ℕ → ℕ → ℕ
 word b w = getD b w 0
@@ -163,6 +164,18 @@ abbrev pub sinceGood : Bool → ℕ → Template → Bool
 sinceGood counted version t =
     shapeSince version 0 version version (t .shape) and groupsSince counted version 0 version (t .groups)
 
+-- ---- 7: "Templates that can never be sent"
+
+-- "a header, the declared root block, one dimension per root group and two octets per root data": no message of a
+-- template with this block and these groups is shorter.
+abbrev pub leastLength : Format → Shape → Groups → ℕ
+leastLength format s gs =
+    headerSize + s .length + dimensionSize (format .inGroups) * length (groupSinces gs) + 2 * length (s .datas)
+
+-- They do not "exceed 65,535 together".
+abbrev pub lengthKept : Format → Template → Bool
+lengthKept format t = leb (leastLength format (t .shape) (t .groups)) mostMessage
+
 -- ---- 1, 2 and 3, and the whole book
 
 -- "Contents, three words per template: template id, first word of its body, words in its body"; "the contents name
@@ -242,17 +255,28 @@ checkContents b = do
   e ← contentsEnd 0 listsAt (listRows b)
   must (eqb e (length b)) 3 0
 
--- 4 of a list is "placed at the number of templates plus the list's position".
-unfoldable pub bookOf : List ℕ → Result Book
-bookOf octets = do
+-- The tree that a book's octets are of, by 1 to 4. 4 of a list is "placed at the number of templates plus the list's
+-- position".
+unfoldable pub treeOf : List ℕ → Result Book
+treeOf octets = do
   _ ← must (sizeGood octets) 1 0
   let b = wordsOf octets
   _ ← must (headGood b) 2 0
   _ ← checkContents b
   let ls = listsOf b
-  let format = formatOf b
   ts ← parseBodies ls b 0 (templateRows b)
   _ ← eachMust listGood 4 (word b 2) ls
-  _ ← eachMust layoutGood 5 0 ts
-  _ ← eachMust (sinceGood (format .inGroups) (word b 1)) 6 0 ts
-  done (record { schema = word b 0; version = word b 1; format = format; lists = ls; templates = ts })
+  done (record { schema = word b 0; version = word b 1; format = formatOf b; lists = ls; templates = ts })
+
+-- 5, 6 and 7 of its templates.
+unfoldable pub checkTemplates : Book → Result (Unit {0})
+checkTemplates b = do
+  _ ← eachMust layoutGood 5 0 (b .templates)
+  _ ← eachMust (sinceGood (b .format .inGroups) (b .version)) 6 0 (b .templates)
+  eachMust (lengthKept (b .format)) 7 0 (b .templates)
+
+unfoldable pub bookOf : List ℕ → Result Book
+bookOf octets = do
+  b ← treeOf octets
+  _ ← checkTemplates b
+  done b

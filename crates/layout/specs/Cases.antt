@@ -1,5 +1,5 @@
--- The cases that document 01 marks P, and some of name lists, of text and of the order: one table, one theorem, which
--- the checker computes.
+-- The cases that document 01 marks P, and some of name lists, of text, of the order and of rule 7: one table, one
+-- theorem, which the checker computes.
 use mathlib.Core.Path.{_≡_, refl}
 use mathlib.Core.Bool.{Bool, true, false}
 use mathlib.Core.List.{List, [], _∷_, _++_, map}
@@ -178,6 +178,17 @@ with16 m at x = set (set m at (x % 256)) (at + 1) (x / 256)
 abbrev pub minus5 : ℕ
 minus5 = minus 5
 
+-- A root block of l octets with one group and one data, where dimensions have so many numbers.
+abbrev pub longBook : ℕ → ℕ → List ℕ
+longBook numbers l =
+    words
+    (7 ∷ 0 ∷ 1 ∷ 29 ∷ 0 ∷ 0 ∷ numbers
+    ∷ 1 ∷ 10 ∷ 19
+    ∷ l ∷ 0 ∷ 1 ∷ 1
+    ∷ 58 ∷ 0
+    ∷ 453 ∷ 0 ∷ 2 ∷ 1 ∷ 0 ∷ 0 ∷ 452 ∷ 2 ∷ 1 ∷ 0 ∷ 0 ∷ 0 ∷ 0
+    ∷ [])
+
 unfoldable pub table : List Row
 table =
     (listed bookA messageM says
@@ -214,6 +225,12 @@ table =
     ∷ (listed bigA (with16 bigM 28 65535) says refused 19 28)
     ∷ (listed (orderedA 2) messageM says refused 2 0)
     ∷ (holds true 6 false (0x00 ∷ 0x00 ∷ 0x27 ∷ 0x10 ∷ []) says done (0 ∷ 10000 ∷ 0 ∷ []))
+    -- "exceed 65,535 together": exactly so many, and one more; "7, .. after 6 and before 10"
+    ∷ (listed (longBook 2 65517) [] says refused 10 0)
+    ∷ (listed (longBook 2 65518) [] says refused 7 0)
+    ∷ (listed (longBook 4 65513) [] says refused 10 0)
+    ∷ (listed (longBook 4 65514) [] says refused 7 0)
+    ∷ (listed (with16 (longBook 2 65518) 30 1) [] says refused 6 0)
     ∷ []
 
 pub all-hold : map (λ (r : Row). answer (r .case)) table ≡ map (λ (r : Row). r .says) table

@@ -1,18 +1,20 @@
--- The words in which demands 2 and 3 are said, and what the two orders have in common.
+-- The words in which demands 2 and 3 are said, what rule 7 is good for, and what the two orders have in common.
 use mathlib.Core.Path.{_≡_}
 use mathlib.Core.Bool.{Bool, false, not, true}
 use mathlib.Core.List.{List, [], _++_, _∷_, map, reverse}
-use Prim.Native.Nat.{_*_, _+_, _-_, suc, zero, ℕ}
+use Prim.Native.Nat.{_*_, _+_, _-_, _<_, _^_, _≤_, suc, zero, ℕ}
 use lib.Dec.{eqb}
 use lib.ListN.{drop, getD, length, replicate, set, take}
-use Rattle.layout.specs.Result.{Each, done, if_then_else_}
-use Rattle.layout.specs.Octets.{number16, textLength}
+use Rattle.layout.specs.Result.{Each, _or_, done, if_then_else_}
+use Rattle.layout.specs.Octets.{AllOctets, Numbers64, number16, textLength}
 use Rattle.layout.specs.Types.{isWidth}
 use Rattle.layout.specs.Lists.{Names, beside, has, noNames}
-use Rattle.layout.specs.Book.{Book, Field, Groups, Shape, Template, end, isText, more, none}
+use Rattle.layout.specs.Book.{Book, Field, Groups, Shape, Template, end, isArray, isOptional, isText, more, none}
+use Rattle.layout.specs.BookRules.{leastLength, lengthKept, treeOf}
 use Rattle.layout.specs.Values.{Step, Values, entry, group, listing, nil}
-use Rattle.layout.specs.Message.{blockLength, dimensionSize, headerSize, readMessage, templateId, versionOf}
-use Rattle.layout.specs.Writing.{rowLength}
+use Rattle.layout.specs.Message.{blockLength, dimensionSize, headerSize, mostMessage, readMessage, templateId}
+use Rattle.layout.specs.Message.{versionOf}
+use Rattle.layout.specs.Writing.{judgeListing, messageOctets, rowLength, takes, writeOf}
 use Rattle.layout.specs.Contracts.{AnswersPlace, Checks, Lists}
 use Rattle.layout.specs.declared.Checked.{Checked}
 use Rattle.layout.specs.declared.Counted as Counted
@@ -90,6 +92,48 @@ pub record AsWritten (b : Book) (t : Template) (m : List ℕ) (r : Values) : Typ
   pub length : blockLength (b .format .big) m ≡ t .shape .length
   pub blocks : OwnBlocks (b .format .inGroups) (b .format .big) m (t .shape) (t .groups) headerSize r
   pub sound : AllSound r
+
+-- ---- "Templates that can never be sent"
+
+-- There is something to write for a field: octets, null, or a number that it takes. It lacks one if it is required and
+-- its list has no number in range.
+abbrev pub HasValue : Field → Type 0
+HasValue f = (isArray f or isOptional f) ≡ false → (x : ℕ) × (x < 2 ^ 64) × (takes f x ≡ true)
+
+-- Groups without entries.
+unfoldable pub noEntries : Groups → Values
+noEntries none = nil
+noEntries (more id since s inner rest) = group (Group 0) nil (noEntries rest)
+
+-- A message with these answers for the root's fields, all its groups and all its data empty.
+abbrev pub shortest : Template → List Answer → Values
+shortest t fs = entry fs (noEntries (t .groups)) (map (λ _. Octets 0 0) (t .shape .datas)) nil
+
+-- A listing of it, of 64-bit numbers, and a pool of octets from which it is written wherever there is room for it; it
+-- has as many octets as rule 7 counts.
+pub record CanBeSent (book : List ℕ) (b : Book) (t : Template) : Type 0 where
+  pub fields : List Answer
+  pub pool : List ℕ
+  pub message : List ℕ
+  pub numbers : Numbers64 (listing (shortest t fields))
+  pub octets : AllOctets pool
+  pub long : length message ≡ leastLength (b .format) (t .shape) (t .groups)
+  pub written : (room : ℕ) → length message ≤ room
+      → writeOf book (t .id) (listing (shortest t fields)) pool room ≡ done message
+
+-- The first template whose shortest message is too long has number n in the book's tree; every message of it, for any
+-- listing that is good, is too long.
+pub record NeverSent (book : List ℕ) (n : ℕ) : Type 0 where
+  pub tree : Book
+  pub isTree : treeOf book ≡ done tree
+  pub before : List Template
+  pub template : Template
+  pub after : List Template
+  pub templates : tree .templates ≡ before ++ (template ∷ after)
+  pub place : length before ≡ n
+  pub first : Each (λ t. lengthKept (tree .format) t ≡ true) before
+  pub tooLong : (l pool : List ℕ) (r : Values) → judgeListing l pool template ≡ done r
+      → mostMessage < length (messageOctets tree template pool r)
 
 -- ---- "Demand 3 then allows the older book kind 6 with the same number where only its list lacks it": the names of a
 -- place in a book

@@ -9,8 +9,8 @@ use Rattle.layout.specs.Result.{Result, done, must, orRefuse, if_then_el
 use Rattle.layout.specs.Octets.{numberAt, number16, null16, textLength}
 use Rattle.layout.specs.Types.{typeAt, valueOf, classify}
 use Rattle.layout.specs.Lists.{beside}
-use Rattle.layout.specs.Book.{Field, Data, Shape, Groups, none, more, Template, Book, findTemplate, isArray}
-use Rattle.layout.specs.Book.{isChar, isOptional, need, dataSinces, groupSinces, present, Format}
+use Rattle.layout.specs.Book.{Book, Data, Field, Format, Groups, Shape, Template, dataSinces, findTemplate}
+use Rattle.layout.specs.Book.{groupSinces, isArray, isChar, isOptional, more, need, none, present}
 use Rattle.layout.specs.Values.{Values, nil, entry, group}
 use Rattle.layout.specs.declared.Answer.{Answer}
 use Rattle.layout.specs.declared.Answer.the-variants.{Null, Octets, Absent, Group}
@@ -73,6 +73,10 @@ pub record Dimension : Type 0 where
 
 abbrev pub dimensionSize : Bool → ℕ
 dimensionSize counted = 2 * (2 + countNumbers counted)
+
+-- "10: message under 12 or over 65,535 octets"
+abbrev pub mostMessage : ℕ
+mostMessage = 65535
 
 -- "Groups nest to depth four, a root group being depth one."
 abbrev pub depthLimit : ℕ
@@ -229,7 +233,7 @@ headerWhole big m (suc n) at = must (ltb (number16 big m at) null16) 11 at >>= �
 -- 10 to 12: "message under 12 or over 65,535 octets", 11, "schema id differs".
 unfoldable pub checkHeader : Bool → ℕ → List ℕ → Result (Unit {0})
 checkHeader big schema m = do
-  _ ← must (leb headerSize (length m) and leb (length m) 65535) 10 0
+  _ ← must (leb headerSize (length m) and leb (length m) mostMessage) 10 0
   _ ← headerWhole big m headerNumbers 0
   must (eqb (schemaId big m) schema) 12 4
 

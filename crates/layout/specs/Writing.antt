@@ -8,13 +8,19 @@ use Rattle.layout.specs.Result.{Result, _>>=_, _and_, _or_, done, if_the
 use Rattle.layout.specs.Octets.{null16, octetsOf, textLength}
 use Rattle.layout.specs.Types.{inRange, typeAt}
 use Rattle.layout.specs.Lists.{has}
-use Rattle.layout.specs.Book.{Field, Data, Shape, Groups, none, more, Template, Book, findTemplate, end, isArray}
-use Rattle.layout.specs.Book.{isChar, isOptional, groupSinces}
+use Rattle.layout.specs.Book.{Book, Data, Field, Groups, Shape, Template, end, findTemplate, groupSinces, isArray}
+use Rattle.layout.specs.Book.{isChar, isOptional, more, none}
 use Rattle.layout.specs.BookRules.{bookOf}
 use Rattle.layout.specs.Values.{Values, entry, group, nil}
-use Rattle.layout.specs.Message.{Entry, dimensionSize, headerSize}
+use Rattle.layout.specs.Message.{Entry, dimensionSize, headerSize, mostMessage}
 use Rattle.layout.specs.declared.Answer.{Answer}
 use Rattle.layout.specs.declared.Answer.the-variants.{Number, Null, Octets, Absent, Group, OutOfRange, Unlisted}
+
+-- A number that a field takes: 52 is for a number that "is null or out of range", or that the field's list lacks.
+abbrev pub takes : Field → ℕ → Bool
+takes f x =
+    let k = typeAt (f .type) in
+    inRange k x and not (eqb x (k .null)) and has (f .names) x
 
 -- ---- 51: record i of the listing l
 
@@ -46,12 +52,9 @@ module _ (l : List ℕ) where
   abbrev pub isGroup : ℕ → Bool
   isGroup i = isThere i and eqb (first i) 4 and eqb (third i) 0
 
-  -- 52: "number is null or out of range; null for a required field", or a number that the field's list lacks
+  -- 52: as above, or "null for a required field"
   abbrev pub numberFits : Field → ℕ → Bool
-  numberFits f i =
-      let k = typeAt (f .type) in
-      if eqb (first i) 1 then isOptional f
-      else inRange k (second i) and not (eqb (second i) (k .null)) and has (f .names) (second i)
+  numberFits f i = if eqb (first i) 1 then isOptional f else takes f (second i)
 
 -- ---- 51 to 54, in the listing's order
 
@@ -253,7 +256,7 @@ writeIn b id l pool room = do
   t ← orRefuse (findTemplate id (b .templates)) 50 0
   r ← judgeListing l pool t
   let m = messageOctets b t pool r
-  _ ← must (leb (length m) room and leb (length m) 65535) 55 0
+  _ ← must (leb (length m) room and leb (length m) mostMessage) 55 0
   done m
 
 unfoldable pub writeOf : List ℕ → ℕ → List ℕ → List ℕ → ℕ → Result (List ℕ)

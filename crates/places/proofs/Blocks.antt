@@ -14,7 +14,8 @@ use Rattle.layout.specs.declared.Element.{Element}
 use Rattle.layout.specs.declared.Element.the-variants.{Data as DataAt, Field, Group}
 use Rattle.prepared.specs.Positions.{BlockAt, manyGroups, groupsFrom, innerAt, shapeAt}
 use Rattle.prepared.specs.declared.Located.the-variants.{At, Unknown}
-use Rattle.prepared.proofs.Accepted.{datas-length, fields-length}
+use Rattle.layout.proofs.Accepted.{datas-length}
+use Rattle.prepared.proofs.Accepted.{fields-length}
 use Rattle.prepared.proofs.Open.{length-row}
 use Rattle.places.specs.Spots.{Block, dropGroups, firstBlock}
 use Rattle.places.specs.Seeks.{rowAfter, stepsFrom}

@@ -13,12 +13,12 @@ use Rattle.layout.specs.Octets.{wordsOf}
 use Rattle.layout.specs.Book.{Book, Groups, Shape, Template, more}
 use Rattle.layout.specs.Lists.{NameList}
 use Rattle.layout.specs.BookRules.{bookOf, headSize, parseBodies, parseBody, parseContents, parseGroups, parseShape}
-use Rattle.layout.specs.BookRules.{word}
+use Rattle.layout.specs.BookRules.{treeOf, word}
 use Rattle.layout.specs.Contracts.{checked, counted, refusal, roomAfter}
 use Rattle.layout.specs.declared.Checked.the-variants.{Accepted}
 use Rattle.layout.specs.declared.Counted.the-variants.{Count, Refused}
-use Rattle.layout.proofs.Accepted.{each-good}
-use Rattle.layout.proofs.Results.{bind-done, done-inj, inv-bind, inv-must, inv-refusal}
+use Rattle.layout.proofs.Accepted.{each-good, keeps-rules}
+use Rattle.layout.proofs.Results.{bind-done, done-inj, inv-bind, inv-both, inv-must, inv-refusal}
 use Rattle.book.specs.Rows.{HasLists}
 use Rattle.book.proofs.Rows.{body-lies, head-says}
 use Rattle.book.proofs.Words.{length-words, words-between}
@@ -26,7 +26,7 @@ use Rattle.prepared.specs.Numbers.{listsFrom, listsSize, preparedOf, sizesOf}
 use Rattle.prepared.proofs.Books.{length-prepared}
 use Rattle.prepared.proofs.Prepared.{length-numbers}
 use Rattle.prepare.specs.Names.{listsIn}
-use Rattle.prepare.specs.Positions.{IsRow, manyGroups, groupsAt, groupsEnd, groupsFrom, innerAt, innerEnd}
+use Rattle.prepare.specs.Positions.{IsRow, groupsAt, groupsEnd, groupsFrom, innerAt, innerEnd, manyGroups}
 use Rattle.prepare.specs.Positions.{shapeAt}
 use Rattle.prepare.specs.Prepares.{IsBook, Prepares, preparing}
 use Rattle.prepare.specs.Templates.{AreTemplates, IsBody, IsPreparable, bodyAt, bookAt, templatesAt}
@@ -145,21 +145,19 @@ rows-are s t (suc n) w ts h l e =
 -- ---- the book
 
 preparable : (s : List ℕ) (k : IsBook s) → IsPreparable s (word (wordsOf s) 2) × (k .tree ≡ bookAt s)
-unfolding bookOf
+unfolding treeOf
 preparable s k =
-    let p₂ = inv-bind _ _ _ (inv-bind _ _ _ (k .is) .next) in
+    let p₂ = inv-bind _ _ _ (inv-bind _ _ _ (keeps-rules s (k .tree) (k .is) .tree) .next) in
     let p₃ = inv-bind _ _ _ (p₂ .next) in
-    let p₄ = inv-bind _ _ _ (p₃ .next) in
-    let p₅ = inv-bind _ _ _ (p₄ .next) in
-    let p₇ = inv-bind _ _ _ (inv-bind _ _ _ (p₅ .next) .next) in
+    let p₄ = inv-both _ _ _ _ (p₃ .next) in
     let n = word (wordsOf s) 2 in
     let has : HasLists s = record { head = record { good = inv-must _ _ _ _ (p₂ .first) }; kept = p₃ .first } in
     let r = rows-are s 0 n headSize (p₄ .value) (omega (arith, head-says s (has .head) .fits)) (body-lies s has)
     (p₄ .first) in
-    let tree : k .tree ≡ bookAt s = sym (done-inj (p₇ .next)) ∙ rw (r .1) refl in
+    let tree : k .tree ≡ bookAt s = sym (p₄ .is) ∙ rw (r .1) refl in
     let short = length-prepared (record { octets = s; tree = k .tree; accepted = k .is; is = refl }) in (
       record {
-        lists = record { has = has; good = each-good _ 4 _ (listsIn s) (p₅ .value) (p₅ .first) };
+        lists = record { has = has; good = each-good _ 4 _ (listsIn s) (p₄ .other) (p₄ .second) };
         count = refl;
         templates = r .0;
         few = omega (arith, rw (tree, length-numbers (bookAt s), length-templates s n headSize) at short);

@@ -20,10 +20,11 @@ use Rattle.layout.proofs.Results.{either}
 use Rattle.layout.proofs.TypeLaws.{each-type}
 use Rattle.number_types.specs.Value.{orderOf}
 use Rattle.prepared.specs.Numbers.{blockOf, blockSize, datasOf, fieldsOf, ownCounts, placeOf, spread, tableOf}
-use Rattle.prepared.proofs.Accepted.{datas-length, fields-length}
+use Rattle.layout.proofs.Accepted.{datas-length}
+use Rattle.prepared.proofs.Accepted.{fields-length}
 use Rattle.prepared.proofs.Prepared.{length-table}
-use Rattle.prepare.specs.Positions.{manyDatas, elementsAt, manyFields, manyGroups, headAt, shapeAt}
-use Rattle.prepare.specs.Positions.{sizeAt, wordsFrom, worked}
+use Rattle.prepare.specs.Positions.{elementsAt, headAt, manyDatas, manyFields, manyGroups, shapeAt, sizeAt}
+use Rattle.prepare.specs.Positions.{wordsFrom, worked}
 use Rattle.prepare.proofs.Filling.{Filling, filling-on}
 
 -- ---- words

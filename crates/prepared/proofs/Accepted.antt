@@ -14,10 +14,10 @@ use Rattle.layout.specs.Lists.{NameList}
 use Rattle.layout.specs.Book.{Book, Groups, Shape, Template, groupSinces, more, none}
 use Rattle.layout.specs.BookRules.{ContentsRow, bookOf, checkContents, contentsEnd, contentsSize, fieldsSince, formatOf}
 use Rattle.layout.specs.BookRules.{groupsGood, groupsSince, headSize, layoutGood, listsOf, nameListOf, parseBodies}
-use Rattle.layout.specs.BookRules.{parseBody, parseContents, parseDatas, parseFields, parseGroups, parseShape, rising}
-use Rattle.layout.specs.BookRules.{shapeGood, shapeSince, sinceGood, word, youngest}
-use Rattle.layout.proofs.Accepted.{each-good}
-use Rattle.layout.proofs.Results.{and-left, and-right, done-inj, either, inv-bind, inv-must, inv-refusal}
+use Rattle.layout.specs.BookRules.{parseBody, parseContents, parseFields, parseGroups, parseShape, rising, shapeGood}
+use Rattle.layout.specs.BookRules.{shapeSince, sinceGood, treeOf, word, youngest}
+use Rattle.layout.proofs.Accepted.{KeepsRules, datas-length, each-good, keeps-rules}
+use Rattle.layout.proofs.Results.{and-left, and-right, done-inj, either, inv-bind, inv-both, inv-must, inv-refusal}
 use Rattle.book.proofs.Words.{length-words}
 use Rattle.prepared.specs.Numbers.{blockSize, count, groupsSize, listsSize, sizesOf}
 use Rattle.prepared.specs.Fits.{FitTemplates, Fits, FitsBook, FitsShape, IsNamed}
@@ -50,11 +50,6 @@ fields-named : (ls : List NameList) (b : List ℕ) (n w : ℕ) → Each (IsNamed
 unfolding parseFields Each
 fields-named ls b zero w = tt
 fields-named ls b (suc n) w = (refl, fields-named ls b n (w + 7))
-
-pub datas-length : (b : List ℕ) (n w : ℕ) → length (parseDatas b n w) ≡ n
-unfolding parseDatas
-datas-length b zero w = refl
-datas-length b (suc n) w = ap suc (datas-length b n (w + 2))
 
 -- The shape that was parsed at word w, its number of groups, and the word after it: its counts, its names, and how many
 -- numbers it is against how many words.
@@ -250,15 +245,13 @@ contents-length b zero w = refl
 contents-length b (suc n) w = ap suc (contents-length b n (w + 3))
 
 pub accepted-fits : (octets : List ℕ) (b : Book) → bookOf octets ≡ done b → FitsBook b
-unfolding bookOf checkContents
+unfolding treeOf checkContents
 accepted-fits octets b e =
-    let p₁ = inv-bind _ _ _ e in
+    let rules = keeps-rules octets b e in
+    let p₁ = inv-bind _ _ _ (rules .tree) in
     let p₂ = inv-bind _ _ _ (p₁ .next) in
     let p₃ = inv-bind _ _ _ (p₂ .next) in
-    let p₄ = inv-bind _ _ _ (p₃ .next) in
-    let p₅ = inv-bind _ _ _ (p₄ .next) in
-    let p₆ = inv-bind _ _ _ (p₅ .next) in
-    let p₇ = inv-bind _ _ _ (p₆ .next) in
+    let p₄ = inv-both _ _ _ _ (p₃ .next) in
     let ws = wordsOf octets in
     let n = word ws 2 in
     let version = word ws 1 in
@@ -270,15 +263,16 @@ accepted-fits octets b e =
     let h₃ = and-right _ _ (and-right _ _ h₁) in
     let rows = inv-bind _ _ _ (p₃ .first) in
     let last = inv-bind _ _ _ (rows .next) in
+    subst (λ (x : Book). KeepsRules octets x → FitsBook x) (p₄ .is)
+    (λ r.
     let fit = bodies-fit ls ws _ version (rows .value) 0 (headSize + contentsSize ws) 0 _ ts (rows .first) (p₄ .first)
-    (each-good _ 5 0 ts (p₆ .value) (p₆ .first)) (each-good _ 6 0 ts (p₇ .value) (p₇ .first)) in
+    (r .layout) (r .since) in
     let counted : length ts ≡ n = fit .counted ∙ contents-length ws n headSize in
-    subst FitsBook (done-inj (p₇ .next))
-    (record {
+    record {
       schema = ltb-true _ _ (and-left _ _ h);
       version = ltb-true _ _ (and-left _ _ h₁);
       few = omega (arith, leb-true n 64 (and-left _ _ h₃));
-      lists = each-good _ 4 _ ls (p₅ .value) (p₅ .first);
+      lists = each-good _ 4 _ ls (p₄ .other) (p₄ .second);
       templates = fit .fits;
       short = omega (
         arith,
@@ -290,4 +284,4 @@ accepted-fits octets b e =
         eqb-true (last .value) (length ws) (inv-must _ _ _ _ (last .next)),
         length-words octets,
       );
-    })
+    }) rules

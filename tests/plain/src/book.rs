@@ -1,6 +1,6 @@
-//! The schema book as a tree, read from its octets: refusals 1 to 4. `rules` has 5 and 6.
+//! The schema book as a tree, read from its octets: refusals 1 to 4. `rules` has 5 to 7.
 
-use crate::{byte_order, dimension, refusal, rules, word, NameList, Refusal, NULL16};
+use crate::{byte_order, dimension, refusal, rules, word, NameList, Refusal, LONGEST, NULL16};
 
 #[derive(Clone, Debug, PartialEq, Eq)]
 pub struct Book {
@@ -79,6 +79,7 @@ impl Book {
         let book = Book { schema, version, byte_order, dimension, templates, lists };
         book.each(5, |block| rules::shape_holds(block, &book))?;
         book.each(6, |block| rules::sinces_hold(block, &book, None))?;
+        book.each(7, |block| book.shortest(block) <= LONGEST)?;
         Ok(book)
     }
 

@@ -13,6 +13,10 @@ impl Book {
         self.dimension == FOUR
     }
 
+    pub fn dimension_octets(&self) -> usize {
+        2 * usize::from(self.dimension)
+    }
+
     /// The dimension of so many entries of a block as the book has it.
     pub fn dimension_of(&self, block: &Block, entries: u16) -> Vec<u16> {
         let mut numbers = vec![block.length, entries, block.groups.len() as u16, block.data.len() as u16];

@@ -31,7 +31,8 @@ pub struct Octets {
     pub length: usize,
 }
 
-const HEADER: usize = 12;
+/// Octets of a header.
+pub const HEADER: usize = 12;
 
 impl<'a> Message<'a> {
     pub fn read(book: &'a Book, octets: &'a [u8]) -> Result<Message<'a>, Refusal> {
@@ -181,7 +182,7 @@ impl Walk<'_> {
 
     /// As many numbers as the book says.
     fn dimension(&mut self) -> Result<Dimension, Refusal> {
-        let place = self.pass(2 * usize::from(self.book.dimension), self.at)?;
+        let place = self.pass(self.book.dimension_octets(), self.at)?;
         let counted = self.book.is_counted();
         let count = |at| if counted { self.number(at) } else { 0 };
         let numbers = [self.number(place), self.number(place + 2), count(place + 4), count(place + 6)];

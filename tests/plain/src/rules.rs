@@ -1,5 +1,6 @@
-//! The rules of a block that has been read: refusals 5 and 6, and the need of a block.
+//! The rules of a block that has been read: refusals 5 to 7, and the need of a block.
 
+use crate::message::HEADER;
 use crate::types::{Type, TYPES};
 use crate::{Block, Book, Field, NULL16};
 
@@ -82,4 +83,12 @@ pub fn sinces_hold(block: &Block, book: &Book, own: Option<u16>) -> bool {
         fields.first() == Some(&own) && groups.iter().chain(&data).all(may_have)
     });
     by_themselves && by_group && block.groups.iter().all(|group| sinces_hold(&group.block, book, Some(group.since)))
+}
+
+impl Book {
+    /// The octets of the shortest message that is written of a root block: no group has an entry, no data an octet.
+    pub fn shortest(&self, root: &Block) -> usize {
+        let (groups, data) = (root.groups.len(), root.data.len());
+        HEADER + usize::from(root.length) + self.dimension_octets() * groups + 2 * data
+    }
 }

@@ -1,5 +1,6 @@
 //! The recorded cases of `tests/cases`: an input, and the answer that two implementations gave, made apart from each
-//! other.
+//! other. Those of `dims` were recorded before there was refusal 7: cases 214, 1537 and 1577, whose books it is for,
+//! have got it as their answer.
 //!
 //! A case is an octet for the call (0 list, 2 place, 3 write), a 32-bit length and the input. All numbers but those of a
 //! message are little-endian. An input begins with the book's octet count, 16 bits, and the book, as the listing program
@@ -15,8 +16,13 @@ use crate::readers::{lent, Free, Plain, Reader, Stream};
 use crate::report::{hex, same, Report};
 use plain::{refusal, word, Draft, Place, Record, Refusal};
 
-const CASES: &[u8] = include_bytes!("../../cases/dims.cases");
-const EXPECTED: &str = include_str!("../../cases/dims.expected");
+/// Name, cases, and answers.
+type File = (&'static str, &'static [u8], &'static str);
+
+const FILES: [File; 2] = [
+    ("dims", include_bytes!("../../cases/dims.cases"), include_str!("../../cases/dims.expected")),
+    ("tmpl", include_bytes!("../../cases/tmpl.cases"), include_str!("../../cases/tmpl.expected")),
+];
 
 const LIST: u8 = 0;
 pub const PLACE: u8 = 2;
@@ -28,6 +34,7 @@ const ENOUGH: usize = 65536;
 const PATTERN: u64 = 0xa5a5_5a5a_c3c3_3c3c;
 
 pub struct Case<'a> {
+    file: &'a str,
     number: usize,
     pub call: u8,
     pub input: &'a [u8],
@@ -35,11 +42,15 @@ pub struct Case<'a> {
 }
 
 pub fn cases() -> Vec<Case<'static>> {
-    let (mut rest, mut cases) = (CASES, Vec::new());
-    for (number, line) in EXPECTED.lines().enumerate() {
+    FILES.iter().flat_map(|&file| of_file(file)).collect()
+}
+
+fn of_file((file, mut rest, expected): File) -> Vec<Case<'static>> {
+    let mut cases = Vec::new();
+    for (number, line) in expected.lines().enumerate() {
         let length = u32::from_le_bytes([rest[1], rest[2], rest[3], rest[4]]) as usize;
         let expected = line.split_once(' ').expect("a number and an answer").1;
-        cases.push(Case { number, call: rest[0], input: &rest[5..5 + length], expected });
+        cases.push(Case { file, number, call: rest[0], input: &rest[5..5 + length], expected });
         rest = &rest[5 + length..];
     }
     assert!(rest.is_empty(), "a case without an answer");
@@ -68,7 +79,7 @@ impl Case<'_> {
         };
         let answer = answer.unwrap_or_else(|no| format!("refused {} {}", no.number, no.place));
         let outcome = same("answer", answer.as_str(), self.expected);
-        report.check(outcome, || format!("case {} by {}, {}", self.number, reader.name(), hex(self.input)))
+        report.check(outcome, || format!("{} {} by {}, {}", self.file, self.number, reader.name(), hex(self.input)))
     }
 }
 

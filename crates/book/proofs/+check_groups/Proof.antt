@@ -12,8 +12,8 @@ use Rattle.layout.specs.BookRules.{listsOf, parseGroups}
 use Rattle.book.specs.Answers.{rowOf}
 use Rattle.book.specs.Rows.{countedIn}
 use Rattle.book.proofs.Words.{length-words}
-use Rattle.book.proofs.Groups.{after, after-none, after-twice, block-within, row-within, row-end, row-deep}
-use Rattle.book.proofs.Groups.{row-short, row-block, row-inner, row-next, row-breaks, row-stops}
+use Rattle.book.proofs.Groups.{after, after-none, after-twice, block-within, row-block, row-breaks, row-deep}
+use Rattle.book.proofs.Groups.{row-end, row-inner, row-next, row-short, row-stops, row-within}
 use Rattle.book.proofs.word.Reads as word-reads
 use Rattle.book.proofs.youngest.Reads as youngest-reads
 use Rattle.book.proofs.check_block.Reads as check-block-reads
@@ -95,7 +95,7 @@ module _ (t : ℕ) where
         omega (arith, start .pre .0),
         (
           start .pre .1 .0,
-          omega (arith, length-words (start .args .body .now), block-within _ _ _ _ _ _ _ _ _ _ _ e),
+          omega (arith, length-words (start .args .body .now), block-within _ _ _ _ _ _ _ _ _ _ _ e .1),
         ),
       )
 
@@ -127,7 +127,7 @@ module _ (t : ℕ) where
           arith,
           length-words (start .args .body .now),
           row-within _ _ _ _ _ _ _ _ _ _ _ k
-              (block-within _ _ _ _ _ _ _ _ _ _ _ e),
+              (block-within _ _ _ _ _ _ _ _ _ _ _ e .1),
         ),
         i .before .loop .inv .1 ∙ ap (after _) (row-next _ _ _ _ _ _ _ _ _ (omega arith) (omega arith) _ _ _ e _ _ k)
             ∙ after-twice _ _ _

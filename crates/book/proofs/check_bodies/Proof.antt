@@ -6,10 +6,10 @@ use borrow.Author.Needs.{needs}
 use lib.ListN.{length, take, drop}
 use Rattle.layout.specs.Result.{Result}
 use Rattle.layout.specs.Octets.{wordsOf}
-use Rattle.layout.specs.BookRules.{eachMust, headSize, listGood, listsOf, parseBodies, parseBody, parseContents, word}
+use Rattle.layout.specs.BookRules.{eachMust, formatOf, headSize, listGood, listsOf, parseBodies, parseBody}
+use Rattle.layout.specs.BookRules.{parseContents, word}
 use Rattle.layout.specs.Contracts.{checked}
 use Rattle.book.specs.Answers.{bodiesOf, bodyOf, ruled}
-use Rattle.book.specs.Rows.{countedIn}
 use Rattle.book.proofs.Words.{words-between}
 use Rattle.book.proofs.Rows.{Head, body-lies, head-says}
 use Rattle.book.proofs.Bodies.{bodies-broken, bodies-end, bodies-next, bodies-stop}
@@ -17,15 +17,15 @@ use Rattle.book.proofs.check_bodies.Statement.{statement}
 use Rattle.book.proofs.check_bodies.Tie as tie
 
 abbrev Inv-loop : tie.InvT-loop
-Inv-loop book version left₀ t₀ w₀ five₀ six₀ left t w five six =
+Inv-loop book version left₀ t₀ w₀ five₀ six₀ seven₀ left t w five six seven =
     let b = wordsOf book in
     (t + left ≡ word b 2) × (w ≡ headSize + 3 * t)
     × (checked (bodiesOf b)
-    ≡ checked (ruled (eachMust listGood 4 (word b 2) (listsOf b)) (countedIn book) version t five six
+    ≡ checked (ruled (eachMust listGood 4 (word b 2) (listsOf b)) (formatOf b) version t five six seven
     (parseBodies (listsOf b) b t (parseContents b left w))))
 
 abbrev μ-loop : tie.MeasureT-loop
-μ-loop book version left₀ t₀ w₀ five₀ six₀ left t w five six = left
+μ-loop book version left₀ t₀ w₀ five₀ six₀ seven₀ left t w five six seven = left
 
 head : (c : tie.Start Inv-loop μ-loop) → Head (c .args .book .now)
 head c = head-says _ (c .pre .head)
@@ -48,7 +48,7 @@ lies c =
 says : (c : tie.After-check-body Inv-loop μ-loop) → let read = c .before .before in let i = read .before .before in
     let book = i .before .before .before .before .before .args .book .now in
     let b = wordsOf book in let w = i .before .loop .w in
-    c .check-body .result ≡ bodyOf (countedIn book) (i .before .before .before .word .result)
+    c .check-body .result ≡ bodyOf (formatOf b) (i .before .before .before .word .result)
     (parseBody (listsOf b) (take (word b (w + 2)) (drop (word b (w + 1)) b)))
 says c =
     let read = c .before .before in
@@ -64,11 +64,12 @@ returns c =
     c .refuse .ensures
     ∙ sym (i .before .loop .inv .2
     ∙ ap (λ (x : Result (Unit {0})). checked x)
-    (bodies-broken _ _ _ _ _ _ _ _ _ _ (i .loop-test .taken) (sym (told .enum-told .given .1) ∙ says body)))
+    (bodies-broken _ _ _ _ _ _ _ _ _ _ _ (i .loop-test .taken) (sym (told .enum-told .given .1) ∙ says body)))
 
 loop-again : tie.Need-loop-again Inv-loop μ-loop
 loop-again c =
-    let whole = c .before .before .before in
+    let six = c .before in
+    let whole = six .before .before .before in
     let body = whole .before .before in
     let i = body .before .before .before .before in
     let start = i .before .before .before .before .before in
@@ -76,16 +77,16 @@ loop-again c =
       omega arith,
       omega arith,
       inv .2 ∙ ap (λ (x : Result (Unit {0})). checked x)
-          (bodies-next _ _ _ _ _ _ _ _ _ _ (i .loop-test .taken) (omega (arith, head start .few)) _
+          (bodies-next _ _ _ _ _ _ _ _ _ _ _ (i .loop-test .taken) (omega (arith, head start .few)) _ _
           (sym (whole .body .given .1) ∙ says body))
-          ∙ rw (c .first-of2 .ensures, c .before .first-of .ensures) refl,
+          ∙ rw (c .first-of3 .ensures, six .first-of2 .ensures, six .before .first-of .ensures) refl,
     )
 
 returns-2 : tie.Need-returns-2 Inv-loop μ-loop
 returns-2 c =
     let lists = c .before .before .before in
     let i = lists .before .before in
-    c .verdict .ensures ∙ sym (i .loop .inv .2 ∙ bodies-end _ _ _ _ _ _ _ _ _ _ (omega arith)
+    c .verdict .ensures ∙ sym (i .loop .inv .2 ∙ bodies-end _ _ _ _ _ _ _ _ _ _ _ (omega arith)
     (sym (c .before .enum-told2 .given .1) ∙ lists .check-lists .ensures))
 
 returns-3 : tie.Need-returns-3 Inv-loop μ-loop
@@ -93,7 +94,7 @@ returns-3 c =
     let refusal = c .before in
     let lists = refusal .before .before in
     let i = lists .before .before in
-    sym (i .loop .inv .2 ∙ bodies-stop _ _ _ _ _ _ _ _ _ _ (omega arith) _
+    sym (i .loop .inv .2 ∙ bodies-stop _ _ _ _ _ _ _ _ _ _ _ (omega arith) _
     (sym (refusal .refusal .given .1) ∙ lists .check-lists .ensures))
 
 pub check-bodies-spec : {M : Type 1} → statement M
@@ -108,7 +109,8 @@ check-bodies-spec =
     (λ c. omega (arith, c .word4 .ensures .small, c .before .word3 .ensures .small))
     (λ c. omega arith) (λ c. search (needs, lies c)) (λ c. search (needs, lies c)) (λ c κs. search needs)
     (λ c. search needs) (λ c. search needs)
-    (λ c κs. search needs) returns (λ c κs. search needs) (λ c κs. search needs) (λ c. omega arith) (λ c. omega arith)
+    (λ c κs. search needs) returns (λ c κs. search needs) (λ c κs. search needs) (λ c κs. search needs)
+    (λ c. omega arith) (λ c. omega arith)
     (λ c. omega arith)
     (λ c. omega arith) loop-again (λ c κs. search needs) (λ c. search needs) (λ c. search needs) (λ c κs. search needs)
     returns-2 returns-3)

@@ -16,7 +16,7 @@ check-groups-requires c κs =
     let block = c .before in
     let e = sym (block .block .given .1) ∙ block .before .before .check-block .ensures in
     let start = block .before .before .before .before .before in
-    (start .pre, omega (arith, length-words (start .args .body .now), block-within _ _ _ _ _ _ _ _ _ _ _ e))
+    (start .pre, omega (arith, length-words (start .args .body .now), block-within _ _ _ _ _ _ _ _ _ _ _ e .1))
 
 returns-2 : tie.Need-returns-2
 returns-2 c =
@@ -24,14 +24,22 @@ returns-2 c =
     sym (body-groups _ _ _ _ _ _ _ (sym (block .block .given .1) ∙ block .before .before .check-block .ensures)
     (sym (c .enum-told2 .given .1) ∙ c .before .before .check-groups .ensures))
 
+least-length-requires : tie.Need-least-length-requires
+least-length-requires c κs =
+    let block = c .before .before .before .before .before .before .before in
+    let e = sym (block .block .given .1) ∙ block .before .before .check-block .ensures in
+    let start = block .before .before .before .before .before in
+    (start .pre, omega (arith, length-words (start .args .body .now), block-within _ _ _ _ _ _ _ _ _ _ _ e .0))
+
 returns-3 : tie.Need-returns-3
 returns-3 c =
-    let row = c .before .before .before in
+    let sum = c .before in
+    let row = sum .before .before .before in
     let block = row .before .before .before .before in
     let n = length-words (block .before .before .before .before .before .args .body .now) in
-    rw (c .all-rules .ensures)
+    rw (sum .all-rules .ensures, c .least-length .ensures)
     (sym (body-whole _ _ _ _ _ _ _ (sym (block .block .given .1) ∙ block .before .before .check-block .ensures) _ _
-    (sym (row .row .given .1) ∙ row .before .before .check-groups .ensures) (c .before .if1 .taken ∙ sym n)))
+    (sym (row .row .given .1) ∙ row .before .before .check-groups .ensures) (sum .before .if1 .taken ∙ sym n)))
 
 returns-4 : tie.Need-returns-4
 returns-4 c =
@@ -46,4 +54,4 @@ check-body-spec =
     tie.close
     (tie.spec (λ c κs. search needs) (λ c. search needs) (λ c. search needs) returns check-groups-requires
     (λ c. search needs) (λ c. search needs)
-    returns-2 (λ c κs. search needs) returns-3 returns-4)
+    returns-2 (λ c κs. search needs) least-length-requires returns-3 returns-4)

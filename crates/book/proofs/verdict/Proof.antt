@@ -14,4 +14,11 @@ verdict-spec =
     (tie.spec (λ c κs. search needs) (λ c. simp (lt-ltb _ _ (c .before .if1 .taken)) (c .refuse .ensures))
     (λ c κs. search needs)
     (λ c. simp (le-ltb _ _ (c .before .before .if1 .left), lt-ltb _ _ (c .before .if2 .taken)) (c .refuse2 .ensures))
-    (λ c. simp (le-ltb _ _ (c .before .if1 .left), le-ltb _ _ (c .if2 .left))))
+    (λ c κs. search needs)
+    (λ c.
+    let six = c .before .before in
+    simp (le-ltb _ _ (six .before .if1 .left), le-ltb _ _ (six .if2 .left), lt-ltb _ _ (c .before .if3 .taken))
+    (c .refuse3 .ensures))
+    (λ c.
+    let six = c .before in
+    simp (le-ltb _ _ (six .before .if1 .left), le-ltb _ _ (six .if2 .left), le-ltb _ _ (c .if3 .left))))

@@ -8,7 +8,7 @@ use borrow.Fn.Kinds.{In, Out}
 use borrow.Fn.PlainCycle.{Measures, is, falls, and}
 use Rattle.prepared.proofs.Open.{some-follow}
 use Rattle.prepared.specs.Positions.{BlockAt, IsRow, groupsAt, innerAt, isBig, isCounted, nextFrom, shapeAt}
-use Rattle.prepared.proofs.Accepted.{datas-length}
+use Rattle.layout.proofs.Accepted.{datas-length}
 use Rattle.prepared.proofs.number.Reads as number-reads
 use Rattle.prepared.proofs.open_row.Reads as open-row-reads
 use Rattle.prints.proofs.Going.{Going, going-call, going-end, going-first, going-none, stored-none}

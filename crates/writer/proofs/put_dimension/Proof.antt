@@ -11,7 +11,7 @@ use Rattle.layout.specs.Writing.{countsOf, dimensionOf}
 use Rattle.layout.proofs.Lengths.{counts-long}
 use Rattle.layout.proofs.Stands.{length-numbers}
 use Rattle.prepared.specs.Positions.{innerAt, isBig, isCounted, shapeAt}
-use Rattle.prepared.proofs.Accepted.{datas-length}
+use Rattle.layout.proofs.Accepted.{datas-length}
 use Rattle.prepared.proofs.Open.{head-there, length-row}
 use Rattle.prints.specs.Prints.{endOf, numbersOf}
 use Rattle.writer.specs.Parts.{dimensionAt}

@@ -3,7 +3,7 @@ use mathlib.Core.List.{[], _∷_}
 use native.Mathlib.Omega.{arith}
 use borrow.Author.Needs.{needs}
 use Rattle.layout.specs.Writing.{countsOf}
-use Rattle.prepared.proofs.Accepted.{datas-length}
+use Rattle.layout.proofs.Accepted.{datas-length}
 use Rattle.prepared.proofs.Open.{length-row}
 use Rattle.writer.proofs.Message.{numbers-laid}
 use Rattle.writer.proofs.put_header.Statement.{statement}

@@ -118,14 +118,14 @@ fn words() -> Result<(), String> {
     let room =
         "refused 40 for 6 records: the room is below three numbers per record, or below a prepared book's numbers";
     same("40", said.as_str(), room)?;
-    let said = [4, 5].map(|number| Refusal { number, place: 1 }.to_string());
-    let starts = ["refused 4 in body 1: ", "refused 5 in template 1: "];
-    same("4 and 5", said.iter().zip(starts).all(|(said, start)| said.starts_with(start)), true)?;
+    let said = [4, 5, 7].map(|number| Refusal { number, place: 1 }.to_string());
+    let starts = ["refused 4 in body 1: ", "refused 5 in template 1: ", "refused 7 in template 1: "];
+    same("4, 5 and 7", said.iter().zip(starts).all(|(said, start)| said.starts_with(start)), true)?;
     let said = Refusal { number: 54, place: 2 }.to_string();
     same("54", said.as_str(), "refused 54 at record 2: a group has over 65,534 entries")?;
     let said = Refusal { number: 55, place: 0 }.to_string();
     same("55", said.as_str(), "refused 55: the message is longer than the room or than 65,535 octets")?;
-    let mut known = (1..=6).chain(10..=22).chain([30, 31, 40]).chain(50..=55);
+    let mut known = (1..=7).chain(10..=22).chain([30, 31, 40]).chain(50..=55);
     let silent = known.find(|&number| {
         let refusal = Refusal { number, place: 0 };
         refusal.meaning() == "unknown" || refusal.place_meaning() == "unknown"

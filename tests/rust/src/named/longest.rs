@@ -31,7 +31,7 @@ pub fn group(entries: u64) -> impl Iterator<Item = Record> {
 const MORE: usize = LONGEST + 9;
 
 /// Exactly as long as a message may be, then with room for one octet less, and one octet longer.
-fn to_the_limit(book: &[u8], longest: &Draft, longer: &Draft) -> Result<(), String> {
+pub fn to_the_limit(book: &[u8], longest: &Draft, longer: &Draft) -> Result<(), String> {
     let mut message = vec![0; LONGEST];
     same("plain", Plain.write(book, longest, &mut message), Ok(LONGEST))?;
     let readers: [&dyn Reader; 3] = [&Plain, &Free, &Stream];

@@ -23,6 +23,7 @@ mod text_writing;
 mod texts;
 mod types;
 mod unknown;
+mod unsendable;
 mod unwritten;
 mod writing;
 
@@ -71,7 +72,7 @@ pub fn run(report: &mut Report) {
     println!("all of these by the other byte order, with every number turned: {passed} of {}", turned.len());
     let calls = calls::calls().into_iter().chain(texts::calls()).chain(counted::calls()).chain(prepared::calls());
     let calls = calls.chain(big_writing::calls()).chain(unknown::calls());
-    let calls = calls.chain(largest::calls()).chain(longest::calls());
+    let calls = calls.chain(largest::calls()).chain(longest::calls()).chain(unsendable::calls());
     for (name, call) in calls {
         if report.check(call(), || name.into()) {
             println!("ok {name}");
@@ -81,13 +82,15 @@ pub fn run(report: &mut Report) {
 
 /// The cases whose names are told one by one.
 fn all() -> Vec<Case> {
-    let read = [books::cases(), borders::cases(), messages::cases(), readings::cases(), counted::cases()];
+    let books = [books::cases(), borders::cases(), unsendable::cases()];
+    let read = [messages::cases(), readings::cases(), counted::cases()];
     let written = [writing::cases(), unwritten::cases()];
     let by_lists = [lists::cases(), named_lists::cases(), listed::cases(), listed_writing::cases()];
     let of_texts = [texts::cases(), text_writing::cases()];
     let big_endian = [byte_orders::cases(), big_numbers::cases(), big_writing::cases()];
     let counted = [dimensions::cases(), unknown::cases()];
-    let all = read.into_iter().chain(written).chain(by_lists).chain(of_texts).chain(big_endian).chain(counted);
+    let all =
+        books.into_iter().chain(read).chain(written).chain(by_lists).chain(of_texts).chain(big_endian).chain(counted);
     all.flatten().collect()
 }
 

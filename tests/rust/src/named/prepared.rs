@@ -4,7 +4,7 @@ use super::books::{a, b, enumeration, field, fields, nested, of, set, with_lists
 use super::byte_orders::big;
 use super::calls::Call;
 use super::dimensions::{four, newer};
-use super::{books, borders, byte_orders, dimensions, lists, named_lists, Case};
+use super::{books, borders, byte_orders, dimensions, lists, named_lists, unsendable, Case};
 use crate::raw;
 use crate::readers::own;
 use crate::report::same;
@@ -17,7 +17,7 @@ pub fn calls() -> [(&'static str, Call); 5] {
         ("prepare: into every room from none to enough; where it is too small, 40 at the need", every_room),
         ("prepare: the largest books, within 8,260 numbers", largest),
         ("prepare: the same numbers each time", same_numbers),
-        ("prepare: books that are refused by 1 to 6, as by check_book", refused),
+        ("prepare: books that are refused by 1 to 7, as by check_book", refused),
         ("C: prepare with null pointers", null_pointers),
     ]
 }
@@ -152,7 +152,7 @@ fn largest() -> Result<(), String> {
 fn book_cases() -> impl Iterator<Item = Case> {
     let by_lists = [lists::cases(), named_lists::cases()];
     let by_format = [byte_orders::cases(), dimensions::cases()];
-    [books::cases(), borders::cases()].into_iter().chain(by_lists).chain(by_format).flatten()
+    [books::cases(), borders::cases(), unsendable::cases()].into_iter().chain(by_lists).chain(by_format).flatten()
 }
 
 fn same_numbers() -> Result<(), String> {
@@ -175,7 +175,7 @@ fn refused() -> Result<(), String> {
             prepares(&book, [0, 1, book.len(), PREPARED_MOST])?;
         }
     }
-    same("refusals", (1..=6).filter(|number| !seen.contains(number)).collect(), Vec::new())
+    same("refusals", (1..=7).filter(|number| !seen.contains(number)).collect(), Vec::new())
 }
 
 fn null_pointers() -> Result<(), String> {

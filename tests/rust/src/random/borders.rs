@@ -3,17 +3,18 @@
 use super::books::{add_field, data_of};
 use super::lists::{add_list, MOST};
 use plain::dimension::{FOUR, TWO};
-use plain::{byte_order::BIG, lists::SET, types::TYPES, Block, Book, Field, Group, Rng, Template};
+use plain::{byte_order::BIG, lists::SET, types::TYPES, Block, Book, Field, Group, Rng, Template, LONGEST};
 
-/// The book with its byte order, its numbers of a dimension, one count, depth, number, since or list at its limit or
-/// one beyond.
+/// The book with its byte order, its numbers of a dimension, one count, depth, number, since, list or template's length
+/// at its limit or one beyond.
 pub fn book(rng: &mut Rng, mut book: Book) -> Book {
-    match rng.below(20) {
+    match rng.below(24) {
         0..=2 => templates(rng, &mut book),
         3..=4 => lists(rng, &mut book),
         5..=6 => names(rng, &mut book),
         7 => book.byte_order = rng.word(BIG, BIG + 1),
         8 => book.dimension = rng.word(TWO - 1, FOUR + 1),
+        9..=12 => shortest(rng, &mut book),
         _ => one_block(rng, &mut book),
     }
     book
@@ -24,8 +25,8 @@ fn one_block(rng: &mut Rng, book: &mut Book) {
     let (block, depth) = some_block(rng, &mut book.templates[number].block, 0);
     match rng.below(8) {
         0 => fill(rng, block, 64, |block| block.fields.len(), |rng, block, since| add_field(rng, &[], block, since)),
-        1 => fill(rng, block, 16, |block| block.groups.len(), |rng, block, since| block.groups.push(small(rng, since))),
-        2 => fill(rng, block, 16, |block| block.data.len(), |rng, block, since| block.data.push(data_of(rng, since))),
+        1 => fill_groups(rng, block),
+        2 => fill_data(rng, block),
         3 => deepen(rng, block, depth),
         4 => block.fields.truncate(rng.below(2)),
         5 => lengths(rng, block),
@@ -69,6 +70,14 @@ fn fill(
     }
 }
 
+fn fill_groups(rng: &mut Rng, block: &mut Block) {
+    fill(rng, block, 16, |block| block.groups.len(), |rng, block, since| block.groups.push(small(rng, since)));
+}
+
+fn fill_data(rng: &mut Rng, block: &mut Block) {
+    fill(rng, block, 16, |block| block.data.len(), |rng, block, since| block.data.push(data_of(rng, since)));
+}
+
 /// 64 templates or 65, or two whose ids do not rise.
 fn templates(rng: &mut Rng, book: &mut Book) {
     let last = book.templates.len() - 1;
@@ -84,6 +93,30 @@ fn templates(rng: &mut Rng, book: &mut Book) {
         id += 1;
         book.templates.push(Template { id, block: Block::default() });
     }
+}
+
+/// The shortest message of a template or two as long as one may be, or an octet longer; sometimes beside another fault.
+fn shortest(rng: &mut Rng, book: &mut Book) {
+    if rng.chance(20) {
+        one_block(rng, book);
+    }
+    for _ in 0..rng.pick(&[1, 1, 1, 2]) {
+        lengthen(rng, book);
+    }
+}
+
+/// One template so, sometimes with more groups or data in its root.
+fn lengthen(rng: &mut Rng, book: &mut Book) {
+    let number = rng.below(book.templates.len());
+    let mut block = book.templates[number].block.clone();
+    match rng.below(6) {
+        0 => fill_groups(rng, &mut block),
+        1 => fill_data(rng, &mut block),
+        _ => (),
+    }
+    let others = book.shortest(&block) - usize::from(block.length);
+    block.length = (LONGEST + rng.below(2) - others) as u16;
+    book.templates[number].block = block;
 }
 
 /// A chain of groups down to depth four or five.

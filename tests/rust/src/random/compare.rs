@@ -5,7 +5,7 @@ use super::{places, texts, written};
 use crate::readers::{own, stream_place, Free, Reader};
 use crate::report::same;
 use crate::rooms::{self, prepared, Listing};
-use plain::{word, Book, Message, Place, Refusal, Rng};
+use plain::{word, Book, Message, Place, Refusal, Rng, LONGEST};
 use siphonbard::ffi::PREPARED_MOST;
 use siphonbard::Answer;
 
@@ -28,11 +28,17 @@ impl<'a> BothBooks<'a> {
         self.library.as_ref().err().map_or(false, four)
     }
 
+    fn can_only_just_be_sent(&self) -> bool {
+        let longest = |book: &Book| book.templates.iter().any(|template| book.shortest(&template.block) == LONGEST);
+        self.plain.as_ref().map_or(false, longest)
+    }
+
     /// The verdict on the book, and its numbers in rooms that are exact, too small by one number, half so large, empty,
     /// and larger.
     pub fn compare(&self, seen: &mut Seen) -> Result<(), String> {
         seen.outcome(&self.library);
         seen.lists += u64::from(self.is_refused_for_a_list());
+        seen.longest += u64::from(self.can_only_just_be_sent());
         let verdict = self.plain.as_ref().map(drop).map_err(|no| *no);
         same("check_book", Free.check_book(self.octets), verdict)?;
         same("Book::checked", self.library.as_ref().map(drop).map_err(|no| *no), verdict)?;

@@ -6,7 +6,7 @@ use crate::wire;
 use plain::{Book, Refusal, NULL16};
 
 const REFUSALS: [(&str, &[usize]); 5] = [
-    ("books", &[1, 2, 3, 4, 5, 6]),
+    ("books", &[1, 2, 3, 4, 5, 6, 7]),
     ("messages", &[10, 11, 12, 13, 14, 15, 16, 17, 18, 19, 20, 21, 22]),
     ("places", &[30, 31]),
     ("rooms", &[40]),
@@ -21,6 +21,8 @@ pub struct Seen {
     refusals: [u64; 56],
     /// Books that are refused by 4 for one of their lists.
     pub lists: u64,
+    /// Books that are accepted, and have a template whose shortest message is as long as one may be.
+    pub longest: u64,
     kinds: [u64; 7],
     /// By `texts::NAMES`.
     texts: [u64; 9],
@@ -50,6 +52,7 @@ impl Seen {
         Seen {
             refusals: [0; 56],
             lists: 0,
+            longest: 0,
             kinds: [0; 7],
             texts: [0; 9],
             accepted: [0; 4],
@@ -122,6 +125,7 @@ impl Seen {
         });
         let others = [
             ("refusals of lists", vec![("4".into(), self.lists)]),
+            ("books accepted", vec![("their shortest message of 65,535 octets".into(), self.longest)]),
             ("answers", named(&KINDS, &self.kinds)),
             ("texts", named(&texts::NAMES, &self.texts)),
             ("messages accepted", named(&FORMATS, &self.accepted)),

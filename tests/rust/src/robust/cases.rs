@@ -10,6 +10,7 @@ pub struct Case {
     pub asked: Asked,
 }
 
+#[derive(Clone)]
 pub enum Asked {
     /// A message, and places in it.
     Read(Vec<u8>, Vec<Place>),

@@ -10,6 +10,7 @@ mod empty;
 mod exports;
 mod guarded;
 mod heap;
+mod longest;
 mod made;
 mod memory;
 mod numbers;
@@ -42,11 +43,13 @@ pub fn on_the_heap(report: &mut Report, seed: u64, messages: u64) {
     all(report, &mut Desk::of(Heap::empty), "on the heap", seed, messages);
 }
 
-/// The recorded cases, random ones, and texts, numbers and what the book does not know at the ends of what is lent.
+/// The recorded cases, random ones, and texts, numbers and what the book does not know at the ends of what is lent; and
+/// the longest templates.
 fn all<M: Memory>(report: &mut Report, desk: &mut Desk<M>, memory: &str, seed: u64, messages: u64) {
     let random = made::cases(seed, (messages / SHARE) as usize);
     let at_ends = [("text", texts::cases()), ("number", numbers::cases()), ("unknown", unknown::cases())];
-    for (what, cases) in [("recorded", cases::recorded()), ("random", random)].into_iter().chain(at_ends) {
+    let others = [("recorded", cases::recorded()), ("random", random), ("longest", longest::cases())];
+    for (what, cases) in others.into_iter().chain(at_ends) {
         let mut passes = |case: &Case| report.check(desk.ask(case), || format!("{memory}, seed {seed}, {case}"));
         let passed = cases.iter().filter(|case| passes(case)).count();
         println!("{what} cases, buffers {memory}: {passed} of {}", cases.len());
