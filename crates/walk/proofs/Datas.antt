@@ -13,7 +13,7 @@ use Rattle.layout.specs.Message.{inRow, readData, readDatas, skipDatas}
 use Rattle.layout.specs.declared.Answer.{Answer}
 use Rattle.layout.specs.declared.Answer.the-variants.{Absent}
 use Rattle.layout.specs.declared.Refusal.{Refusal}
-use Rattle.wire.specs.Walks.{walked, dataEnd, skipEnd}
+use Rattle.wire.specs.Walks.{walked, dataEnd}
 use Rattle.wire.specs.declared.Walked.the-variants.{To, Refused}
 use Rattle.wire.proofs.Answers.{refused-on}
 use Rattle.walk.specs.Walks.{dataAt, dataOr, datasEnd}
@@ -127,23 +127,3 @@ module _ (big : Bool) (m : List ℕ) (n : ℕ) where
   datas-surplus v (d ∷ ds) at =
       skip-first (skipDatas big m n) (if leb (d .since) v then readData big m at else done (Absent, at)) (λ a. a .1)
       (λ a rest. a .0 ∷ rest) (readDatas big m v ds n) (readDatas big m v ds 0) (λ x. datas-surplus v ds x)
-
-  -- So the walk is the one without, and then `skipDatas`.
-  module _ (v : ℕ) (ds : List Data) (at seen : ℕ) where
-    pub datas-surplus-row : (z : Refusal) → Refused z ≡ walked (datasEnd seen) (readDatas big m v ds 0 at)
-        → walked (datasEnd seen) (readDatas big m v ds n at) ≡ Refused z
-    datas-surplus-row z e = rw (datas-surplus v ds at) (refused-on _ (datasEnd seen) _ _ z e)
-
-    module _ (x k : ℕ) (e : To x k ≡ walked (datasEnd seen) (readDatas big m v ds 0 at)) where
-      pub datas-surplus-refused : (z : Refusal) → Refused z ≡ walked skipEnd (skipDatas big m n x)
-          → walked (datasEnd seen) (readDatas big m v ds n at) ≡ Refused z
-      datas-surplus-refused z h =
-          rw (datas-surplus v ds at)
-          (then-to _ (datasEnd seen) x k e _ _ _ λ a p q. rw p (refused-on _ skipEnd _ _ z h))
-
-      pub datas-surplus-passed : (y j : ℕ) → To y j ≡ walked skipEnd (skipDatas big m n x)
-          → walked (datasEnd seen) (readDatas big m v ds n at) ≡ To y k
-      datas-surplus-passed y j h =
-          rw (datas-surplus v ds at)
-          (then-to _ (datasEnd seen) x k e _ _ _ λ a p q.
-          rw p (then-to _ skipEnd y j h _ _ _ λ b p′ q′. reached (datasEnd seen) _ p′ q))
