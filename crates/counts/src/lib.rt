@@ -2,7 +2,6 @@
 // it has. And a group that the book knows, up to its entries.
 use layout::Refusal;
 use prepared::number;
-use wire::Sizes;
 ghost use mathlib.Core.Path.{_≡_};
 ghost use mathlib.Core.Bool.{true};
 ghost use Prim.Native.Nat.{_+_, _-_, _≤_};

@@ -8,7 +8,7 @@ use native.Mathlib.Omega.{arith}
 use lib.Dec.{eqb}
 use lib.ListN.{drop, length, take}
 use borrow.Author.Tests.{eq-eqb, le-leb, leb-true, lt-ltb}
-use Rattle.layout.specs.Result.{Each, Result, _>>=_, _and_, done, if_then_else_}
+use Rattle.layout.specs.Result.{Each, Result, _and_, done, if_then_else_}
 use Rattle.layout.specs.Octets.{null16, number16, numberAt, textLength}
 use Rattle.layout.specs.Types.{TypeRow, classify, inRange, typeAt, valueOf}
 use Rattle.layout.specs.Lists.{beside}

@@ -5,7 +5,7 @@ use Prim.Native.Nat.{_%_, _*_, _+_, _-_, _/_, _<_, _^_, _≤_, ℕ}
 use native.Mathlib.Omega.{arith}
 use lib.Dec.{eqb, leb}
 use borrow.Author.Tests.{eq-eqb, eqb-false, eqb-true, le-leb, leb-true, lt-leb, ne-eqb}
-use Rattle.layout.specs.Result.{_and_, _or_, if_then_else_}
+use Rattle.layout.specs.Result.{_and_, if_then_else_}
 use Rattle.layout.specs.Types.{TypeRow, char, int, isSigned, isWidth, rowOf, typeAt, valueOf, widthOf}
 use Rattle.layout.proofs.Results.{each-way, or-right}
 use Rattle.layout.proofs.TypeLaws.{Width, each-type}
