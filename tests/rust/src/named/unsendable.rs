@@ -8,6 +8,7 @@ use super::dimensions::group;
 use super::lists::{book, no};
 use super::longest::to_the_limit;
 use super::messages::m;
+use super::unwritten::refused;
 use super::writing::draft;
 use super::{with_word, Case, Expected};
 use crate::readers::{Free, Plain, Reader, Stream};
@@ -16,7 +17,8 @@ use plain::dimension::{FOUR, TWO};
 use plain::{message::HEADER, refusal, Block, Book, Draft, Field, Group, Place, Record, Template, LONGEST};
 
 pub fn cases() -> Vec<Case> {
-    [border_cases(), counted_cases(), place_cases(), order_cases(), call_cases()].into_iter().flatten().collect()
+    let all = [border_cases(), counted_cases(), place_cases(), order_cases(), call_cases(), lacking_cases()];
+    all.into_iter().flatten().collect()
 }
 
 pub fn calls() -> [(&'static str, Call); 2] {
@@ -169,6 +171,19 @@ fn call_cases() -> Vec<Case> {
         written("writing the good template of such a book: 7", draft(&[], &[]), LONGEST),
         written("writing a template that it lacks: 7 before 50", Draft { template: 9, ..draft(&[], &[]) }, LONGEST),
         written("writing the template that can never be sent: 7", Draft { template: 2, ..draft(&[], &[]) }, 0),
+    ]
+}
+
+/// A required field that there is nothing to write for, its list having only its null: 7 is not for that.
+fn lacking_cases() -> Vec<Case> {
+    let block = fields(1, vec![Field { list: 5, ..field(OCTET, 0, 0) }]);
+    let octets = || Book { lists: vec![enumeration(4, &[255])], ..of(TWO, vec![block.clone()]) }.octets();
+    let written = |name, record| refused(name, octets(), draft(&[record], &[]), LONGEST, 52, 0);
+    vec![
+        book("a list with nothing but the null of a required field: accepted", octets(), Ok(())),
+        written("a list with nothing but the null of a required field: 52 for that number", [0, 255, 0]),
+        written("a list with nothing but the null of a required field: 52 for another", [0, 7, 0]),
+        written("a list with nothing but the null of a required field: 52 for null", [1, 0, 0]),
     ]
 }
 

@@ -9,7 +9,7 @@ use plain::{refusal, Block, Draft, Field, Record};
 
 const ROOM: usize = 40;
 
-fn refused(name: &'static str, book: Vec<u8>, draft: Draft, room: usize, number: u64, place: usize) -> Case {
+pub fn refused(name: &'static str, book: Vec<u8>, draft: Draft, room: usize, number: u64, place: usize) -> Case {
     let expected = Expected::Written(draft, room, Err(refusal(number, place)));
     Case { name, book, message: Vec::new(), expected }
 }
