@@ -2,26 +2,26 @@
 -- numbers; a book, a message and a pool are lists of octets, a listing is a list of numbers. An operation comes to
 -- `done` with its result or `refused` with number and place.
 use mathlib.Core.Path.{_∙_, _≡_, ap, sym}
-use mathlib.Core.Bool.{true}
+use mathlib.Core.Bool.{false, true}
 use mathlib.Core.List.{List}
 use mathlib.Core.Option.{some}
 use Prim.Native.Nat.{_*_, _<_, _≤_, ℕ}
 use native.Mathlib.Omega.{arith}
 use lib.ListN.{length}
-use Rattle.layout.specs.Result.{Each, _>>=_, done, refused}
+use Rattle.layout.specs.Result.{Each, _>>=_, _or_, done, refused}
 use Rattle.layout.specs.Octets.{AllOctets, Numbers64}
 use Rattle.layout.specs.Types.{typeAt}
-use Rattle.layout.specs.Lists.{beside, enumeration, noNames, set}
-use Rattle.layout.specs.Book.{Book, Template, findTemplate}
+use Rattle.layout.specs.Lists.{beside, noNames, set}
+use Rattle.layout.specs.Book.{Book, Field, Template, findTemplate, isArray, isOptional}
 use Rattle.layout.specs.BookRules.{bookOf, leastLength}
 use Rattle.layout.specs.Values.{Step, Values, listing}
 use Rattle.layout.specs.Message.{readMessage, templateId, versionOf}
 use Rattle.layout.specs.Reading.{checkOf, hasPlace, listOf, placeOf}
 use Rattle.layout.specs.Writing.{judgeListing, messageOctets, writeOf, writtenLength}
 use Rattle.layout.specs.Extension.{Extends}
-use Rattle.layout.specs.Demands.{AlikeOrUnlisted, AsWritten, CanBeSent, HasValue, NeverSent, OtherWay, contents}
-use Rattle.layout.specs.Demands.{namesAt, otherOrder, reordered}
-use Rattle.layout.proofs.HaveValues.{fields-have-values}
+use Rattle.layout.specs.Demands.{AlikeOrUnlisted, AsWritten, CanBeSent, HasValue, NeverSent, NoneInRange, OtherWay}
+use Rattle.layout.specs.Demands.{contents, namesAt, otherOrder, reordered}
+use Rattle.layout.proofs.HaveValues.{fields-have-values, none-in-range}
 use Rattle.layout.proofs.Least.{least-written}
 use Rattle.layout.proofs.Lengths.{written-long}
 use Rattle.demands.proofs.Kept.{seen-by-none, seen-says}
@@ -96,6 +96,10 @@ none-is-shorter = least-written
 pub refused-is-never-sent : (book : List ℕ) (n : ℕ) → bookOf book ≡ refused 7 n → NeverSent book n
 refused-is-never-sent = never-sent
 
+-- For a required number whose list has values, and none in range, there is nothing to write.
+pub none-in-range-lacks : (f : Field) → (isArray f or isOptional f) ≡ false → NoneInRange f → HasValue f → ⊥
+none-in-range-lacks = none-in-range
+
 module _ (book : List ℕ) (b : Book) (id : ℕ) (t : Template) (isBook : bookOf book ≡ done b)
     (isThere : findTemplate id (b .templates) ≡ some t) where
   -- A template of an accepted book can be sent, if there is something to write for each field of its root: the listing
@@ -103,8 +107,8 @@ module _ (book : List ℕ) (b : Book) (id : ℕ) (t : Template) (isBook : bookOf
   pub can-be-sent : Each HasValue (t .shape .fields) → CanBeSent book b t
   can-be-sent = sent book b t isBook (accepted book b id t isBook isThere .1)
 
-  -- There is, but for a required field whose list has values, and none in range.
-  pub has-values : Each (λ f. (f .names .kind ≡ enumeration → ⊥) → HasValue f) (t .shape .fields)
+  -- There is, but for a required number of that kind.
+  pub has-values : Each (λ f. (NoneInRange f → ⊥) → HasValue f) (t .shape .fields)
   has-values =
       let layout = accepted book b id t isBook isThere .1 .layout in
       fields-have-values (t .shape .length) 0 (t .shape .fields) (and-right _ _ (and-left _ _ layout))

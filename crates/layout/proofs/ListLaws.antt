@@ -8,14 +8,14 @@ use native.Mathlib.Numerals.{unary-clauses}
 use native.Mathlib.Omega.{arith}
 use lib.Dec.{eqb, ltb}
 use borrow.Author.Tests.{eqb-true, leb-true, ltb-true}
-use Rattle.layout.specs.Result.{Each, _and_, _or_, if_then_else_}
+use Rattle.layout.specs.Result.{Each, _or_, if_then_else_}
 use Rattle.layout.specs.Lists.{KeepsNames, Kind, Names, beside, enumeration, free, has, isListed, isOneOf}
 use Rattle.layout.specs.Lists.{missing, noNames, onlyBits, set}
 use Rattle.layout.specs.Book.{Field, withNames}
 use Rattle.layout.specs.BookRules.{climbing, greatest}
 use Rattle.layout.specs.Message.{arrayAt, readField}
 use Rattle.layout.specs.Demands.{Sound}
-use Rattle.layout.proofs.Results.{and-left, and-right, each-way, either, or-right}
+use Rattle.layout.proofs.Results.{and-both, and-left, and-right, each-way, either, or-right}
 use Rattle.layout.specs.declared.Answer.{Answer}
 use Rattle.layout.specs.declared.Answer.the-variants.{Absent, Group, Null, Number, Octets, OutOfRange, Unlisted}
 
@@ -23,10 +23,6 @@ pub or-either : (a b : Bool) (c : Bool) → (a or b) ≡ true → (b ≡ true �
 unfolding _or_
 or-either true b c h q = refl
 or-either false b c h q = q h
-
-both : (a b : Bool) → a ≡ true → b ≡ true → (a and b) ≡ true
-unfolding _and_
-both a b p q = rw (p, q) refl
 
 -- What holds of each of these holds of x, which is one of them.
 pub one-of : (P : ℕ → Type 0) (ns : List ℕ) → Each P ns → (x : ℕ) → isOneOf x ns ≡ true → P x
@@ -40,7 +36,7 @@ module _ (ns ns′ : List ℕ) (more : Each (λ n. isOneOf n ns′ ≡ true) ns)
   unfolding onlyBits
   only-more i zero x h = refl
   only-more i (suc w) x h =
-      both _ _ (or-either _ _ _ (and-left _ _ h) (one-of _ ns more i))
+      and-both (or-either _ _ _ (and-left _ _ h) (one-of _ ns more i))
       (only-more (suc i) w (x / 2) (and-right _ _ h))
 
   listed-more : (k : Kind) (x : ℕ) → isListed k ns x ≡ true → isListed k ns′ x ≡ true

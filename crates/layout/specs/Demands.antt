@@ -7,8 +7,8 @@ use lib.Dec.{eqb}
 use lib.ListN.{drop, getD, length, replicate, set, take}
 use Rattle.layout.specs.Result.{Each, _or_, done, if_then_else_}
 use Rattle.layout.specs.Octets.{AllOctets, Numbers64, number16, textLength}
-use Rattle.layout.specs.Types.{isWidth}
-use Rattle.layout.specs.Lists.{Names, beside, has, noNames}
+use Rattle.layout.specs.Types.{inRange, isWidth, typeAt}
+use Rattle.layout.specs.Lists.{Names, beside, enumeration, has, noNames}
 use Rattle.layout.specs.Book.{Book, Field, Groups, Shape, Template, end, isArray, isOptional, isText, more, none}
 use Rattle.layout.specs.BookRules.{leastLength, lengthKept, treeOf}
 use Rattle.layout.specs.Values.{Step, Values, entry, group, listing, nil}
@@ -95,10 +95,14 @@ pub record AsWritten (b : Book) (t : Template) (m : List ℕ) (r : Values) : Typ
 
 -- ---- "Templates that can never be sent"
 
--- There is something to write for a field: octets, null, or a number that it takes. It lacks one if it is required and
--- its list has no number in range.
+-- There is something to write for a field: octets, null, or a number that it takes.
 abbrev pub HasValue : Field → Type 0
 HasValue f = (isArray f or isOptional f) ≡ false → (x : ℕ) × (x < 2 ^ 64) × (takes f x ≡ true)
+
+-- A field has a list of values, and none of them is in its type's range.
+abbrev pub NoneInRange : Field → Type 0
+NoneInRange f =
+    (f .names .kind ≡ enumeration) × Each (λ n. inRange (typeAt (f .type)) n ≡ false) (f .names .numbers)
 
 -- Groups without entries.
 unfoldable pub noEntries : Groups → Values
