@@ -209,7 +209,7 @@ unfolding numbers16 AreAt Each
 numbers_are big [] h s = tt
 numbers_are {m} {at} big (x ∷ xs) h s =
     let o = split_to (octets_of big 2 x) (numbers16 big xs) (at + 2) (omega (arith, length_octets big 2 x)) s in
-    (number_stands big 2 x o.0 ∙ mod-eq_of_lt (omega (arith, h.0)), numbers_are big xs h.1 o.1)
+    (number_stands big 2 x o.0 ∙ mod-eq_of_lt (omega (arith, h.0)), numbers_are {at = at + 2} big xs h.1 o.1)
 
 -- Read numbers are written.
 pub numbers_stand : (big : Bool) (m : List ℕ) → AllOctets m → (at to : ℕ) (xs : List ℕ) → to ≡ at + 2 * length xs
