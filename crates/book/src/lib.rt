@@ -1,5 +1,7 @@
 // Checks a schema book: accepted, or the refusal 1 to 7 with its place. One walk over the words of each body finds
 // whether the body is whole (4) and, if it is, whether it keeps the rules of 5, 6 and 7. Then the lists are judged (4).
+#![tactic(auto)]
+
 ghost use Rattle.std.specs.Prelude.{◌≡◌, true, [], ◌∷◌, ◌+◌, ◌*◌, ◌/◌, ◌<◌, ◌≤◌, leb, ltb, eqb, length, take, drop};
 ghost use Rattle.layout.specs.Result.{◌and◌, ◌or◌};
 ghost use Rattle.layout.specs.Octets.{words_of};
@@ -19,14 +21,14 @@ ghost use Rattle.book.specs.Rows.{listed_of};
 use layout::{Checked, Refusal};
 
 // Whether the rules of 5 and of 6 hold.
-#[derive(Drop)]
+#[derive(Clone, Copy)]
 pub struct Rules {
     pub layout: bool,
     pub since: bool,
 }
 
 // A field: whether it keeps the rules, its end and its since.
-#[derive(Drop)]
+#[derive(Clone, Copy)]
 pub struct Field {
     pub rules: Rules,
     pub end: usize,
@@ -34,7 +36,7 @@ pub struct Field {
 }
 
 // A block without its groups: how many they are, and the word where they start.
-#[derive(Drop)]
+#[derive(Clone, Copy)]
 pub enum Block {
     Whole {
         groups: usize,
@@ -45,28 +47,28 @@ pub enum Block {
 }
 
 // Groups in a row: the word after them.
-#[derive(Drop)]
+#[derive(Clone, Copy)]
 pub enum Row {
     Whole { next: usize, rules: Rules },
     Broken,
 }
 
 // A body: whether its template's shortest message is short enough, which is the rule of 7.
-#[derive(Drop)]
+#[derive(Clone, Copy)]
 pub enum Body {
     Whole { rules: Rules, short: bool },
     Broken,
 }
 
 // Rows of the contents: the word after the last body.
-#[derive(Drop)]
+#[derive(Clone, Copy)]
 pub enum Contents {
     Whole(usize),
     Broken,
 }
 
 // The list with a number: its position among the lists.
-#[derive(Drop)]
+#[derive(Clone, Copy)]
 pub enum Listed {
     At(usize),
     Missing,

@@ -1,5 +1,7 @@
 // Reads schema books from standard input, each behind its octet count (two octets, little-endian), and writes a line
 // for each: `accepted`, or `refused` with number and place. It ends with its input, or after 65,536 books.
+#![tactic(auto)]
+
 use layout::Checked;
 use libc::{STDIN_FILENO, STDOUT_FILENO};
 

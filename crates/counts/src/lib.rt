@@ -1,5 +1,7 @@
 // A block's groups and data as a message counts them: how many are present at the message's version, and how many more
 // it has. And a group that the book knows, up to its entries.
+#![tactic(auto)]
+
 ghost use Rattle.std.specs.Prelude.{◌≡◌, true, ◌+◌, ◌-◌, ◌≤◌, length};
 ghost use Rattle.layout.specs.Book.{data_sinces, group_sinces, need, present};
 ghost use Rattle.layout.specs.Result.{done, if◌then◌else◌};
@@ -17,7 +19,7 @@ use prepared::number;
 const LIMIT: usize = 4294967296;
 
 // How many groups or data a message has more than are present, or that its count of them is wrong.
-#[derive(Drop)]
+#[derive(Clone, Copy)]
 pub enum Surplus {
     Is(usize),
     Wrong,
@@ -127,7 +129,7 @@ pub fn groups_over(p: &[u64], a: usize, depth: usize, v: usize, n: usize) -> Sur
 
 // The entries of a group: how many octets each block has, how many they are, and how many groups and data of each are
 // surplus, as one number.
-#[derive(Drop)]
+#[derive(Clone, Copy)]
 pub struct Entries {
     pub length: usize,
     pub count: usize,
@@ -135,7 +137,7 @@ pub struct Entries {
 }
 
 // A group up to its entries, or the refusal.
-#[derive(Drop)]
+#[derive(Clone, Copy)]
 pub enum Opened {
     Of(Entries),
     Refused(Refusal),

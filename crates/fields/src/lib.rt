@@ -1,4 +1,6 @@
 // What a field of an accepted book is in a block of a message.
+#![tactic(auto)]
+
 ghost use Rattle.std.specs.Prelude.{◌≡◌, ◌+◌, ◌≤◌, length};
 ghost use Rattle.layout.specs.Message.{array_at, read_field};
 ghost use Rattle.prepared.specs.Positions.{IsField, field_at, is_big};

@@ -1,5 +1,7 @@
 // Judges a listing by a prepared book, record by record: the octets of the message that it gives, or the refusal 51 to
 // 54 at the first record at fault.
+#![tactic(auto)]
+
 ghost use Rattle.std.specs.Prelude.{◌≡◌, ◌+◌, ◌*◌, ◌^◌, ◌<◌, ◌≤◌, true, length};
 ghost use Rattle.layout.specs.Operations.{refusal};
 ghost use Rattle.layout.specs.Writing.{is_group, is_null, is_number, judge_array, judge_datas, judge_field, judge_fields};
@@ -16,7 +18,7 @@ use prepared::{number, value};
 use std::num::wrapping_sub_u64;
 
 // What judging comes to: the number of the next record and the octets of what was judged, which stop at LIMIT.
-#[derive(Drop)]
+#[derive(Clone, Copy)]
 pub enum Judged {
     To { next: usize, length: usize },
     Refused(Refusal),

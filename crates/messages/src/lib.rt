@@ -1,4 +1,6 @@
 // Opens a message by a prepared book: what its root block is, or the refusal 10 to 15.
+#![tactic(auto)]
+
 ghost use Rattle.std.specs.Prelude.{◌≡◌};
 ghost use Rattle.layout.specs.Operations.{refusal};
 ghost use Rattle.layout.specs.Result.{◌and◌};
@@ -21,7 +23,7 @@ fn both(a: bool, b: bool) -> bool
 
 // The root block of a message: where its template's block stands, the message's version, the root's octets, and how
 // many surplus groups and data follow its own; or the refusal.
-#[derive(Drop)]
+#[derive(Clone, Copy)]
 pub enum Opened {
     At {
         block: usize,

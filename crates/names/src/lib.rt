@@ -1,4 +1,6 @@
 // Whether the list of a field has a number, by a prepared book.
+#![tactic(auto)]
+
 ghost use Rattle.std.specs.Prelude.{◌≡◌, ◌+◌, ◌<◌, ◌≤◌, length};
 ghost use Rattle.layout.specs.Lists.{beside as beside_of, has as has_of, is_one_of, names_of};
 ghost use Rattle.layout.specs.BookRules.{word};

@@ -1,4 +1,6 @@
 // The nine types of number, and their numbers read and stored. A negative number is held as 2^64 + value.
+#![tactic(auto)]
+
 ghost use Rattle.std.specs.Prelude.{◌≡◌, true, ◌+◌, ◌^◌, ◌<◌, ◌≤◌, length};
 ghost use Rattle.std.proofs.lemmas.List.Edits.{sets};
 ghost use Rattle.layout.specs.Octets.{octets_of};
@@ -7,7 +9,7 @@ ghost use Rattle.ordered.specs.Order.{SpeltBy};
 ghost use Rattle.number_types.specs.Value.{is_big_in, kept, type_in, value_at};
 
 // A type: its octets, whether it has a sign, its range and its null.
-#[derive(Drop)]
+#[derive(Clone, Copy)]
 pub struct NumberType {
     pub width: usize,
     pub signed: bool,

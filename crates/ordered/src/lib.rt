@@ -1,5 +1,7 @@
 // Numbers of 2, 4 and 8 octets of a message, in its order: as `octets` reads and stores them, least significant first,
 // and turned if the order is big. One octet has no order.
+#![tactic(auto)]
+
 ghost use Rattle.std.specs.Prelude.{◌≡◌, ◌+◌, ◌≤◌, length};
 ghost use Rattle.std.proofs.lemmas.List.Edits.{sets};
 ghost use Rattle.layout.specs.Octets.{octets_of};

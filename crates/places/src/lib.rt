@@ -1,5 +1,7 @@
 // What stands at one place of a message. The checking walk passes the place once, along a path of steps, and tells
 // where the entry starts that the path leads to; the element is read of that entry afterwards.
+#![tactic(auto)]
+
 ghost use Rattle.std.specs.Prelude.{◌≡◌, true, ◌+◌, ◌-◌, ◌*◌, ◌≤◌, ◌<◌, length};
 ghost use Rattle.layout.specs.BookRules.{parse_datas};
 ghost use Rattle.layout.specs.Operations.{refusal};
@@ -23,7 +25,7 @@ use wire::Walked;
 
 // Where the entry stands that a path leads to: where it starts, how many octets its block has, and how many surplus
 // groups follow its own. All are 0 where there is no such entry.
-#[derive(Drop)]
+#[derive(Clone, Copy)]
 pub struct Spot {
     pub start: usize,
     pub length: usize,
@@ -31,7 +33,7 @@ pub struct Spot {
 }
 
 // What the walk past a row along a path comes to: where the row ends, and the spot; or the refusal.
-#[derive(Drop)]
+#[derive(Clone, Copy)]
 pub enum Row {
     To { next: usize, spot: Spot },
     Refused(Refusal),

@@ -1,4 +1,6 @@
 // Makes the prepared book of an accepted one: fills the lent room with its numbers.
+#![tactic(auto)]
+
 ghost use Rattle.std.specs.Prelude.{◌≡◌, ◌+◌, ◌*◌, ◌/◌, ◌<◌, ◌≤◌, true, [], ◌∷◌, length, take, drop, replicate, nat_le};
 ghost use Rattle.std.proofs.lemmas.List.Edits.{sets};
 ghost use Rattle.layout.specs.Result.{if◌then◌else◌};
@@ -30,7 +32,7 @@ const SLOTS: usize = 6;
 const CONTENTS: usize = 70;
 
 // Where a block with its groups ends: the word after them, and the place after their numbers.
-#[derive(Drop)]
+#[derive(Clone, Copy)]
 pub struct Ends {
     pub word: usize,
     pub at: usize,

@@ -1,4 +1,6 @@
 // The prepared book: numbers that are made once of an accepted book, and what they say of a block.
+#![tactic(auto)]
+
 ghost use Rattle.std.specs.Prelude.{◌≡◌, ◌+◌, ◌<◌, ◌≤◌, length};
 ghost use Rattle.layout.specs.Book.{end, need as need_of};
 ghost use Rattle.layout.specs.BookRules.{word};
@@ -17,7 +19,7 @@ const CONTENTS: usize = 70;
 const HEAD: usize = 12;
 
 // Where a template's block stands.
-#[derive(Drop)]
+#[derive(Clone, Copy)]
 pub enum Located {
     At(usize),
     Unknown,

@@ -1,5 +1,7 @@
 // What other languages call. A slice is passed as its pointer and its number of elements; a reply is a struct of 64-bit
 // numbers, those that have nothing to tell being 0.
+#![tactic(auto)]
+
 ghost use Rattle.std.specs.Prelude.{◌≡◌};
 ghost use Rattle.layout.specs.BookRules.{book_of};
 ghost use Rattle.layout.specs.Reading.{check_in, check_of, list_in, list_of};
@@ -19,14 +21,14 @@ const ACCEPTED: u64 = 0;
 const MOST: usize = 8260;
 
 #[repr(C)]
-#[derive(Drop)]
+#[derive(Clone, Copy)]
 pub struct CheckedReply {
     pub number: u64,
     pub place: u64,
 }
 
 #[repr(C)]
-#[derive(Drop)]
+#[derive(Clone, Copy)]
 pub struct CountedReply {
     pub number: u64,
     pub place: u64,
@@ -35,7 +37,7 @@ pub struct CountedReply {
 
 // What stands at a place: the three numbers of its record in a listing.
 #[repr(C)]
-#[derive(Drop)]
+#[derive(Clone, Copy)]
 pub struct FoundReply {
     pub number: u64,
     pub place: u64,
@@ -104,7 +106,7 @@ fn say_found(answer: Found) -> FoundReply
 // ---- the last part of a place
 
 // The element that is asked for, if there is such a kind.
-#[derive(Drop)]
+#[derive(Clone, Copy)]
 pub enum Asked {
     For(Element),
     Nothing,

@@ -1,5 +1,7 @@
 // Stores the listing of a message that was walked before: it is accepted and the room has space, so nothing is refused.
 // Each function but `store_entries` and `store_answer` has one caller.
+#![tactic(auto)]
+
 ghost use Rattle.std.specs.Prelude.{◌≡◌, ◌+◌, ◌<◌, ◌≤◌, length};
 ghost use Rattle.layout.specs.Result.{Each};
 ghost use Rattle.layout.specs.Book.{need};
@@ -19,7 +21,7 @@ use prepared::number;
 use wire::Walked;
 
 // Where the pass stands in the message and in the room.
-#[derive(Drop)]
+#[derive(Clone, Copy)]
 pub struct Cursor {
     pub at: usize,
     pub n: usize,

@@ -1,5 +1,7 @@
 // Reads and writes messages by a prepared book: at no book cost per message. Proved callers cannot misuse it: the
 // checker refuses a call whose numbers are not known to be those of an accepted book.
+#![tactic(auto)]
+
 ghost use Rattle.std.specs.Prelude.{◌≡◌, ◌+◌, ◌≤◌};
 ghost use Rattle.layout.specs.Operations.{ListsAs, WritesAs, checked, found, refusal};
 ghost use Rattle.layout.specs.Reading.{check_in, list_in, place_in};

@@ -1,6 +1,8 @@
 // What a message has that the book does not know: groups and data that a newer version added. They are passed, each
 // group by its own dimension, depth first. `big` is the order of the message's numbers, and a dimension is `counted` if
 // it has the counts of an entry's groups and data.
+#![tactic(auto)]
+
 ghost use Rattle.std.specs.Prelude.{true, ◌≡◌, ◌+◌, ◌≤◌, length};
 ghost use Rattle.layout.specs.Operations.{refusal};
 ghost use Rattle.layout.specs.Message.{dimension_size, in_row, read_dimension, skip_datas, skip_entry, skip_group};
@@ -34,7 +36,7 @@ pub fn skip_datas(big: bool, m: &[u8], n: usize, at: usize) -> Walked
 
 // The numbers of a dimension: the octets of a block, and the entries; the groups and the data of an entry, 0 where it
 // does not count them.
-#[derive(Drop)]
+#[derive(Clone, Copy)]
 pub struct Sizes {
     pub length: usize,
     pub entries: usize,
@@ -43,7 +45,7 @@ pub struct Sizes {
 }
 
 // What a dimension says, or the refusal.
-#[derive(Drop)]
+#[derive(Clone, Copy)]
 pub enum Dimension {
     Of(Sizes),
     Refused(Refusal),

@@ -1,4 +1,6 @@
 // Text in a slice of octets.
+#![tactic(auto)]
+
 ghost use Rattle.std.specs.Prelude.{◌≡◌, ◌+◌, ◌≤◌, min, eqb, drop, length, take};
 ghost use Rattle.layout.specs.Octets.{text_length};
 ghost use Rattle.texts.specs.Least.{least16, least2, least32, least4, least8};

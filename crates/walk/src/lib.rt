@@ -1,5 +1,7 @@
 // Walks the groups and data of a message by a prepared book, in wire order: where they end and how many records they
 // have, or the first refusal.
+#![tactic(auto)]
+
 ghost use Rattle.std.specs.Prelude.{◌≡◌, true, ◌+◌, ◌*◌, ◌^◌, ◌<◌, ◌≤◌, length, ltb};
 ghost use Rattle.layout.specs.Result.{◌and◌};
 ghost use Rattle.layout.specs.BookRules.{parse_datas, word};

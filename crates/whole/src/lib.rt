@@ -1,5 +1,7 @@
 // Walks a whole message by a prepared book: 10 to 22, how many records it has, and where the entry starts that a path
 // leads to.
+#![tactic(auto)]
+
 ghost use Rattle.std.specs.Prelude.{◌≡◌, ◌≤◌};
 ghost use Rattle.layout.specs.Operations.{refusal};
 ghost use Rattle.prepared.specs.Positions.{BlockAt, IsBlock};
@@ -32,7 +34,7 @@ fn walk_rest(p: &[u64], a: usize, m: &[u8], v: usize, datas: usize, at: usize) -
 
 // The octets of the root block and its groups: where they end; how many records the groups have, where no path is to be
 // followed; and the spot of the entry that the path leads to.
-#[derive(Drop)]
+#[derive(Clone, Copy)]
 pub enum Root {
     To {
         next: usize,
@@ -102,7 +104,7 @@ fn walk_root(
 
 // A message that was walked: where its template's block stands; its version; how many records its groups have, where no
 // path was to be followed; the spot of the entry that the path leads to. Or the refusal.
-#[derive(Drop)]
+#[derive(Clone, Copy)]
 pub enum Entered {
     At {
         block: usize,

@@ -1,5 +1,7 @@
 // What stands in a message whatever the book's templates: the header, the numbers of a dimension, data. `big` is the
 // order of the message's numbers.
+#![tactic(auto)]
+
 ghost use Rattle.std.specs.Prelude.{◌≡◌, ◌+◌, ◌≤◌, ltb, length};
 ghost use Rattle.layout.specs.Operations.{refusal};
 ghost use Rattle.layout.specs.Message.{read_data};
@@ -12,7 +14,7 @@ ghost use Rattle.wire.specs.Headers.{ChecksHeader, IsHeader};
 use layout::Refusal;
 
 // What walking a part of a message comes to: the octet after it and its number of records, or the refusal.
-#[derive(Drop)]
+#[derive(Clone, Copy)]
 pub enum Walked {
     To { next: usize, records: usize },
     Refused(Refusal),
@@ -69,7 +71,7 @@ pub fn read_data(big: bool, m: &[u8], at: usize) -> Walked
 }
 
 // The first two numbers of a dimension: the octets of a block, and the entries.
-#[derive(Drop)]
+#[derive(Clone, Copy)]
 pub struct Sizes {
     pub length: usize,
     pub entries: usize,
@@ -117,7 +119,7 @@ pub fn are_whole(sizes: Sizes) -> bool
 }
 
 // The numbers of a header.
-#[derive(Drop)]
+#[derive(Clone, Copy)]
 pub struct Header {
     pub length: usize,
     pub template: usize,

@@ -1,6 +1,8 @@
 // Writes the message that a listing gives which was judged before: it is good and the room has space, so nothing is
 // refused. The room is zeros all over, so padding is not stored. Each element's writer is lent the room from the cursor
 // on, and stores from that part's start.
+#![tactic(auto)]
+
 ghost use Rattle.std.specs.Prelude.{◌≡◌, [], ◌∷◌, ◌+◌, ◌*◌, ◌/◌, ◌^◌, ◌<◌, ◌≤◌, length, take, drop, get_or, replicate};
 ghost use Rattle.std.proofs.lemmas.List.Edits.{sets};
 ghost use Rattle.layout.specs.BookRules.{word};
@@ -17,7 +19,7 @@ ghost use Rattle.writer.specs.Parts.{message_part, number_or, value_part};
 use prepared::number;
 
 // Where the pass stands: the number of the next record, and how many octets of the room are taken.
-#[derive(Drop)]
+#[derive(Clone, Copy)]
 pub struct Cursor {
     pub record: usize,
     pub at: usize,
@@ -25,7 +27,7 @@ pub struct Cursor {
 
 // What is read once of a block for all its entries: its octets, its fields, where what is worked out of them stands,
 // and the counts of what follows.
-#[derive(Drop)]
+#[derive(Clone, Copy)]
 pub struct Head {
     pub length: usize,
     pub fields: usize,
