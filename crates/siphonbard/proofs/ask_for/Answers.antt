@@ -1,6 +1,7 @@
 -- Each kind is its element; what is none of the three asks for nothing.
 use mathlib.Core.Path.{◌≡◌, refl}
 use Prim.Native.Nat.{ℕ, zero, suc}
+use native.Mathlib.Omega.{arith}
 use Rattle.siphonbard.specs.Places.{asked_for}
 use Rattle.siphonbard.specs.declared.Asked.TheVariants.{Nothing}
 use Rattle.siphonbard.proofs.ask_for.Goals as goal
@@ -30,4 +31,4 @@ returns-in-2 c =
 pub returns-in_default : goal.returns-in_default
 unfolding asked_for
 returns-in_default c =
-    no_kind _ _ c.in_default.rest.0.0.1 c.in_default.rest.0.1 c.in_default.rest.1
+    no_kind _ _ (λ e. omega arith) (λ e. omega arith) (λ e. omega arith)

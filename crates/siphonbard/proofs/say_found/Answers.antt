@@ -1,6 +1,6 @@
 -- The answer's record as it was stored, or the refusal.
 use mathlib.Core.Path.{◌≡◌, ◌∙◌, refl}
-use mathlib.Core.List.{◌∷◌, append-nil}
+use mathlib.Core.List.{[], ◌∷◌, append-nil}
 use native.Mathlib.Omega.{arith}
 use borrow.Author.Rules.{rules}
 use lib.Seq.{sets, sets-eq}
