@@ -9,4 +9,4 @@ returns-in-2 c =
 
 pub returns-in_default : goal.returns-in_default
 returns-in_default c =
-    sym (key_is_not _ _ _ c.in_default.rest.1)
+    sym (key_is_not _ _ _ c.in_default-own.rest.1)
