@@ -2,7 +2,6 @@
 -- left.
 use mathlib.Core.Path.{◌≡◌}
 use Prim.Native.Nat.{◌≤◌, ◌/◌}
-use borrow.Author.Rules.{rules}
 use lib.ListN.{length}
 use Rattle.layout.specs.Octets.{words_of}
 use Rattle.layout.specs.BookRules.{lists_of, parse_groups}

@@ -1,5 +1,4 @@
 -- Both rules are both.
-use borrow.Author.Rules.{rules}
 use Rattle.book.specs.Answers.{all_rules}
 use Rattle.book.proofs.all_rules.Goals as goal
 

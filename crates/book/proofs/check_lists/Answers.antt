@@ -3,7 +3,7 @@ use mathlib.Core.Path.{◌≡◌, sym, ◌∙◌, refl}
 use Prim.Native.Nat.{◌+◌, ◌-◌, ◌*◌}
 use native.Mathlib.Omega.{arith}
 use Rattle.layout.specs.Octets.{words_of}
-use Rattle.layout.specs.BookRules.{head_size, list_good, word}
+use Rattle.layout.specs.BookRules.{head_size, word}
 use Rattle.layout.specs.Operations.{checked}
 use Rattle.book.proofs.Rows.{head_says, list_lies}
 use Rattle.book.proofs.NameLists.{lists_bad, lists_end, lists_next}

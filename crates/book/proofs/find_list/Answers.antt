@@ -1,6 +1,6 @@
 -- A row that has the number lies from `low` up to `high`: numbers rise along the rows.
 use mathlib.Core.Path.{◌≡◌, sym, ◌∙◌, ap}
-use Prim.Native.Nat.{◌+◌, ◌-◌, ◌/◌}
+use Prim.Native.Nat.{◌+◌, ◌/◌}
 use native.Mathlib.Omega.{arith}
 use Rattle.layout.specs.Octets.{words_of}
 use Rattle.layout.specs.BookRules.{word}

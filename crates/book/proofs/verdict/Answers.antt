@@ -1,5 +1,4 @@
 -- Each return is the definition's case by the tests that led there.
-use borrow.Author.Rules.{rules}
 use borrow.Author.Tests.{lt-ltb, le-ltb}
 use Rattle.layout.specs.Result.{◌>>=◌, if◌then◌else◌}
 use Rattle.layout.specs.Operations.{checked}
