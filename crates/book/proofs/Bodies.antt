@@ -26,7 +26,6 @@ use Rattle.book.specs.declared.Rules.{Rules}
 use Rattle.book.specs.declared.Row.TheVariants as Row
 use Rattle.book.specs.declared.Block.TheVariants as Block
 use Rattle.book.specs.declared.Body.{Body}
-use Rattle.book.specs.declared.Body.TheVariants as Body
 
 -- What 7 measures is what a body's words say.
 least_is : (ls : List NameList) (b : List ℕ) (format : Format) (g x y : ℕ) (s : Shape) (gs : Groups)
