@@ -16,12 +16,12 @@ doubled t h = shl_exact {a = 1} 1 ((t - 1) / 2) 64 (lit< tt) (omega arith) ∙ o
 
 pub integer-requires : goal.integer-requires
 integer-requires c =
-    rw (doubled _ c.if-t-lt9.true) (width_at _ c.if-t-lt9.true).listed
+    rw (doubled _ c.in-1-to-8.if-t-lt9.true) (width_at _ c.in-1-to-8.if-t-lt9.true).listed
 
 pub returns-in-1-to-8 : goal.returns-in-1-to-8
 returns-in-1-to-8 c =
     let from = c.if-t-lt1.false in
-    let below = c.if-t-lt9.true in
+    let below = c.in-1-to-8.if-t-lt9.true in
     rw (c.integer.ensures, doubled _ below, integer_at _ from below) refl
 
 pub returns-in_default : goal.returns-in_default
