@@ -20,10 +20,10 @@ returns-then-s-start-eq0 c =
 
 pub loop-i-2-preserved : goal.loop-i-2-preserved
 loop-i-2-preserved c = (
-      omega arith,
-      c.loop-i-2.invariant.1
+  omega arith,
+  c.loop-i-2.invariant.1
       ∙ text_next c.args.s.now c.args.start c.args.n c.loop-i-2.i (omega arith) (omega arith) c.if-s-start-eq0.false,
-    )
+)
 
 pub returns : goal.returns
 returns c =
