@@ -8,27 +8,24 @@ use Rattle.prepared.proofs.Ranges.{in_range_lem, in_range_number}
 use Rattle.fields.proofs.class_of.Goals as goal
 use Rattle.fields.proofs.class_of.Goals.{After-value-2, After-value-then-number-eq1, Then-number-eq1}
 
-start : tie.After-value2 → tie.Start
-start c = c.before.before.before.before
-
 -- The first test asks whether the value is in range.
-within : (c : After-value-2) → let a = (start c.After-value-2).args in
+within : (c : After-value-2) → let a = c.args in
     in_range (type_at (field_at a.p.now a.f).type) a.x
     ≡ leb c.wrapping_sub_u64.result c.value-2.result
 within c =
-    let derived = (start c.After-value-2).requires.derived in
+    let derived = c.requires.derived in
     in_range_lem _ _ _ _ _ (omega arith) c.wrapping_sub_u64.ensures
     (c.value.ensures ∙ derived.least) (c.value-2.ensures ∙ derived.spread)
 
 -- The field is optional, and its null is this.
-optional : (c : Then-number-eq1) → let a = (start c.After-value-2).args in
+optional : (c : Then-number-eq1) → let a = c.args in
     eqb (field_at a.p.now a.f).presence 1 ≡ true
 optional c =
     eq-eqb _ _ (sym c.number.ensures ∙ c.if-number-eq1.true)
 
-null_is : (c : After-value-then-number-eq1) → c.value-then-number-eq1.result ≡ (type_at (field_at (start c.After-value-2).args.p.now (start c.After-value-2).args.f).type).null
+null_is : (c : After-value-then-number-eq1) → c.value-then-number-eq1.result ≡ (type_at (field_at c.args.p.now c.args.f).type).null
 null_is c =
-    c.value-then-number-eq1.ensures ∙ (start c.After-value-2).requires.derived.null
+    c.value-then-number-eq1.ensures ∙ c.requires.derived.null
 
 pub returns-then-wrapping_sub_u64-value : goal.returns-then-wrapping_sub_u64-value
 returns-then-wrapping_sub_u64-value c =
