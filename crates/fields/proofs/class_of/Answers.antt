@@ -14,7 +14,7 @@ within : (c : After-value-2) → let a = c.args in
     ≡ leb c.wrapping_sub_u64.result c.value-2.result
 within c =
     let derived = c.requires.derived in
-    in_range_lem _ _ _ _ _ (omega arith) c.wrapping_sub_u64.ensures
+    in_range_lem _ _ _ _ _ (omega arith) c.wrapping_sub_u64.ensures.value
     (c.value.ensures ∙ derived.least) (c.value-2.ensures ∙ derived.spread)
 
 -- The field is optional, and its null is this.
