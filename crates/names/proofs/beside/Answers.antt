@@ -29,9 +29,9 @@ leads : (c : After-number-list) → let a = c.args in
     HasNames a.p.now c.number-list.result (names_at a.p.now (word a.p.now (a.t + 5)))
 leads c =
     record {
-  list = rw c.number-list.ensures c.requires.1;
-  names = rw c.number-list.ensures refl;
-}
+      list = rw c.number-list.ensures c.requires.1;
+      names = rw c.number-list.ensures refl;
+    }
 
 pub returns-then-list-eq0 : goal.returns-then-list-eq0
 returns-then-list-eq0 c =
