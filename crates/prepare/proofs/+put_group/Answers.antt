@@ -98,10 +98,6 @@ put_head-requires t c =
       omega (arith, inv.2.fits, inv.2.filling.long),
     )
 
-pub shape_of-room : goal.shape_of-room
-shape_of-room t c =
-    rw length-sets at (ap length (returns c.After-slice_known-3-1).1)
-
 pub returns : goal.returns
 returns t c =
     let inv = c.loop-left.invariant in

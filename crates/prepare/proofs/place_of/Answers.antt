@@ -7,19 +7,16 @@ use Rattle.prepare.proofs.Lists.{PlacedAt, no_list_lem, placed_at, placed_nowher
 use Rattle.prepare.proofs.place_of.Goals as goal
 use Rattle.prepare.proofs.place_of.Goals.{In-At}
 
-start : tie.After-known-told → tie.Start
-start c = c.before.before.before.before.before.before
-
 -- The contents lie within the book.
-fits : (c : In-At) → let s = (start c.In-At).args.book.now in
+fits : (c : In-At) → let s = c.args.book.now in
     head_size + contents_size (words_of s) ≤ length s / 2
 fits c =
-    (head_says _ (start c.In-At).requires.has.head).fits
+    (head_says _ c.requires.has.head).fits
 
-placed : (c : In-At) → PlacedAt (start c.In-At).args.book.now (start c.In-At).requires (start c.In-At).args.list
+placed : (c : In-At) → PlacedAt c.args.book.now c.requires c.args.list
     c.in-At.i
 placed c =
-    placed_at _ (start c.In-At).requires _ _ (omega (arith, c.if-list-eq0.false))
+    placed_at _ c.requires _ _ (omega (arith, c.if-list-eq0.false))
     (sym c.find_list.ensures ∙ c.in-At.is)
 
 pub returns-then-list-eq0 : goal.returns-then-list-eq0

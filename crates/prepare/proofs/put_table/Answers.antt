@@ -9,9 +9,6 @@ use Rattle.prepare.proofs.Filling.{filling_ends, filling_starts}
 use Rattle.prepare.proofs.Blocks.{need_step, no_fields, order_few, table_filled}
 use Rattle.prepare.proofs.put_table.Goals as goal
 
-inside : tie.After-need-after invariant-loop decreases-loop → tie.In-loop invariant-loop decreases-loop
-inside c = c.before.before.before.before.before.before.before.before.before.before.before.before
-
 pub word-version-requires : goal.word-version-requires
 word-version-requires c =
     omega (arith, (head_says _ c.requires.0.has.head).fits)
@@ -49,22 +46,6 @@ put_worked-requires c =
 pub need_after-need-requires : goal.need_after-need-requires
 need_after-need-requires c =
     tt
-
-pub overflow_add-f-in-loop-left-5 : goal.overflow_add-f-in-loop-left-5
-overflow_add-f-in-loop-left-5 c =
-    omega (arith, inside (goal.at.overflow_add-f-in-loop-left-5 c).After-need_after-need)
-
-pub overflow_add-at : goal.overflow_add-at
-overflow_add-at c =
-    omega (arith, inside (goal.at.overflow_add-at c).After-need_after-need)
-
-pub overflow_sub-left : goal.overflow_sub-left
-overflow_sub-left c =
-    omega (arith, inside (goal.at.overflow_sub-left c).After-need_after-need)
-
-pub loop-left-smaller : goal.loop-left-smaller
-loop-left-smaller c =
-    omega (arith, inside (goal.at.loop-left-smaller c).After-need_after-need)
 
 pub loop-left-preserved : goal.loop-left-preserved
 loop-left-preserved c =

@@ -22,10 +22,6 @@ put_group-r-requires c =
       simp length-set (omega (arith, c.requires, ap (λ (x : List ℕ). group_size x 4 0) part)),
     )
 
-pub shape_of-room : goal.shape_of-room
-shape_of-room c =
-    simp (length-sets, length-set) at (ap length (returns (goal.at.shape_of-room c).After-slice_known-2-1).1)
-
 pub returns : goal.returns
 returns c =
     let part = part_is c.args.book.now c.args.w _ _ c.word-start.ensures.value

@@ -1,5 +1,5 @@
 -- Zeros are stored, and those that are left are to come.
-use Rattle.std.proofs.Common.{◌≡◌, ℕ, ◌+◌, ◌-◌, ◌<◌, ◌≤◌, ◌∷◌, ◌++◌, replicate, refl, arith}
+use Rattle.std.proofs.Common.{◌≡◌, ℕ, ◌+◌, ◌-◌, ◌<◌, ◌≤◌, [], ◌∷◌, ◌++◌, replicate, refl, arith}
 use Rattle.prepare.proofs.Filling.{filling_ends, filling_one, filling_starts}
 use Rattle.layout.proofs.Results.{none_left, one_less, some_left}
 use Rattle.prepare.proofs.put_zeros.Goals as goal

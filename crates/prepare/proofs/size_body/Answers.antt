@@ -24,11 +24,11 @@ loop-w-init c =
 
 pub overflow_add-w : goal.overflow_add-w
 overflow_add-w c =
-    omega (arith, (next (goal.at.overflow_add-w c).In-loop-w).ranges)
+    omega (arith, (next (goal.at.overflow_add-w c).In-loop-w).fits)
 
 pub size_block-seen-requires-in-loop-w : goal.size_block-seen-requires-in-loop-w
 size_block-seen-requires-in-loop-w c =
-    (next (goal.at.size_block-seen-requires-in-loop-w c).In-loop-w).ranges
+    (next (goal.at.size_block-seen-requires-in-loop-w c).In-loop-w).fits
 
 pub overflow_add-seen : goal.overflow_add-seen
 overflow_add-seen c =

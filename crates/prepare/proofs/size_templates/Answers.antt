@@ -31,11 +31,11 @@ loop-left-init c =
 
 pub overflow_add-w : goal.overflow_add-w
 overflow_add-w c =
-    omega (arith, (first (goal.at.overflow_add-w c).In-loop-left).template.ranges)
+    omega (arith, (first (goal.at.overflow_add-w c).In-loop-left).template.fits)
 
 pub word-start-requires : goal.word-start-requires
 word-start-requires c =
-    omega (arith, (first (goal.at.word-start-requires c).In-loop-left).template.ranges)
+    omega (arith, (first (goal.at.word-start-requires c).In-loop-left).template.fits)
 
 pub overflow_add-w-in-loop-left : goal.overflow_add-w-in-loop-left
 overflow_add-w-in-loop-left c =
