@@ -75,7 +75,7 @@ pub loop-left-preserved : goal.loop-left-preserved
 loop-left-preserved c =
     let inv = c.loop-left.invariant in
     let made = c.put_template-at.ensures in
-    (inv.0, laying_on inv.1 c.loop-left-test.true _ _ made.0 made.1)
+    (inv.0, laying_on inv.1 c.loop-left-test.true _ _ made.value made.room_after)
 
 pub returns : goal.returns
 returns c =

@@ -31,5 +31,5 @@ shape_of-room c =
 pub returns : goal.returns
 returns c =
     let k = c.number_type-k.ensures in
-    let far = c.wrapping_sub_u64.ensures in
+    let far = c.wrapping_sub_u64.ensures.value in
     simp towards_suc (rw (spread_is c.args.t c.wrapping_sub_u64.result (rw k at far) (omega arith), k) refl)
