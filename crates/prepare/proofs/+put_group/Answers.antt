@@ -102,6 +102,9 @@ pub returns : goal.returns
 returns t c =
     let inv = c.loop-left.invariant in
     let next = next_is _ _ _ _ inv.2 c.loop-left-test.false in
-    record { word_value = (end_is _ _ _ _ inv.2 c.loop-left-test.false, next);  room_after = group_stored _ _ _ _ _ _ _ inv.0 _ _ _ _ _ c.args.room.now _ _ _ inv.1 next
+    record {
+      word_value = (end_is _ _ _ _ inv.2 c.loop-left-test.false, next);
+      room_after = group_stored _ _ _ _ _ _ _ inv.0 _ _ _ _ _ c.args.room.now _ _ _ inv.1 next
           c.put_elements-need.ensures.room_after (groups_stored _ _ _ _ inv.2 c.loop-left-test.false)
-          (rw c.order_of.ensures at c.put_head.ensures) }
+          (rw c.order_of.ensures at c.put_head.ensures);
+    }

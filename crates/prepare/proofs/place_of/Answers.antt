@@ -7,12 +7,6 @@ use Rattle.prepare.proofs.Lists.{PlacedAt, no_list_lem, placed_at, placed_nowher
 use Rattle.prepare.proofs.place_of.Goals as goal
 use Rattle.prepare.proofs.place_of.Goals.{In-At}
 
--- The contents lie within the book.
-fits : (c : In-At) → let s = c.args.book.now in
-    head_size + contents_size (words_of s) ≤ length s / 2
-fits c =
-    (head_says _ c.requires.has.head).fits
-
 placed : (c : In-At) → PlacedAt c.args.book.now c.requires c.args.list
     c.in-At.i
 placed c =
@@ -34,35 +28,35 @@ returns-in_default c =
 
 pub word-n-requires : goal.word-n-requires
 word-n-requires c =
-    omega (arith, fits (goal.at.word-n-requires c).In-At)
+    omega (arith, (head_says _ c.requires.has.head).fits)
 
 pub word-first-requires : goal.word-first-requires
 word-first-requires c =
-    omega (arith, fits (goal.at.word-first-requires c).In-At, (placed (goal.at.word-first-requires c).In-At).below, c.word-n.ensures.value)
+    omega (arith, (head_says _ c.requires.has.head).fits, (placed (goal.at.word-first-requires c).In-At).below, c.word-n.ensures.value)
 
 pub overflow_mul-result-2 : goal.overflow_mul-result-2
 overflow_mul-result-2 c =
-    omega (arith, fits (goal.at.overflow_mul-result-2 c).In-At, (placed (goal.at.overflow_mul-result-2 c).In-At).below)
+    omega (arith, (head_says _ c.requires.has.head).fits, (placed (goal.at.overflow_mul-result-2 c).In-At).below)
 
 pub overflow_add-result-2 : goal.overflow_add-result-2
 overflow_add-result-2 c =
-    omega (arith, fits (goal.at.overflow_add-result-2 c).In-At, (placed (goal.at.overflow_add-result-2 c).In-At).below, c.word-n.ensures.small)
+    omega (arith, (head_says _ c.requires.has.head).fits, (placed (goal.at.overflow_add-result-2 c).In-At).below, c.word-n.ensures.small)
 
 pub overflow_mul-i : goal.overflow_mul-i
 overflow_mul-i c =
-    omega (arith, fits (goal.at.overflow_mul-i c).In-At, (placed (goal.at.overflow_mul-i c).In-At).below)
+    omega (arith, (head_says _ c.requires.has.head).fits, (placed (goal.at.overflow_mul-i c).In-At).below)
 
 pub overflow_add-rows-3 : goal.overflow_add-rows-3
 overflow_add-rows-3 c =
-    omega (arith, fits (goal.at.overflow_add-rows-3 c).In-At, (placed (goal.at.overflow_add-rows-3 c).In-At).below, c.word-n.ensures.small)
+    omega (arith, (head_says _ c.requires.has.head).fits, (placed (goal.at.overflow_add-rows-3 c).In-At).below, c.word-n.ensures.small)
 
 pub overflow_add-rows-4 : goal.overflow_add-rows-4
 overflow_add-rows-4 c =
-    omega (arith, fits (goal.at.overflow_add-rows-4 c).In-At, (placed (goal.at.overflow_add-rows-4 c).In-At).below, c.word-n.ensures.small)
+    omega (arith, (head_says _ c.requires.has.head).fits, (placed (goal.at.overflow_add-rows-4 c).In-At).below, c.word-n.ensures.small)
 
 pub word-requires : goal.word-requires
 word-requires c =
-    omega (arith, fits (goal.at.word-requires c).In-At, (placed (goal.at.word-requires c).In-At).below, c.word-n.ensures.value)
+    omega (arith, (head_says _ c.requires.has.head).fits, (placed (goal.at.word-requires c).In-At).below, c.word-n.ensures.value)
 
 pub overflow_sub-result : goal.overflow_sub-result
 overflow_sub-result c =
@@ -72,7 +66,7 @@ pub overflow_add-result-3 : goal.overflow_add-result-3
 overflow_add-result-3 c =
     omega (
       arith,
-      fits (goal.at.overflow_add-result-3 c).In-At,
+      (head_says _ c.requires.has.head).fits,
       (placed (goal.at.overflow_add-result-3 c).In-At).below,
       c.word-n.ensures.small,
       c.word.ensures.small,

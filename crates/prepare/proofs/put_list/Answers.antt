@@ -53,6 +53,9 @@ copy_words-requires c =
 pub returns : goal.returns
 returns c =
     let list = c.requires.0 in
-    record { value = omega (arith, list_size_lem _ _ list, some_words _ _ list, c.word-n.ensures.value);  room_after = list_stored _ _ list _ _ _ _ _ c.args.at c.args.room.now _ c.word-first.ensures.value
+    record {
+      value = omega (arith, list_size_lem _ _ list, some_words _ _ list, c.word-n.ensures.value);
+      room_after = list_stored _ _ list _ _ _ _ _ c.args.at c.args.room.now _ c.word-first.ensures.value
           c.word.ensures.value c.word-2.ensures.value c.mask_of.ensures
-          (omega (arith, c.word-n.ensures.value)) c.copy_words.ensures }
+          (omega (arith, c.word-n.ensures.value)) c.copy_words.ensures;
+    }

@@ -45,4 +45,4 @@ shape_of-room c =
 pub returns : goal.returns
 returns c =
     let inv = c.loop-left.invariant in
-    record { value = end_is inv c.loop-left-test.false;  room_after = all_listed inv c.loop-left-test.false }
+    record { value = end_is inv c.loop-left-test.false; room_after = all_listed inv c.loop-left-test.false }

@@ -18,17 +18,16 @@ order_of-order-requires c =
     c.requires.0
 
 pub loop-left-init : goal.loop-left-init
-loop-left-init c =
-    (
-      c.requires.0,
-      c.word-version.ensures.value,
-      c.order_of-order.ensures,
-      omega arith,
-      omega arith,
-      refl,
-      omega arith,
-      filling_starts _ _ _,
-    )
+loop-left-init c = (
+  c.requires.0,
+  c.word-version.ensures.value,
+  c.order_of-order.ensures,
+  omega arith,
+  omega arith,
+  refl,
+  omega arith,
+  filling_starts _ _ _,
+)
 
 pub field_end-end-requires : goal.field_end-end-requires
 field_end-end-requires c =
@@ -76,4 +75,4 @@ returns c =
     let inv = l.invariant in
     let none = no_fields (lists_in c.args.book.now) (words_of c.args.body.now) l.f l.left
     c.loop-left-test.false in
-    record { value = sym (inv.5 ∙ rw none refl);  room_after = filling_ends inv.7 (rw none refl) }
+    record { value = sym (inv.5 ∙ rw none refl); room_after = filling_ends inv.7 (rw none refl) }

@@ -26,4 +26,4 @@ pub returns : goal.returns
 returns c =
     let part = part_is c.args.book.now c.args.w _ _ c.word-start.ensures.value
     c.word.ensures.value in
-    record { value = c.put_group-r.ensures.word_value.1 ∙ ap (λ (x : List ℕ). c.args.at + group_size x 4 0) part;  room_after = c.put_group-r.ensures.room_after ∙ rw (part, c.word-id.ensures.value, add-one c.args.c) refl }
+    record { value = c.put_group-r.ensures.word_value.1 ∙ ap (λ (x : List ℕ). c.args.at + group_size x 4 0) part; room_after = c.put_group-r.ensures.room_after ∙ rw (part, c.word-id.ensures.value, add-one c.args.c) refl }
