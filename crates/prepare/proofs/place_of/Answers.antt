@@ -1,7 +1,5 @@
 -- A list's position tells its place: it has three numbers more than words, and so have those before it.
-use Rattle.std.proofs.Common.{◌+◌, ◌/◌, ◌≤◌, length, sym, ◌∙◌, arith}
-use Rattle.layout.specs.Octets.{words_of}
-use Rattle.layout.specs.BookRules.{contents_size, head_size}
+use Rattle.std.proofs.Common.{sym, ◌∙◌, arith}
 use Rattle.book.proofs.Rows.{head_says}
 use Rattle.prepare.proofs.Lists.{PlacedAt, no_list_lem, placed_at, placed_nowhere}
 use Rattle.prepare.proofs.place_of.Goals as goal
@@ -16,10 +14,6 @@ placed c =
 pub returns-then-list-eq0 : goal.returns-then-list-eq0
 returns-then-list-eq0 c =
     rw c.if-list-eq0.true (sym (no_list_lem _))
-
-pub find_list-requires : goal.find_list-requires
-find_list-requires c =
-    c.requires.has
 
 pub returns-in_default : goal.returns-in_default
 returns-in_default c =

@@ -1,6 +1,6 @@
 -- The head, empty slots and the lists are stored, and then each template in turn.
-use Rattle.std.proofs.Common.{ℕ, List, length, replicate, sym, refl, ap, ◌∙◌, arith}
-use lib.Seq.{length-sets, sets}
+use Rattle.std.proofs.Common.{ℕ, List, replicate, sym, refl, ap, ◌∙◌, arith}
+use lib.Seq.{sets}
 use Rattle.layout.specs.Octets.{words_of}
 use Rattle.book.proofs.Rows.{head_says, lists_length}
 use Rattle.prepared.specs.Numbers.{lists_from, lists_numbers, slots, slots_from}
@@ -26,23 +26,6 @@ pub word-lists-requires : goal.word-lists-requires
 word-lists-requires c =
     omega (arith, ((head_says _ c.requires.0.lists.has.head).fits))
 
-pub order_of-order-requires : goal.order_of-order-requires
-order_of-order-requires c =
-    c.requires.0.lists
-
-pub size_of-counts-requires : goal.size_of-counts-requires
-size_of-counts-requires c =
-    c.requires.0.lists
-
-pub put_zeros-requires : goal.put_zeros-requires
-put_zeros-requires c =
-    omega (arith, c.requires.1, c.put_six.auto)
-
-pub put_lists-at-requires : goal.put_lists-at-requires
-put_lists-at-requires c =
-    let pre = c.requires in
-    (pre.0.lists, omega (arith, pre.1, c.put_six.auto, c.put_zeros.auto))
-
 pub loop-left-init : goal.loop-left-init
 loop-left-init c =
     let pre = c.requires in
@@ -61,10 +44,6 @@ pub put_template-at-requires : goal.put_template-at-requires
 put_template-at-requires c =
     let inv = c.loop-left.invariant in
     (inv.0, (first (goal.at.put_template-at-requires c).In-loop-left).template, inv.1.low, omega (arith, inv.1.gap), omega (arith, inv.1.fits, (first (goal.at.put_template-at-requires c).In-loop-left).sizes))
-
-pub overflow_add-c : goal.overflow_add-c
-overflow_add-c c =
-    omega (arith, c.loop-left.invariant.1.gap)
 
 -- The row lies in the book, whose length is a number that fits.
 pub overflow_add-w : goal.overflow_add-w

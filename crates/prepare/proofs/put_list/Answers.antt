@@ -1,6 +1,5 @@
 -- Four stores and the words of the list's numbers.
-use Rattle.std.proofs.Common.{◌+◌, ◌<◌, length, ap, arith, length-set}
-use lib.Seq.{length-sets}
+use Rattle.std.proofs.Common.{arith, length-set}
 use Rattle.prepare.proofs.Lists.{list_size_lem, list_stored, numbers_rise, some_words}
 use Rattle.prepare.proofs.put_list.Goals as goal
 
@@ -11,10 +10,6 @@ overflow_sub-n c =
 pub word-requires-2 : goal.word-requires-2
 word-requires-2 c =
     omega (arith, some_words _ _ c.requires.0, c.requires.0.row.lies, c.word-first.ensures.value)
-
-pub bounds-room-at-2 : goal.bounds-room-at-2
-bounds-room-at-2 c =
-    simp length-set (omega (arith, c.requires.1))
 
 pub mask_of-requires : goal.mask_of-requires
 mask_of-requires c =
@@ -28,10 +23,6 @@ mask_of-requires c =
       ),
       rw (c.word-first.ensures.value, c.word-n.ensures.value) (numbers_rise _ _ list),
     )
-
-pub bounds-room-at-3 : goal.bounds-room-at-3
-bounds-room-at-3 c =
-    simp length-set (omega (arith, c.requires.1))
 
 pub bounds-room-at-4 : goal.bounds-room-at-4
 bounds-room-at-4 c =

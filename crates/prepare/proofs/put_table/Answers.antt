@@ -13,10 +13,6 @@ pub word-version-requires : goal.word-version-requires
 word-version-requires c =
     omega (arith, (head_says _ c.requires.0.has.head).fits)
 
-pub order_of-order-requires : goal.order_of-order-requires
-order_of-order-requires c =
-    c.requires.0
-
 pub loop-left-init : goal.loop-left-init
 loop-left-init c = (
   c.requires.0,
@@ -29,22 +25,10 @@ loop-left-init c = (
   filling_starts _ _ _,
 )
 
-pub field_end-end-requires : goal.field_end-end-requires
-field_end-end-requires c =
-    (c.word-k.ensures.small, c.word.ensures.small)
-
-pub place_of-place-requires : goal.place_of-place-requires
-place_of-place-requires c =
-    c.loop-left.invariant.0
-
 pub put_worked-requires : goal.put_worked-requires
 put_worked-requires c =
     let inv = c.loop-left.invariant in
     (omega (arith, inv.7.long), c.word-t.ensures.small, rw inv.2 (order_few _))
-
-pub need_after-need-requires : goal.need_after-need-requires
-need_after-need-requires c =
-    tt
 
 pub loop-left-preserved : goal.loop-left-preserved
 loop-left-preserved c =
@@ -63,10 +47,6 @@ loop-left-preserved c =
       table_filled _ _ _ _ _ some_left is-t _ _ _ _ _ inv.2
           (c.place_of-place.ensures ∙ rw c.word-in-loop-left.ensures.value refl) inv.7 c.put_worked.ensures,
     )
-
-pub shape_of-room : goal.shape_of-room
-shape_of-room c =
-    c.loop-left.invariant.7.long
 
 pub returns : goal.returns
 unfolding need_after table_of

@@ -1,17 +1,8 @@
 -- A slot, a row of the contents, and the block of the body that is lent.
-use Rattle.std.proofs.Common.{ℕ, ◌+◌, List, length, sym, refl, ap, ◌∙◌, subst, add-one, arith, length-set, rules}
-use lib.Seq.{length-sets}
+use Rattle.std.proofs.Common.{ℕ, ◌+◌, List, sym, refl, ap, ◌∙◌, subst, add-one, arith, length-set}
 use Rattle.prepare.specs.Positions.{BlockAt, group_size}
 use Rattle.prepare.proofs.Templates.{part_is}
 use Rattle.prepare.proofs.put_template.Goals as goal
-
-pub bounds-room-c : goal.bounds-room-c
-bounds-room-c c =
-    simp length-set (search rules)
-
-pub bounds-room-c-2 : goal.bounds-room-c-2
-bounds-room-c-2 c =
-    simp length-set (search rules)
 
 pub put_group-r-requires : goal.put_group-r-requires
 put_group-r-requires c =

@@ -1,7 +1,7 @@
 -- Where there are lists, they lie from the first one's first word to the book's end.
-use Rattle.std.proofs.Common.{◌≡◌, ◌+◌, ◌*◌, ◌/◌, ◌<◌, ◌≤◌, length, sym, refl, ◌∙◌, arith}
+use Rattle.std.proofs.Common.{◌≡◌, ◌+◌, ◌*◌, ◌<◌, sym, refl, ◌∙◌, arith}
 use Rattle.layout.specs.Octets.{words_of}
-use Rattle.layout.specs.BookRules.{contents_size, head_size, word}
+use Rattle.layout.specs.BookRules.{head_size, word}
 use Rattle.book.proofs.Rows.{head_says}
 use Rattle.prepare.proofs.Lists.{all_lists, first_lies, no_lists}
 use Rattle.prepare.proofs.size_lists.Goals as goal
