@@ -28,11 +28,6 @@ pub pass_row-walk_row-requires : goal.pass_row-walk_row-requires
 pass_row-walk_row-requires t c =
     (omega arith, c.requires)
 
-pub pass_row-returns : goal.pass_row-returns
-pass_row-returns t c =
-    let both = c.walk_row.ensures in
-    record { value = both.0;  bounded = both.1 }
-
 -- Few groups and data follow.
 pub walk_entries-overflow_add-number : goal.walk_entries-overflow_add-number
 walk_entries-overflow_add-number t c =
