@@ -27,10 +27,6 @@ skip_entries-returns-then-m-x t c =
     (entry_short _ _ _ _ _ _ (omega arith)) in
     record { value = both.0;  inside = both.1 }
 
-pub skip_entries-skip_row-groups-requires : goal.skip_entries-skip_row-groups-requires
-skip_entries-skip_row-groups-requires t c =
-    (omega arith, omega arith)
-
 pub skip_entries-returns-in_default : goal.skip_entries-returns-in_default
 skip_entries-returns-in_default t c =
     let e = c.in_default.is in
@@ -93,40 +89,40 @@ pub skip_group-returns-then-levels-eq0 : goal.skip_group-returns-then-levels-eq0
 unfolding walked
 skip_group-returns-then-levels-eq0 t c =
     let both = refuses _ _ _ c.refuse.ensures
-    (ap (walked skip_end) (group_too_deep _ _ _ _ _ _ ((inv_of _ _ (sym c.in-Of.is ∙ c.read_dimension.ensures))) c.if-levels-eq0.true)) in
+    (ap (walked skip_end) (group_too_deep _ _ _ _ _ _ (inv_of _ _ c.in-Of.ensures) c.if-levels-eq0.true)) in
     record { value = both.0;  inside = both.1 }
 
 pub skip_group-overflow_add-start : goal.skip_group-overflow_add-start
 skip_group-overflow_add-start t c =
-    omega (arith, c.size_of.ensures, ((dimension_good _ _ _ _ _ ((inv_of _ _ (sym c.in-Of.is ∙ c.read_dimension.ensures))))).fits)
+    omega (arith, c.size_of.ensures, (dimension_good _ _ _ _ _ (inv_of _ _ c.in-Of.ensures)).fits)
 
 pub skip_group-overflow_add-sizes : goal.skip_group-overflow_add-sizes
 skip_group-overflow_add-sizes t c =
-    let good = (dimension_good _ _ _ _ _ ((inv_of _ _ (sym c.in-Of.is ∙ c.read_dimension.ensures)))) in
+    let good = dimension_good _ _ _ _ _ (inv_of _ _ c.in-Of.ensures) in
     omega (arith, good.few_groups, good.few_datas)
 
 pub skip_group-overflow_mul-sizes : goal.skip_group-overflow_mul-sizes
 skip_group-overflow_mul-sizes t c =
-    let good = (dimension_good _ _ _ _ _ ((inv_of _ _ (sym c.in-Of.is ∙ c.read_dimension.ensures)))) in
+    let good = dimension_good _ _ _ _ _ (inv_of _ _ c.in-Of.ensures) in
     let s = c.in-Of.sizes in
     let few : s.length ≤ 65535 = omega (arith, good.short) in
     omega (arith, good.few, mul-le-mul_right s.entries few)
 
 pub skip_group-pass_octets-requires : goal.skip_group-pass_octets-requires
 skip_group-pass_octets-requires t c =
-    omega (arith, c.size_of.ensures, ((dimension_good _ _ _ _ _ ((inv_of _ _ (sym c.in-Of.is ∙ c.read_dimension.ensures))))).fits)
+    omega (arith, c.size_of.ensures, (dimension_good _ _ _ _ _ (inv_of _ _ c.in-Of.ensures)).fits)
 
 pub skip_group-returns-then-sizes-eq0 : goal.skip_group-returns-then-sizes-eq0
 skip_group-returns-then-sizes-eq0 t c =
     let from = rw c.size_of.ensures at c.pass_octets.ensures in
     let both = passed_from _ _ _ (from.value, from.inside)
-    (group_at_once _ _ _ _ _ _ ((inv_of _ _ (sym c.in-Of.is ∙ c.read_dimension.ensures))) (omega arith) (omega arith) (omega arith))
+    (group_at_once _ _ _ _ _ _ (inv_of _ _ c.in-Of.ensures) (omega arith) (omega arith) (omega arith))
     (omega arith) in
     record { value = both.0;  inside = both.1 }
 
 pub skip_group-skip_entries-requires : goal.skip_group-skip_entries-requires
 skip_group-skip_entries-requires t c =
-    let good = (dimension_good _ _ _ _ _ ((inv_of _ _ (sym c.in-Of.is ∙ c.read_dimension.ensures)))) in
+    let good = dimension_good _ _ _ _ _ (inv_of _ _ c.in-Of.ensures) in
     (omega arith, omega (arith, c.size_of.ensures, good.fits))
 
 pub skip_group-returns-in-Refused : goal.skip_group-returns-in-Refused
@@ -140,16 +136,12 @@ pub skip_group-returns-else-sizes-eq0 : goal.skip_group-returns-else-sizes-eq0
 skip_group-returns-else-sizes-eq0 t c =
     let from = rw c.size_of.ensures at c.skip_entries.ensures in
     let both = passed_from _ _ _ (from.value, from.inside)
-    (group_entries _ _ _ _ _ _ ((inv_of _ _ (sym c.in-Of.is ∙ c.read_dimension.ensures))) (omega arith)) (omega arith) in
+    (group_entries _ _ _ _ _ _ (inv_of _ _ c.in-Of.ensures) (omega arith)) (omega arith) in
     record { value = both.0;  inside = both.1 }
 
 pub skip_row-loop-left-init : goal.skip_row-loop-left-init
 skip_row-loop-left-init t c =
     skips_first _ _ (omega arith)
-
-pub skip_row-skip_group-group-requires : goal.skip_row-skip_group-group-requires
-skip_row-skip_group-group-requires t c =
-    (omega arith, omega arith)
 
 pub skip_row-returns-in_default : goal.skip_row-returns-in_default
 skip_row-returns-in_default t c =

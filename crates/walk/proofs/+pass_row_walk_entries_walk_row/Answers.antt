@@ -18,10 +18,10 @@ use Rattle.walk.proofs.+pass_row_walk_entries_walk_row.Goals as goal
 pub pass_row-returns-then-n-surplus-eq0 : goal.pass_row-returns-then-n-surplus-eq0
 pass_row-returns-then-n-surplus-eq0 t c =
     let pre = c.requires in
-    let no-group : c.args.n ≤ 0 = omega (arith, c.if-n-surplus-eq0.true) in
-    let no-surplus : c.args.surplus ≤ 0 = omega (arith, c.if-n-surplus-eq0.true) in
+    let no_group : c.args.n ≤ 0 = omega (arith, c.if-n-surplus-eq0.true) in
+    let no_surplus : c.args.surplus ≤ 0 = omega (arith, c.if-n-surplus-eq0.true) in
     let both = way_ends (way_starts _ _ _ _ pre.1.inside)
-    (groups_done c.args.p.now.now _ _ _ _ _ _ _ (no_groups_at _ _ _ _ no-group) no-surplus) in
+    (groups_done c.args.p.now.now _ _ _ _ _ _ _ (no_groups_at _ _ _ _ no_group) no_surplus) in
     record { value = both.0;  bounded = both.1 }
 
 pub pass_row-walk_row-requires : goal.pass_row-walk_row-requires
@@ -54,14 +54,6 @@ pub walk_entries-is_big-big-requires : goal.walk_entries-is_big-big-requires
 walk_entries-is_big-big-requires t c =
     omega (arith, head_there c.requires.0.block)
 
-pub walk_entries-groups_in-groups-requires : goal.walk_entries-groups_in-groups-requires
-walk_entries-groups_in-groups-requires t c =
-    tt
-
-pub walk_entries-datas_in-datas-requires : goal.walk_entries-datas_in-datas-requires
-walk_entries-datas_in-datas-requires t c =
-    tt
-
 pub walk_entries-loop-due-init : goal.walk_entries-loop-due-init
 walk_entries-loop-due-init t c =
     let small = c.requires.2 in (
@@ -75,10 +67,6 @@ walk_entries-loop-due-init t c =
       omega (arith, c.datas_in-datas.ensures),
       way_starts _ _ _ _ c.requires.1.inside,
     )
-
-pub walk_entries-refuse-requires : goal.walk_entries-refuse-requires
-walk_entries-refuse-requires t c =
-    tt
 
 pub walk_entries-returns-then-t-at : goal.walk_entries-returns-then-t-at
 walk_entries-returns-then-t-at t c =
@@ -185,7 +173,7 @@ walk_row-loop-left-preserved-then-v-number t c =
       inv.3,
       inv.4,
       way_on inv.5 _ _ _
-          (row_absent ((c.args.p.now.now)) _ _ _ _ _ _ _ _ _ _ _ opened.tree _
+          (row_absent c.args.p.now.now _ _ _ _ _ _ _ _ _ _ _ opened.tree _
           (rw c.number.ensures at c.if-v-number.true))
           (omega arith) inv.5.inside (omega arith),
     )
@@ -198,7 +186,7 @@ walk_row-open_group-requires t c =
 pub walk_row-returns-in-Refused : goal.walk_row-returns-in-Refused
 walk_row-returns-in-Refused t c =
     let both = way_refused c.loop-left.invariant.5 _ refl
-    (row_dimension ((c.args.p.now.now)) _ _ _ _ _ _ _ _ _ _ _ c.open_row.ensures.tree _
+    (row_dimension c.args.p.now.now _ _ _ _ _ _ _ _ _ _ _ c.open_row.ensures.tree _
     (rw c.number.ensures at c.if-v-number.false) _
     (sym c.in-Refused.is ∙ c.open_group.ensures)) in
     record { value = both.0;  bounded = both.1 }
@@ -230,7 +218,7 @@ walk_row-walk_entries-walked-requires t c =
 pub walk_row-returns-in_default : goal.walk_row-returns-in_default
 walk_row-returns-in_default t c =
     let both = way_refused c.loop-left.invariant.5 _ c.in_default.is
-    (row_entries ((c.args.p.now.now)) _ _ _ _ _ _ _ _ _ _ _ c.open_row.ensures.tree _
+    (row_entries c.args.p.now.now _ _ _ _ _ _ _ _ _ _ _ c.open_row.ensures.tree _
     (rw c.number.ensures at c.if-v-number.false) _
     (sym c.in-Of.is ∙ c.open_group.ensures) _
     (sym c.in_default.is ∙ rw c.dimension_size.ensures at c.walk_entries-walked.ensures.value)) in
@@ -259,7 +247,7 @@ walk_row-loop-left-preserved t c =
       inv.3,
       inv.4,
       way_on inv.5 _ _ _
-          (row_next ((c.args.p.now.now)) _ _ _ _ _ _ _ _ _ _ _ opened.tree _ full _ is _ _
+          (row_next c.args.p.now.now _ _ _ _ _ _ _ _ _ _ _ opened.tree _ full _ is _ _
           (sym c.in-To.is ∙ next))
           (omega (arith, c.dimension_size.ensures)) on.1
           (omega (
@@ -286,7 +274,7 @@ pub walk_row-returns-in_default-others : goal.walk_row-returns-in_default-others
 walk_row-returns-in_default-others t c =
     let none = no_groups_at _ _ _ _ c.loop-left-test.false in
     let both = way_refused c.loop-left.invariant.5 _ c.in_default-others.is
-    (groups_refused ((c.args.p.now.now)) _ _ _ _ _ _ _ none _ (sym c.in_default-others.is
+    (groups_refused c.args.p.now.now _ _ _ _ _ _ _ none _ (sym c.in_default-others.is
     ∙ rw (c.is_counted.ensures, c.is_big.ensures) at c.skip_groups-others.ensures.value)) in
     record { value = both.0;  bounded = both.1 }
 
@@ -295,7 +283,7 @@ walk_row-returns t c =
     let w = c.loop-left.invariant.5 in
     let none = no_groups_at _ _ _ _ c.loop-left-test.false in
     let on = lies_on _ _ _ _ _ c.skip_groups-others.ensures.inside c.in-To-others.is in
-    let both = way_ends (way_on w _ 0 _ (groups_end_lem ((c.args.p.now.now)) _ _ _ _ _ _ _ none _ _ (sym c.in-To-others.is
+    let both = way_ends (way_on w _ 0 _ (groups_end_lem c.args.p.now.now _ _ _ _ _ _ _ none _ _ (sym c.in-To-others.is
     ∙ rw (c.is_counted.ensures, c.is_big.ensures) at c.skip_groups-others.ensures.value))
     on.0 on.1 (omega (arith, on.0))) refl in
     record { value = both.0;  bounded = both.1 }

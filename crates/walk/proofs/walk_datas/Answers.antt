@@ -9,9 +9,9 @@ use Rattle.walk.proofs.Ways.{way_ends, way_on, way_refused, way_starts}
 use Rattle.walk.proofs.walk_datas.Goals as goal
 
 -- One less is left: if it was the book's own, one more was passed.
-counted-on : (n left s : ℕ) → left ≤ n + s
+counted_on : (n left s : ℕ) → left ≤ n + s
     → (n - (left - s) + (left - s - (left - 1 - s)) ≡ n - (left - 1 - s)) × (left - 1 - s ≤ left - s)
-counted-on n left s h = (omega arith, omega arith)
+counted_on n left s h = (omega arith, omega arith)
 
 pub loop-left-init : goal.loop-left-init
 loop-left-init c =
@@ -34,7 +34,7 @@ pub pass_data-data-requires : goal.pass_data-data-requires
 pass_data-data-requires c =
     let inv = c.loop-left.invariant in (
       λ own. let a = c.args in
-          let some-own = ltb-true a.surplus c.loop-left.left own in omega (arith, inv.0, inv.5, some-own),
+          let some_own = ltb-true a.surplus c.loop-left.left own in omega (arith, inv.0, inv.5, some_own),
       inv.6.inside,
     )
 
@@ -52,7 +52,7 @@ loop-left-preserved c =
     let left = c.loop-left.left in
     let e = c.in-To.is in
     let on = lies_on _ _ _ _ _ c.pass_data-data.ensures.inside e in
-    let seen = counted-on a.n left a.surplus inv.4 in (
+    let seen = counted_on a.n left a.surplus inv.4 in (
       inv.0,
       inv.1,
       inv.2,
