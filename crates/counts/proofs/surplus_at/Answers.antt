@@ -13,8 +13,8 @@ use Rattle.counts.proofs.surplus_at.Goals.{In-Is-datas_over}
 few : (c : In-Is-datas_over) → (c.in-Is.groups < 65536) × (c.in-Is-datas_over.datas < 65536)
 few c =
     let sizes = c.sizes_at-counts.ensures in
-    let x = over_most _ _ _ _ _ (sym c.in-Is.is ∙ c.groups_over.ensures) in
-    let y = over_most _ _ _ _ _ (sym c.in-Is-datas_over.is ∙ c.datas_over.ensures) in
+    let x = over_most _ _ _ _ _ c.in-Is.ensures in
+    let y = over_most _ _ _ _ _ c.in-Is-datas_over.ensures in
     (omega (arith, sizes.0.small, x), omega (arith, sizes.1.small, y))
 
 pub returns-then-not-are_whole : goal.returns-then-not-are_whole
@@ -32,7 +32,7 @@ returns-in_default c =
     let big = c.is_big.ensures in
     sym (counts_told _ _ _ _ _ _ _ _ _ _ (rw big at sizes.0.value) (rw big at sizes.1.value) true Wrong _
     (sym c.are_whole.ensures ∙ c.if-not-are_whole.false)
-    (sym c.in_default.is ∙ c.groups_over.ensures) refl)
+    c.in_default.ensures refl)
 
 pub returns-in_default-datas_over : goal.returns-in_default-datas_over
 unfolding code_by
@@ -41,8 +41,8 @@ returns-in_default-datas_over c =
     let big = c.is_big.ensures in
     sym (counts_told _ _ _ _ _ _ _ _ _ _ (rw big at sizes.0.value) (rw big at sizes.1.value) true (Is _) Wrong
     (sym c.are_whole.ensures ∙ c.if-not-are_whole.false)
-    (sym c.in-Is.is ∙ c.groups_over.ensures)
-    (sym c.in_default-datas_over.is ∙ c.datas_over.ensures))
+    c.in-Is.ensures
+    c.in_default-datas_over.ensures)
 
 pub overflow_mul-result : goal.overflow_mul-result
 overflow_mul-result c =
@@ -59,5 +59,5 @@ returns c =
     let big = c.is_big.ensures in
     sym (counts_told _ _ _ _ _ _ _ _ _ _ (rw big at sizes.0.value) (rw big at sizes.1.value) true (Is _) (Is _)
     (sym c.are_whole.ensures ∙ c.if-not-are_whole.false)
-    (sym c.in-Is.is ∙ c.groups_over.ensures)
-    (sym c.in-Is-datas_over.is ∙ c.datas_over.ensures))
+    c.in-Is.ensures
+    c.in-Is-datas_over.ensures)

@@ -4,7 +4,6 @@ use mathlib.Core.Path.{sym, ◌∙◌, refl}
 use Prim.Native.Nat.{◌≤◌}
 use native.Mathlib.Nat.{mul-le-mul_right}
 use native.Mathlib.Omega.{arith}
-use Rattle.prepared.specs.Positions.{is_big}
 use Rattle.prepared.proofs.Accepted.{fields_length}
 use Rattle.prepared.proofs.Open.{head_there, no_groups_at, some_follow}
 use Rattle.wire.proofs.Answers.{lies_on}
@@ -22,7 +21,7 @@ pass_row-returns-then-n-surplus-eq0 t c =
     let no_surplus : c.args.surplus ≤ 0 = omega (arith, c.if-n-surplus-eq0.true) in
     let both = way_ends (way_starts _ _ _ _ pre.1.inside)
     (groups_done c.args.p.now.now _ _ _ _ _ _ _ (no_groups_at _ _ _ _ no_group) no_surplus) in
-    record { value = both.0;  bounded = both.1 }
+    record { value = both.0; bounded = both.1 }
 
 pub pass_row-walk_row-requires : goal.pass_row-walk_row-requires
 pass_row-walk_row-requires t c =
@@ -48,7 +47,7 @@ pub walk_entries-returns-then-l-k : goal.walk_entries-returns-then-l-k
 walk_entries-returns-then-l-k t c =
     let both = plain_walked _ _ _ _ _ _ _ _ _ c.requires.0.block c.number-fields.ensures
     c.number.ensures c.if-number-entries-eq0.true (omega arith) in
-    record { value = both.0;  bounded = both.1 }
+    record { value = both.0; bounded = both.1 }
 
 pub walk_entries-is_big-big-requires : goal.walk_entries-is_big-big-requires
 walk_entries-is_big-big-requires t c =
@@ -73,7 +72,7 @@ walk_entries-returns-then-t-at t c =
     let both = rw (c.groups_in-groups.ensures, c.datas_in-datas.ensures) at
     (way_refused c.loop-due.invariant.8 _ c.refuse.ensures
     (entry_short _ _ _ _ _ _ _ _ _ _ c.loop-due-test.true (omega arith))) in
-    record { value = both.0;  bounded = both.1 }
+    record { value = both.0; bounded = both.1 }
 
 pub walk_entries-pass_row-row-requires : goal.walk_entries-pass_row-row-requires
 walk_entries-pass_row-row-requires t c =
@@ -94,7 +93,7 @@ walk_entries-returns-in_default t c =
     let both = rw (c.groups_in-groups.ensures, c.datas_in-datas.ensures) at
     (way_refused c.loop-due.invariant.8 _ c.in_default.is
     (entry_row_lem _ _ _ _ _ _ _ _ _ _ c.loop-due-test.true (omega arith) _ (sym c.in_default.is ∙ row))) in
-    record { value = both.0;  bounded = both.1 }
+    record { value = both.0; bounded = both.1 }
 
 pub walk_entries-walk_datas-rest-requires : goal.walk_entries-walk_datas-rest-requires
 walk_entries-walk_datas-rest-requires t c =
@@ -118,7 +117,7 @@ walk_entries-returns-in_default-rest t c =
     (way_refused inv.8 _ c.in_default-rest.is
     (entry_datas _ _ _ _ _ _ _ _ _ _ c.loop-due-test.true (omega arith) _ _ (sym c.in-To.is ∙ row) _
     (sym c.in_default-rest.is ∙ datas))) in
-    record { value = both.0;  bounded = both.1 }
+    record { value = both.0; bounded = both.1 }
 
 pub walk_entries-total-seen-requires : goal.walk_entries-total-seen-requires
 walk_entries-total-seen-requires t c =
@@ -155,7 +154,7 @@ pub walk_entries-returns : goal.walk_entries-returns
 walk_entries-returns t c =
     let both = rw (c.groups_in-groups.ensures, c.datas_in-datas.ensures) at
     (way_ends c.loop-due.invariant.8 (entries_end _ _ _ _ c.loop-due-test.false)) in
-    record { value = both.0;  bounded = both.1 }
+    record { value = both.0; bounded = both.1 }
 
 pub walk_row-loop-left-init : goal.walk_row-loop-left-init
 walk_row-loop-left-init t c =
@@ -188,8 +187,8 @@ walk_row-returns-in-Refused t c =
     let both = way_refused c.loop-left.invariant.5 _ refl
     (row_dimension c.args.p.now.now _ _ _ _ _ _ _ _ _ _ _ c.open_row.ensures.tree _
     (rw c.number.ensures at c.if-v-number.false) _
-    (sym c.in-Refused.is ∙ c.open_group.ensures)) in
-    record { value = both.0;  bounded = both.1 }
+    c.in-Refused.ensures) in
+    record { value = both.0; bounded = both.1 }
 
 pub walk_row-dimension_size-requires : goal.walk_row-dimension_size-requires
 walk_row-dimension_size-requires t c =
@@ -199,14 +198,14 @@ pub walk_row-overflow_add-inside : goal.walk_row-overflow_add-inside
 walk_row-overflow_add-inside t c =
     let inv = c.loop-left.invariant in
     let good = group_good _ _ _ _ _ _ _ _ _
-    (inv_open _ _ (sym c.in-Of.is ∙ c.open_group.ensures)) in
+    (inv_open _ _ c.in-Of.ensures) in
     omega (arith, good.fits, c.dimension_size.ensures, inv.1)
 
 pub walk_row-walk_entries-walked-requires : goal.walk_row-walk_entries-walked-requires
 walk_row-walk_entries-walked-requires t c =
     let inv = c.loop-left.invariant in
     let good = group_good _ _ _ _ _ _ _ _ _
-    (inv_open _ _ (sym c.in-Of.is ∙ c.open_group.ensures)) in (
+    (inv_open _ _ c.in-Of.ensures) in (
       omega (arith, c.open_row.ensures.deep),
       (
         c.open_row.ensures.first,
@@ -220,15 +219,15 @@ walk_row-returns-in_default t c =
     let both = way_refused c.loop-left.invariant.5 _ c.in_default.is
     (row_entries c.args.p.now.now _ _ _ _ _ _ _ _ _ _ _ c.open_row.ensures.tree _
     (rw c.number.ensures at c.if-v-number.false) _
-    (sym c.in-Of.is ∙ c.open_group.ensures) _
+    c.in-Of.ensures _
     (sym c.in_default.is ∙ rw c.dimension_size.ensures at c.walk_entries-walked.ensures.value)) in
-    record { value = both.0;  bounded = both.1 }
+    record { value = both.0; bounded = both.1 }
 
 pub walk_row-overflow_add-seen-in-Of : goal.walk_row-overflow_add-seen-in-Of
 walk_row-overflow_add-seen-in-Of t c =
     let inv = c.loop-left.invariant in
     let good = group_good _ _ _ _ _ _ _ _ _
-    (inv_open _ _ (sym c.in-Of.is ∙ c.open_group.ensures)) in
+    (inv_open _ _ c.in-Of.ensures) in
     let on = leads _ _ _ _ _ _ c.walk_entries-walked.ensures.bounded c.in-To.is in
     omega (arith, good.few, c.dimension_size.ensures)
 
@@ -276,7 +275,7 @@ walk_row-returns-in_default-others t c =
     let both = way_refused c.loop-left.invariant.5 _ c.in_default-others.is
     (groups_refused c.args.p.now.now _ _ _ _ _ _ _ none _ (sym c.in_default-others.is
     ∙ rw (c.is_counted.ensures, c.is_big.ensures) at c.skip_groups-others.ensures.value)) in
-    record { value = both.0;  bounded = both.1 }
+    record { value = both.0; bounded = both.1 }
 
 pub walk_row-returns : goal.walk_row-returns
 walk_row-returns t c =
@@ -286,4 +285,4 @@ walk_row-returns t c =
     let both = way_ends (way_on w _ 0 _ (groups_end_lem c.args.p.now.now _ _ _ _ _ _ _ none _ _ (sym c.in-To-others.is
     ∙ rw (c.is_counted.ensures, c.is_big.ensures) at c.skip_groups-others.ensures.value))
     on.0 on.1 (omega (arith, on.0))) refl in
-    record { value = both.0;  bounded = both.1 }
+    record { value = both.0; bounded = both.1 }
