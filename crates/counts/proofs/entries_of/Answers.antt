@@ -1,7 +1,6 @@
 -- It was accepted, so that the tests would find nothing.
 use mathlib.Core.Path.{◌∙◌, refl, sym}
 use native.Mathlib.Omega.{arith}
-use borrow.Author.Tests.{not-false}
 use Rattle.layout.specs.Result.{if◌then◌else◌}
 use Rattle.counts.proofs.Groups.{counts_own, group_good, still_open}
 use Rattle.counts.proofs.entries_of.Goals as goal
@@ -40,7 +39,7 @@ returns-else-not-has_own c =
     let counted = sym c.is_counted.ensures ∙ c.if-is_counted.true in
     still_open _ _ _ _ _ _ _ _ _ pre.2.is _ _ _ (rw big at c.sizes_at-sizes.ensures.0.value)
     (rw big at c.sizes_at-sizes.ensures.1.value)
-    (rw counted (sym (counts_own pre.0 (c.has_own.ensures (not-false _ c.if-not-has_own.false)))))
+    (rw counted (sym (counts_own pre.0 (c.has_own.ensures c.if-not-has_own.false))))
 
 pub returns-else-is_counted : goal.returns-else-is_counted
 unfolding if◌then◌else◌

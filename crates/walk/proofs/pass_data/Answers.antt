@@ -21,10 +21,10 @@ pub returns-then-is_absent : goal.returns-then-is_absent
 unfolding if◌then◌else◌ walked Inside
 returns-then-is_absent c =
     let absent = sym c.is_absent.ensures ∙ c.if-is_absent.true in
-    record { value = (rw (chosen _ _ _ true _ _ absent) (refl, (omega arith, omega arith))).0;  inside = (rw (chosen _ _ _ true _ _ absent) (refl, (omega arith, omega arith))).1 }
+    record { value = rw (chosen _ _ _ true _ _ absent) refl; inside = (omega arith, omega arith) }
 
 pub returns : goal.returns
 unfolding if◌then◌else◌
 returns c =
     let here = sym c.is_absent.ensures ∙ c.if-is_absent.false in
-    record { value = (rw (chosen _ _ _ false _ _ here) c.read_data.ensures).0;  inside = (rw (chosen _ _ _ false _ _ here) c.read_data.ensures).1 }
+    record { value = rw (chosen _ _ _ false _ _ here) c.read_data.ensures.value; inside = c.read_data.ensures.inside }
