@@ -28,7 +28,7 @@ inner_row-returns-then-i-steps t c =
     let on =
     inner_on c.args.p.now.now _ _ _ _ _ _ _ _ _ c.if-on.true
     (path_next c.requires.3 c.if-i-steps.true).inside in
-    record { value = c.seek_row.ensures.value ∙ sym on;  within = c.seek_row.ensures.within }
+    record { value = c.seek_row.ensures.value ∙ sym on; within = c.seek_row.ensures.within }
 
 pub inner_row-pass_row-requires : goal.inner_row-pass_row-requires
 inner_row-pass_row-requires t c =
@@ -46,7 +46,7 @@ inner_row-returns-then-on t c =
     let both = ends_walked _ _ _ _ _ c.found_at.ensures
     (rw (c.number-first.ensures, c.number-n.ensures) at c.pass_row.ensures.value) c.pass_row.ensures.bounded
     (inner_last p _ _ _ _ _ _ _ _ _ c.if-on.true c.if-i-steps.false) in
-    record { value = both.0;  within = both.1 }
+    record { value = both.0; within = both.1 }
 
 pub inner_row-pass_row-requires-2 : goal.inner_row-pass_row-requires-2
 inner_row-pass_row-requires-2 t c =
@@ -64,7 +64,7 @@ inner_row-returns t c =
     let both = ends_walked _ _ _ _ _ c.found_at-2.ensures
     (rw (c.number-first.ensures, c.number-n.ensures) at c.pass_row-2.ensures.value) c.pass_row-2.ensures.bounded
     (inner_off args.p.now.now _ _ _ _ args.path.now.now args.i _ _ _ c.if-on.false) in
-    record { value = both.0;  within = both.1 }
+    record { value = both.0; within = both.1 }
 
 -- ---- the entries of the group
 
@@ -91,7 +91,7 @@ seek_entries-returns-then-l-k t c =
     let all =
     plain_sought _ _ _ _ _ args.path.now.now args.i _ _ _ pre.0.block c.number.ensures
     c.if-number-entries-eq0.true fit (path_next pre.3 pre.4) in
-    record { value = rw c.number-e.ensures at c.plain_row.ensures ∙ sym all;  within = within_to _ c.plain_row.ensures fit }
+    record { value = rw c.number-e.ensures at c.plain_row.ensures ∙ sym all; within = within_to _ c.plain_row.ensures fit }
 
 pub seek_entries-is_big-big-requires : goal.seek_entries-is_big-big-requires
 seek_entries-is_big-big-requires t c =
@@ -116,7 +116,7 @@ seek_entries-returns-then-t-at t c =
     (rw (c.groups_in-groups.ensures, c.datas_in-datas.ensures) at
     (c.loop-due.invariant.7 ∙ entry_short_on c.args.p.now.now _ _ _ _ _ _ _ _ _ _ _ _ _ c.loop-due-test.true
     (omega arith))) in
-    record { value = both.0;  within = both.1 }
+    record { value = both.0; within = both.1 }
 
 pub seek_entries-inner_row-inside-requires : goal.seek_entries-inner_row-inside-requires
 seek_entries-inner_row-inside-requires t c =
@@ -129,7 +129,7 @@ seek_entries-returns-in_default t c =
     (rw (c.groups_in-groups.ensures, c.datas_in-datas.ensures) at
     (c.loop-due.invariant.7 ∙ entry_row_on c.args.p.now.now _ _ _ _ _ _ _ _ _ _ _ _ _ c.loop-due-test.true
     (omega arith) _ _ (sym c.in_default.is ∙ c.inner_row-inside.ensures.value))) in
-    record { value = both.0;  within = both.1 }
+    record { value = both.0; within = both.1 }
 
 pub seek_entries-walk_datas-rest-requires : goal.seek_entries-walk_datas-rest-requires
 seek_entries-walk_datas-rest-requires t c =
@@ -152,7 +152,7 @@ seek_entries-returns-in_default-rest t c =
     (rw (c.groups_in-groups.ensures, c.datas_in-datas.ensures) at
     (inv.7 ∙ entry_datas_on c.args.p.now.now _ _ _ _ _ _ _ _ _ _ _ _ _ c.loop-due-test.true (omega arith) _
     _ _ (sym c.in-To.is ∙ c.inner_row-inside.ensures.value) _ (sym c.in_default-rest.is ∙ datas))) in
-    record { value = both.0;  within = both.1 }
+    record { value = both.0; within = both.1 }
 
 pub seek_entries-loop-due-preserved : goal.seek_entries-loop-due-preserved
 seek_entries-loop-due-preserved t c =
@@ -177,7 +177,7 @@ seek_entries-returns t c =
     let inv = c.loop-due.invariant in
     let ends = entries_done c.args.p.now.now _ _ _ _ _ _ _ _ _ _ _ _ _ c.loop-due-test.false in
     let all = rw (c.groups_in-groups.ensures, c.datas_in-datas.ensures) at (inv.7 ∙ ends) in
-    record { value = sym all;  within = within_to _ refl inv.2 }
+    record { value = sym all; within = within_to _ refl inv.2 }
 
 -- ---- the group that a step leads to
 
@@ -193,7 +193,7 @@ seek_group-returns-then-v-number t c =
     (rw c.number-after.ensures at c.pass_row.ensures.value) c.pass_row.ensures.bounded
     (group_absent c.args.p.now.now _ _ _ _ _ _ _ _ _ _ c.open_row.ensures.tree _ _ _
     (rw c.number.ensures at c.if-v-number.true)) in
-    record { value = both.0;  within = both.1 }
+    record { value = both.0; within = both.1 }
 
 pub seek_group-overflow_sub-depth : goal.seek_group-overflow_sub-depth
 seek_group-overflow_sub-depth t c =
@@ -237,7 +237,7 @@ seek_group-returns-in_default t c =
     (rw c.number.ensures at c.if-v-number.false) _
     (sym c.in-Of.is ∙ c.open_group.ensures) _
     (sym c.in_default.is ∙ rw c.dimension_size.ensures at c.seek_entries-inside.ensures.value)) in
-    record { value = both.0;  within = both.1 }
+    record { value = both.0; within = both.1 }
 
 pub seek_group-overflow_sub-n-in-Of : goal.seek_group-overflow_sub-n-in-Of
 seek_group-overflow_sub-n-in-Of t c =
@@ -261,7 +261,7 @@ seek_group-returns-in-Refused t c =
     (group_refused c.args.p.now.now _ _ _ _ _ _ _ _ _ _ c.open_row.ensures.tree _ _ _
     (rw c.number.ensures at c.if-v-number.false) _
     (sym c.in-Refused.is ∙ c.open_group.ensures)) in
-    record { value = both.0;  within = both.1 }
+    record { value = both.0; within = both.1 }
 
 pub seek_group-returns-in-To : goal.seek_group-returns-in-To
 seek_group-returns-in-To t c =
@@ -271,7 +271,7 @@ seek_group-returns-in-To t c =
     (rw c.number.ensures at c.if-v-number.false) _
     (sym c.in-Of.is ∙ c.open_group.ensures) _ _
     (sym c.in-To.is ∙ rw c.dimension_size.ensures at c.seek_entries-inside.ensures.value)) in
-    record { value = both.0;  within = both.1 }
+    record { value = both.0; within = both.1 }
 
 -- ---- the row of a block
 
@@ -291,7 +291,7 @@ seek_row-returns-then-n-g t c =
     (rw (c.number-first.ensures, c.number-n.ensures) at c.walk_row.ensures.value) c.walk_row.ensures.bounded
     (row_lacks _ _ _ c.requires.0 _ _ c.args.path.now.now c.args.i _ _
     (rw (c.number-n.ensures, c.number-g.ensures) at c.if-n-g.true)) in
-    record { value = both.0;  within = both.1 }
+    record { value = both.0; within = both.1 }
 
 pub seek_row-pass_row-passed-requires : goal.seek_row-pass_row-passed-requires
 seek_row-pass_row-passed-requires t c =
@@ -313,7 +313,7 @@ seek_row-returns-in_default t c =
     let both = ends_refused _ _ (c.found_at-in_default.ensures ∙ found_refused _ _ _ c.in_default.is)
     (row_refused _ _ _ c.requires.0 _ _ c.args.path.now.now c.args.i _ _ less _
     (sym c.in_default.is ∙ walks)) in
-    record { value = both.0;  within = both.1 }
+    record { value = both.0; within = both.1 }
 
 pub seek_row-skip_row-group-requires : goal.seek_row-skip_row-group-requires
 seek_row-skip_row-group-requires t c =
@@ -360,4 +360,4 @@ seek_row-returns t c =
     let on =
     row_onward _ _ _ c.requires.0 _ _ c.args.path.now.now c.args.i _ _ less _ _
     (sym c.in-To.is ∙ walks) in
-    record { value = all ∙ sym on;  within = c.seek_group.ensures.within }
+    record { value = all ∙ sym on; within = c.seek_group.ensures.within }
