@@ -1,8 +1,7 @@
 -- The walk along a path calls itself: a row, the group that a step leads to, its entries, the row of an entry. The
 -- measure of a call is the depth left, and within a depth the order of the calls.
 use mathlib.Core.Path.{sym, ◌∙◌, refl}
-use Prim.Native.Nat.{◌+◌, ◌-◌, ◌*◌, ◌≤◌}
-use native.Mathlib.Nat.{mul-le-mul_right}
+use Prim.Native.Nat.{◌+◌, ◌*◌, ◌≤◌}
 use native.Mathlib.Omega.{arith}
 use lib.ListN.{length}
 use Rattle.prepared.proofs.Open.{head_there, some_follow}
@@ -18,27 +17,12 @@ use Rattle.places.proofs.+inner_row_seek_entries_seek_group_seek_row.Goals as go
 
 -- ---- the row of an entry
 
-pub inner_row-seek_row-requires : goal.inner_row-seek_row-requires
-inner_row-seek_row-requires t c =
-    let pre = c.requires in
-    (omega arith, (pre.0, pre.1, pre.2, pre.3, c.if-i-steps.true))
-
 pub inner_row-returns-then-i-steps : goal.inner_row-returns-then-i-steps
 inner_row-returns-then-i-steps t c =
     let on =
     inner_on c.args.p.now.now _ _ _ _ _ _ _ _ _ c.if-on.true
     (path_next c.requires.3 c.if-i-steps.true).inside in
     record { value = c.seek_row.ensures.value ∙ sym on; within = c.seek_row.ensures.within }
-
-pub inner_row-pass_row-requires : goal.inner_row-pass_row-requires
-inner_row-pass_row-requires t c =
-    let pre = c.requires in (
-      rw (c.number-first.ensures, c.number-n.ensures) pre.0.row,
-      pre.1,
-      omega arith,
-      pre.2,
-      head_there pre.0.block,
-    )
 
 pub inner_row-returns-then-on : goal.inner_row-returns-then-on
 inner_row-returns-then-on t c =
@@ -47,16 +31,6 @@ inner_row-returns-then-on t c =
     (rw (c.number-first.ensures, c.number-n.ensures) at c.pass_row.ensures.value) c.pass_row.ensures.bounded
     (inner_last p _ _ _ _ _ _ _ _ _ c.if-on.true c.if-i-steps.false) in
     record { value = both.0; within = both.1 }
-
-pub inner_row-pass_row-requires-2 : goal.inner_row-pass_row-requires-2
-inner_row-pass_row-requires-2 t c =
-    let pre = c.requires in (
-      rw (c.number-first.ensures, c.number-n.ensures) pre.0.row,
-      pre.1,
-      omega arith,
-      pre.2,
-      head_there pre.0.block,
-    )
 
 pub inner_row-returns : goal.inner_row-returns
 inner_row-returns t c =
@@ -68,19 +42,11 @@ inner_row-returns t c =
 
 -- ---- the entries of the group
 
-pub seek_entries-number-e-requires : goal.seek_entries-number-e-requires
-seek_entries-number-e-requires t c =
-    let pre = c.requires in omega (arith, (path_next pre.3 pre.4).inside)
-
 -- Few groups and data follow.
 pub seek_entries-overflow_add-number : goal.seek_entries-overflow_add-number
 seek_entries-overflow_add-number t c =
     let block = c.requires.0.block in
     omega (arith, c.number.ensures, some_follow block, c.requires.2.less)
-
-pub seek_entries-overflow_mul-l : goal.seek_entries-overflow_mul-l
-seek_entries-overflow_mul-l t c =
-    omega (arith, mul-le-mul_right c.args.entries.count c.requires.2.short, c.requires.2.few)
 
 pub seek_entries-returns-then-l-k : goal.seek_entries-returns-then-l-k
 seek_entries-returns-then-l-k t c =
@@ -93,23 +59,6 @@ seek_entries-returns-then-l-k t c =
     c.if-number-entries-eq0.true fit (path_next pre.3 pre.4) in
     record { value = rw c.number-e.ensures at c.plain_row.ensures ∙ sym all; within = within_to _ c.plain_row.ensures fit }
 
-pub seek_entries-is_big-big-requires : goal.seek_entries-is_big-big-requires
-seek_entries-is_big-big-requires t c =
-    omega (arith, head_there c.requires.0.block)
-
-pub seek_entries-loop-due-init : goal.seek_entries-loop-due-init
-seek_entries-loop-due-init t c =
-    let pre = c.requires in (
-      pre.0,
-      pre.1.short,
-      pre.1.inside,
-      path_next pre.3 pre.4,
-      c.is_big-big.ensures,
-      omega (arith, c.groups_in-groups.ensures, pre.2.less),
-      omega (arith, c.datas_in-datas.ensures),
-      rw (c.no_spot-spot.ensures, c.turn_of-turn.ensures, c.number-e.ensures) refl,
-    )
-
 pub seek_entries-returns-then-t-at : goal.seek_entries-returns-then-t-at
 seek_entries-returns-then-t-at t c =
     let both = ends_refused _ _ c.refuse_row.ensures
@@ -117,11 +66,6 @@ seek_entries-returns-then-t-at t c =
     (c.loop-due.invariant.7 ∙ entry_short_on c.args.p.now.now _ _ _ _ _ _ _ _ _ _ _ _ _ c.loop-due-test.true
     (omega arith))) in
     record { value = both.0; within = both.1 }
-
-pub seek_entries-inner_row-inside-requires : goal.seek_entries-inner_row-inside-requires
-seek_entries-inner_row-inside-requires t c =
-    let inv = c.loop-due.invariant in
-    (omega arith, (inv.0, record { short = inv.1; inside = omega arith }, inv.5, inv.3))
 
 pub seek_entries-returns-in_default : goal.seek_entries-returns-in_default
 seek_entries-returns-in_default t c =
@@ -181,12 +125,6 @@ seek_entries-returns t c =
 
 -- ---- the group that a step leads to
 
-pub seek_group-pass_row-requires : goal.seek_group-pass_row-requires
-seek_group-pass_row-requires t c =
-    let opened = c.open_row.ensures in
-    let pre = c.requires in
-    (rw c.number-after.ensures opened.rest, pre.3, omega arith, pre.4, head_there opened.first.block)
-
 pub seek_group-returns-then-v-number : goal.seek_group-returns-then-v-number
 seek_group-returns-then-v-number t c =
     let both = ends_walked _ _ _ _ _ (rw c.no_spot.ensures at c.found_at.ensures)
@@ -194,26 +132,6 @@ seek_group-returns-then-v-number t c =
     (group_absent c.args.p.now.now _ _ _ _ _ _ _ _ _ _ c.open_row.ensures.tree _ _ _
     (rw c.number.ensures at c.if-v-number.true)) in
     record { value = both.0; within = both.1 }
-
-pub seek_group-overflow_sub-depth : goal.seek_group-overflow_sub-depth
-seek_group-overflow_sub-depth t c =
-    omega (arith, c.open_row.ensures.deep)
-
-pub seek_group-open_group-requires : goal.seek_group-open_group-requires
-seek_group-open_group-requires t c =
-    let pre = c.requires in
-    (c.open_row.ensures.first, pre.3.short, pre.3.inside, c.need.ensures)
-
-pub seek_group-dimension_size-requires : goal.seek_group-dimension_size-requires
-seek_group-dimension_size-requires t c =
-    let block = c.open_row.ensures.first.block in
-    (head_there block, block.sized)
-
-pub seek_group-overflow_add-start : goal.seek_group-overflow_add-start
-seek_group-overflow_add-start t c =
-    let good = group_good _ _ _ _ _ _ _ _ _
-    (inv_open _ _ (sym c.in-Of.is ∙ c.open_group.ensures)) in
-    omega (arith, good.fits, c.dimension_size.ensures, c.requires.3.short)
 
 pub seek_group-seek_entries-inside-requires : goal.seek_group-seek_entries-inside-requires
 seek_group-seek_entries-inside-requires t c =
@@ -238,10 +156,6 @@ seek_group-returns-in_default t c =
     (sym c.in-Of.is ∙ c.open_group.ensures) _
     (sym c.in_default.is ∙ rw c.dimension_size.ensures at c.seek_entries-inside.ensures.value)) in
     record { value = both.0; within = both.1 }
-
-pub seek_group-overflow_sub-n-in-Of : goal.seek_group-overflow_sub-n-in-Of
-seek_group-overflow_sub-n-in-Of t c =
-    omega (arith, c.requires.1)
 
 pub seek_group-pass_row-requires-in-Of : goal.seek_group-pass_row-requires-in-Of
 seek_group-pass_row-requires-in-Of t c =
@@ -274,16 +188,6 @@ seek_group-returns-in-To t c =
     record { value = both.0; within = both.1 }
 
 -- ---- the row of a block
-
-pub seek_row-walk_row-requires : goal.seek_row-walk_row-requires
-seek_row-walk_row-requires t c =
-    let pre = c.requires in (
-      rw (c.number-first.ensures, c.number-n.ensures) pre.0.row,
-      pre.1,
-      omega arith,
-      pre.2,
-      head_there pre.0.block,
-    )
 
 pub seek_row-returns-then-n-g : goal.seek_row-returns-then-n-g
 seek_row-returns-then-n-g t c =
