@@ -16,7 +16,6 @@ use Rattle.layout.specs.Reading.{has_element}
 use Rattle.layout.specs.Values.{Values, element_of, group_of, nil}
 use Rattle.layout.specs.declared.Answer.{Answer}
 use Rattle.layout.specs.declared.Element.{Element}
-use Rattle.layout.specs.declared.Element.TheVariants as Element
 use Rattle.layout.specs.declared.Refusal.{Refusal}
 use Rattle.layout.specs.declared.Answer.TheVariants.{Absent, Group, Octets}
 use Rattle.layout.proofs.Results.{and_right, done_inj, inv_bind, inv_both, inv_must}

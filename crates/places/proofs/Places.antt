@@ -3,7 +3,7 @@ use mathlib.Core.Path.{◌∙◌, ◌≡◌, refl}
 use mathlib.Core.List.{List, [], ◌∷◌}
 use Prim.Native.Nat.{ℕ, zero, suc, ◌+◌, ◌-◌, ◌≤◌, ◌<◌}
 use native.Mathlib.Omega.{arith}
-use lib.ListN.{drop, get_or, length}
+use lib.ListN.{length}
 use Rattle.layout.specs.Book.{more, none}
 use Rattle.layout.specs.Reading.{steps_of}
 use Rattle.layout.specs.BookRules.{word}
