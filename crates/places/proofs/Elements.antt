@@ -16,7 +16,6 @@ use Rattle.layout.specs.Reading.{has_element}
 use Rattle.layout.specs.Values.{Values, element_of, group_of, nil}
 use Rattle.layout.specs.declared.Answer.{Answer}
 use Rattle.layout.specs.declared.Element.{Element}
-use Rattle.layout.specs.declared.Element.TheVariants as Element
 use Rattle.layout.specs.declared.Refusal.{Refusal}
 use Rattle.layout.specs.declared.Answer.TheVariants.{Absent, Group, Octets}
 use Rattle.layout.proofs.Results.{and_right, done_inj, inv_bind, inv_both, inv_must}
@@ -54,7 +53,7 @@ not_refused r f h z e =
 pub field_in : (big : Bool) (m : List ℕ) (v at : ℕ) (p : List ℕ) (n k f : ℕ) → k < n
     → get_or (map (read_field big m v at) (parse_fields (lists_at p) p n f)) k Absent
     ≡ read_field big m v at (field_at p (f + 7 * k))
-unfolding parse_fields get_or map
+unfolding parse_fields
 field_in big m v at p zero k f h = absurd (omega arith)
 field_in big m v at p (suc n) zero f h = let q : f + 7 * 0 ≡ f = omega arith in rw q refl
 field_in big m v at p (suc n) (suc k) f h =
@@ -164,7 +163,7 @@ module _ (big : Bool) (m : List ℕ) (v : ℕ) (p : List ℕ) where
 
   data_from : (n k a at : ℕ) (r : List Answer × ℕ) → k < n → read_datas big m v (parse_datas p n a) 0 at ≡ done r
       → DataFrom k a at r
-  unfolding read_datas parse_datas get_or
+  unfolding read_datas parse_datas
   data_from zero k a at r less h = absurd (omega arith)
   data_from (suc n) zero a at r less h =
       let d = inv_both _ _ _ _ h in

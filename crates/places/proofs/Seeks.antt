@@ -105,9 +105,9 @@ found_within m at own (Walked.TheVariants.To x k) s b = b.1
 found_within m at own (Walked.TheVariants.Refused z) s b = tt
 
 pub ends_walked : {all r : Row} {w : Walked} (m : List ℕ) (at own : ℕ) (q : Result (Values × ℕ)) (s : Spot)
-    → r ≡ found_at w s → (w ≡ walked (values_end 0) q) × Bounded m at own w → all ≡ rowed q s → Answers m all r
-ends_walked {w = w} m at own q s e b h =
-    rw e (ap (λ w. found_at w s) b.0 ∙ told_found 0 q s ∙ sym h, found_within m at own w s b.1)
+    → r ≡ found_at w s → w ≡ walked (values_end 0) q → Bounded m at own w → all ≡ rowed q s → Answers m all r
+ends_walked {w = w} m at own q s e is b h =
+    rw e (ap (λ w. found_at w s) is ∙ told_found 0 q s ∙ sym h, found_within m at own w s b)
 
 -- ---- a row and n surplus groups, after its first g groups
 
