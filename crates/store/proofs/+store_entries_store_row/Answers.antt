@@ -15,15 +15,15 @@ use Rattle.store.proofs.+store_entries_store_row.Goals as goal
 pub store_entries-overflow_add-follow : goal.store_entries-overflow_add-follow
 store_entries-overflow_add-follow t c =
     let pre = c.requires in
-    omega (arith, c.number.ensures, some_follow pre.0.0.block, pre.0.2)
+    omega (arith, c.number.ensures, some_follow pre.block_at.0.block, pre.block_at.2)
 
 pub store_entries-loop-due-init : goal.store_entries-loop-due-init
 store_entries-loop-due-init t c =
     let pre = c.requires in
     rw (c.groups_in-groups.ensures, c.datas_in-datas.ensures) (
-      (pre.0.0, pre.0.1, rw c.number.ensures refl, refl, refl),
-      pre.1.1,
-      going_none pre.1.0,
+      (pre.block_at.0, pre.block_at.1, rw c.number.ensures refl, refl, refl),
+      pre.lent,
+      going_none pre.room,
     )
 
 pub store_entries-store_fields-here-requires : goal.store_entries-store_fields-here-requires
@@ -31,11 +31,11 @@ store_entries-store_fields-here-requires t c =
     let inv = c.loop-due.invariant in
     let block = inv.0.0.block in
     let o = entry_open _ _ _ _ _ _ _ _ _ _ c.loop-due-test.true inv.2.room.whole in
-    let both = (
-      (block, fields_fit_lem _ _ _ _ _ _ _ _ (and_right _ _ block.good) (omega arith) inv.0.1 o.within),
-      ((inv.1.short, o.within), going_first inv.2 _ o.same),
-    ) in
-    record { block = both.0;  m_len_bound = both.1;  room = both.2 }
+    record {
+      block = (block, fields_fit_lem _ _ _ _ _ _ _ _ (and_right _ _ block.good) (omega arith) inv.0.1 o.within);
+      m_len_bound = (inv.1.short, o.within);
+      room = going_first inv.2 _ o.same;
+    }
 
 -- The block has neither groups nor data: its fields are all of it.
 pub store_entries-loop-due-preserved-then-follow-eq0 : goal.store_entries-loop-due-preserved-then-follow-eq0
@@ -60,10 +60,10 @@ store_entries-store_row-row-requires t c =
     let o = entry_open _ _ _ _ _ _ _ _ _ _ c.loop-due-test.true inv.2.room.whole in
     let fields = going_call inv.2 _ o.same c.store_fields-here.ensures.stored in (
       omega (arith, c.decreases),
-      (
-        (inv.0.0, record { short = inv.1.short; inside = c.store_fields-here.ensures.at_in_bounds }),
-        going_first fields _ refl,
-      ),
+      record {
+        block_at = (inv.0.0, record { short = inv.1.short; inside = c.store_fields-here.ensures.at_in_bounds });
+        room = going_first fields _ refl;
+      },
     )
 
 pub store_entries-store_datas-here-requires : goal.store_entries-store_datas-here-requires
@@ -92,9 +92,9 @@ store_entries-returns t c =
 pub store_row-loop-left-init : goal.store_row-loop-left-init
 store_row-loop-left-init t c =
     let pre = c.requires in
-    let block = pre.0.0.block in
+    let block = pre.block_at.0.block in
     rw (c.number-g.ensures, c.number-left.ensures)
-    (pre.0.0.row, pre.0.1, going_none pre.1, head_there block, block.sized)
+    (pre.block_at.0.row, pre.block_at.1, going_none pre.room, head_there block, block.sized)
 
 pub store_row-store_answer-here-requires : goal.store_row-store_answer-here-requires
 store_row-store_answer-here-requires t c =
@@ -159,13 +159,11 @@ store_row-store_entries-here-requires t c =
     let is-put = rw c.dimension_size.ensures at c.store_answer-inside.ensures in
     let entries = going_call inv.2 _ here.same is-put in (
       omega (arith, opened.deep, c.decreases),
-      (
-        (opened.first, here.good.enough, here.good.less),
-        (
-          going_first entries _ refl,
-          record { short = inv.1.short; inside = omega (arith, is-put.place, here.good.fits) },
-        ),
-      ),
+      record {
+        block_at = (opened.first, here.good.enough, here.good.less);
+        room = going_first entries _ refl;
+        lent = record { short = inv.1.short; inside = omega (arith, is-put.place, here.good.fits) };
+      },
     )
 
 pub store_row-loop-left-preserved : goal.store_row-loop-left-preserved

@@ -15,7 +15,7 @@ pub loop-left-init : goal.loop-left-init
 loop-left-init c =
     let pre = c.requires in
     rw (c.number-left.ensures, c.number-t.ensures)
-    (pre.0.0, omega arith, omega arith, omega arith, pre.0.1, c.has_lists-listed.ensures, going_none pre.1.1)
+    (pre.block.0, omega arith, omega arith, omega arith, pre.block.1, c.has_lists-listed.ensures, going_none pre.room)
 
 pub store_field-n-requires : goal.store_field-n-requires
 store_field-n-requires c =
