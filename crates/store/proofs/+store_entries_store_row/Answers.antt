@@ -60,10 +60,10 @@ store_entries-store_row-row-requires t c =
     let o = entry_open _ _ _ _ _ _ _ _ _ _ c.loop-due-test.true inv.2.room.whole in
     let fields = going_call inv.2 _ o.same c.store_fields-here.ensures.stored in (
       omega (arith, c.decreases),
-      record {
-        block_at = (inv.0.0, record { short = inv.1.short; inside = c.store_fields-here.ensures.at_in_bounds });
-        room = going_first fields _ refl;
-      },
+      (
+        (inv.0.0, record { short = inv.1.short; inside = c.store_fields-here.ensures.at_in_bounds }),
+        going_first fields _ refl,
+      ),
     )
 
 pub store_entries-store_datas-here-requires : goal.store_entries-store_datas-here-requires
@@ -159,11 +159,13 @@ store_row-store_entries-here-requires t c =
     let is-put = rw c.dimension_size.ensures at c.store_answer-inside.ensures in
     let entries = going_call inv.2 _ here.same is-put in (
       omega (arith, opened.deep, c.decreases),
-      record {
-        block_at = (opened.first, here.good.enough, here.good.less);
-        room = going_first entries _ refl;
-        lent = record { short = inv.1.short; inside = omega (arith, is-put.place, here.good.fits) };
-      },
+      (
+        (opened.first, here.good.enough, here.good.less),
+        (
+          going_first entries _ refl,
+          record { short = inv.1.short; inside = omega (arith, is-put.place, here.good.fits) },
+        ),
+      ),
     )
 
 pub store_row-loop-left-preserved : goal.store_row-loop-left-preserved

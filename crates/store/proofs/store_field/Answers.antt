@@ -27,10 +27,10 @@ leads : (p : List ℕ) (f t : ℕ) {x : ℕ} → IsField p f t → x ≡ word p 
 leads p f t field e = rw e field.derived.names
 
 -- What was read is, beside the field's list, what the field is.
-seen : {p : List ℕ} {f t : ℕ} {m : List ℕ} {v at : ℕ} {a : Answer} → IsField p f t
+seen : {p : List ℕ} {f t : ℕ} (m : List ℕ) (v at : ℕ) {a : Answer} → IsField p f t
     → a ≡ read_field (is_big p) m v at (plain (field_at p f))
     → beside (field_at p f).names a ≡ read_field (is_big p) m v at (field_at p f)
-seen field is = field_beside _ _ _ _ _ _ _ _ field is _ (rw field.derived.names.names refl)
+seen m v at field is = field_beside _ _ _ _ _ _ _ _ field is _ (rw field.derived.names.names refl)
 
 pub returns-then-not-listed : goal.returns-then-not-listed
 returns-then-not-listed c =
@@ -49,7 +49,7 @@ returns-then-list-eq0 c =
 pub returns-then-room-n-ne0 : goal.returns-then-room-n-ne0
 returns-then-room-n-ne0 c =
     record_stored _ _ _ c.put.ensures
-    (no_number (held c.requires.2 c.put.ensures) _ c.if-room-n-ne0.true ∙ seen c.requires.0.field c.read_plain.ensures)
+    (no_number (held c.requires.2 c.put.ensures) _ c.if-room-n-ne0.true ∙ seen _ _ _ c.requires.0.field c.read_plain.ensures)
 
 pub has-requires : goal.has-requires
 has-requires c =
@@ -61,7 +61,7 @@ returns-then-has c =
     let names = names_here (leads _ _ _ field c.number-list.ensures) c.if-list-eq0.false in
     record_stored _ _ _ c.put.ensures
     (is_listed_lem (held c.requires.2 c.put.ensures) c.if-room-n-ne0.false _ (rw names (sym c.has.ensures ∙ c.if-has.true))
-    ∙ seen field c.read_plain.ensures)
+    ∙ seen _ _ _ field c.read_plain.ensures)
 
 pub returns : goal.returns
 returns c =
@@ -70,4 +70,4 @@ returns c =
     let first = held c.requires.2 c.put.ensures in
     record_stored _ _ _ (c.put-2.ensures ∙ stored_anew first _)
     (is_unlisted first c.if-room-n-ne0.false _ (rw names (sym c.has.ensures ∙ c.if-has.false))
-    ∙ seen field c.read_plain.ensures)
+    ∙ seen _ _ _ field c.read_plain.ensures)
