@@ -31,7 +31,7 @@ returns-then-listing-i-eq1 c =
 pub returns-then-value-wrapping_sub_u64 : goal.returns-then-value-wrapping_sub_u64
 unfolding ◌and◌
 returns-then-value-wrapping_sub_u64 c =
-    sym (number_is _ _ _ _ _ c.requires.0 c.if-listing-i-eq1.false (omega arith) c.wrapping_sub_u64.ensures.value
+    sym (number_is c.args.listing.now c.args.i _ _ _ c.requires.0 c.if-listing-i-eq1.false (omega arith) c.wrapping_sub_u64.ensures.value
     c.value-2.ensures c.value.ensures ∙ rw (lt-leb _ _ c.if-value-wrapping_sub_u64.true) refl)
 
 -- A book without lists.
@@ -39,7 +39,7 @@ pub returns-then-not-listed : goal.returns-then-not-listed
 unfolding ◌and◌ is_listed
 returns-then-not-listed c =
     let pre = c.requires in
-    sym (number_is _ _ _ _ _ pre.0 c.if-listing-i-eq1.false (omega arith) c.wrapping_sub_u64.ensures.value c.value-2.ensures
+    sym (number_is c.args.listing.now c.args.i _ _ _ pre.0 c.if-listing-i-eq1.false (omega arith) c.wrapping_sub_u64.ensures.value c.value-2.ensures
     c.value.ensures
     ∙ rw (le-leb _ _ c.if-value-wrapping_sub_u64.false, no_lists pre.0 (sym pre.1 ∙ c.if-not-listed.true)) refl)
 
@@ -47,7 +47,7 @@ pub returns-then-list-eq0 : goal.returns-then-list-eq0
 unfolding ◌and◌ is_listed
 returns-then-list-eq0 c =
     let field = c.requires.0 in
-    sym (number_is _ _ _ _ _ field c.if-listing-i-eq1.false (omega arith) c.wrapping_sub_u64.ensures.value c.value-2.ensures
+    sym (number_is c.args.listing.now c.args.i _ _ _ field c.if-listing-i-eq1.false (omega arith) c.wrapping_sub_u64.ensures.value c.value-2.ensures
     c.value.ensures
     ∙ rw (le-leb _ _ c.if-value-wrapping_sub_u64.false, names_free (leads _ _ _ field c.number-list.ensures) c.if-list-eq0.true)
     refl)
@@ -60,7 +60,7 @@ pub returns : goal.returns
 unfolding ◌and◌
 returns c =
     let field = c.requires.0 in
-    c.has.ensures ∙ sym (number_is _ _ _ _ _ field c.if-listing-i-eq1.false (omega arith) c.wrapping_sub_u64.ensures.value
+    c.has.ensures ∙ sym (number_is c.args.listing.now c.args.i _ _ _ field c.if-listing-i-eq1.false (omega arith) c.wrapping_sub_u64.ensures.value
     c.value-2.ensures c.value.ensures
     ∙ rw (le-leb _ _ c.if-value-wrapping_sub_u64.false, names_here (leads _ _ _ field c.number-list.ensures) c.if-list-eq0.false)
     refl)
