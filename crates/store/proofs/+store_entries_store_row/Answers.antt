@@ -72,7 +72,7 @@ store_entries-store_datas-here-requires t c =
     let o = entry_open _ _ _ _ _ _ _ _ _ _ c.loop-due-test.true inv.2.room.whole in
     let fields = going_call inv.2 _ o.same c.store_fields-here.ensures.stored in
     let groups = going_call fields _ refl (c.store_row-row.ensures.stored) in
-    record { block = (inv.0.0.block, record { short = inv.1.short; inside = c.store_row-row.ensures.at_in_bounds });  room = going_first groups _ refl }
+    record { block = (inv.0.0.block, record { short = inv.1.short; inside = c.store_row-row.ensures.at_in_bounds }); room = going_first groups _ refl }
 
 pub store_entries-loop-due-preserved : goal.store_entries-loop-due-preserved
 store_entries-loop-due-preserved t c =
@@ -87,7 +87,7 @@ store_entries-loop-due-preserved t c =
 
 pub store_entries-returns : goal.store_entries-returns
 store_entries-returns t c =
-    record { stored = going_end c.loop-due.invariant.2 (stored_none (entries_end _ _ _ _ _ _ _ _ _ _ c.loop-due-test.false));  at_in_bounds = c.loop-due.invariant.1.inside }
+    record { stored = going_end c.loop-due.invariant.2 (stored_none (entries_end _ _ _ _ _ _ _ _ _ _ c.loop-due-test.false)); at_in_bounds = c.loop-due.invariant.1.inside }
 
 pub store_row-loop-left-init : goal.store_row-loop-left-init
 store_row-loop-left-init t c =
@@ -122,9 +122,12 @@ store_row-overflow_sub-depth t c =
     omega (arith, c.open_row.ensures.deep)
 
 pub store_row-entries_of-entries-requires : goal.store_row-entries_of-entries-requires
-store_row-entries_of-entries-requires t c =
-    (c.open_row.ensures.first, c.loop-left.invariant.1.short, (group_is_open _ _ _ _ _ _ _ _ _ (c.open_row.ensures.tree) (c.loop-left.invariant.2.room.whole)
-    (rw c.number.ensures at c.if-v-number.false)))
+store_row-entries_of-entries-requires t c = (
+  c.open_row.ensures.first,
+  c.loop-left.invariant.1.short,
+  (group_is_open _ _ _ _ _ _ _ _ _ (c.open_row.ensures.tree) (c.loop-left.invariant.2.room.whole)
+      (rw c.number.ensures at c.if-v-number.false)),
+)
 
 pub store_row-dimension_size-requires : goal.store_row-dimension_size-requires
 store_row-dimension_size-requires t c =
@@ -133,8 +136,13 @@ store_row-dimension_size-requires t c =
 pub store_row-overflow_add-start : goal.store_row-overflow_add-start
 store_row-overflow_add-start t c =
     let inv = c.loop-left.invariant in
-    omega (arith, c.dimension_size.ensures, ((group_open _ _ _ _ _ _ _ _ _ (c.open_row.ensures.tree) (c.loop-left.invariant.2.room.whole)
-    (rw c.number.ensures at c.if-v-number.false) _ c.entries_of-entries.ensures)).good.fits, inv.1.short)
+    omega (
+      arith,
+      c.dimension_size.ensures,
+      ((group_open _ _ _ _ _ _ _ _ _ (c.open_row.ensures.tree) (c.loop-left.invariant.2.room.whole)
+          (rw c.number.ensures at c.if-v-number.false) _ c.entries_of-entries.ensures)).good.fits,
+      inv.1.short,
+    )
 
 pub store_row-store_answer-inside-requires : goal.store_row-store_answer-inside-requires
 store_row-store_answer-inside-requires t c =
@@ -196,4 +204,4 @@ store_row-returns t c =
     let end = c.pass_groups.ensures in
     let past = skip_stored _ (groups_end_lem _ _ _ _ _ _ _ (no_groups_at _ _ _ _ c.loop-left-test.false))
     inv.2.room.whole end.0 in
-    record { stored = going_end inv.2 past;  at_in_bounds = end.1 }
+    record { stored = going_end inv.2 past; at_in_bounds = end.1 }

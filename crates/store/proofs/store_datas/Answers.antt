@@ -86,4 +86,4 @@ returns c =
     let end = rw inv.3 at c.pass_datas.ensures in
     let past = skip_stored _ (datas_end_lem _ _ _ _ _ _ (no_datas_at _ _ _ c.loop-left-test.false)) inv.2.room.whole
     end.0 in
-    record { stored = going_end inv.2 past;  at_in_bounds = end.1 }
+    record { stored = going_end inv.2 past; at_in_bounds = end.1 }

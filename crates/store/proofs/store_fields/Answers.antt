@@ -43,4 +43,4 @@ loop-left-preserved c =
 
 pub returns : goal.returns
 returns c =
-    record { stored = going_end c.loop-left.invariant.6 (stored_none (fields_end_lem _ _ _ _ _ _ _ _ c.loop-left-test.false));  at_in_bounds = omega arith }
+    record { stored = going_end c.loop-left.invariant.6 (stored_none (fields_end_lem _ _ _ _ _ _ _ _ c.loop-left-test.false)); at_in_bounds = omega arith }
