@@ -85,7 +85,7 @@ wider low high low' high' (refused n p) l h q = omega arith
 rows_refuse : (low at : ℕ) (rows : List ContentsRow) → Refuses 1 4 (contents_end low at rows)
 unfolding contents_end
 rows_refuse low at [] = refuses_done 1 4 _
-rows_refuse low at (r ∷ rs) = refuses_unless 1 4 _ 3 0 _ (omega arith) λ _. rows_refuse _ _ rs
+rows_refuse low at (r ∷ rs) = refuses_unless 1 4 _ 3 0 _ (omega arith) λ _. rows_refuse (suc r.id) (at + r.words) rs
 
 contents_refuse : (b : List ℕ) → Refuses 1 4 (check_contents b)
 unfolding check_contents

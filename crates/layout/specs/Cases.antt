@@ -1,8 +1,7 @@
--- The cases that document 01 marks P, and some of name lists, of text, of the order and of rule 7: one table, one
--- theorem, which the checker computes.
-use Rattle.std.specs.Prelude.{◌≡◌, refl, Bool, true, false, List, [], ◌∷◌, ◌++◌, map, ℕ, ◌+◌, ◌-◌, ◌/◌, ◌%◌, ◌^◌, take, set, length}
-use Rattle.layout.specs.All.{all}
-use Rattle.layout.specs.Result.{Result, ◌>>=◌, ◌and◌, done, if◌then◌else◌, refused}
+-- The cases that document 01 marks P, and some of name lists, of text, of the order and of rule 7: one table. One theorem
+-- of proofs/Worked.antt, which the checker computes, says that they hold.
+use Rattle.std.specs.Prelude.{Bool, true, false, List, [], ◌∷◌, ◌++◌, ℕ, ◌+◌, ◌-◌, ◌/◌, ◌%◌, ◌^◌, take, set, length}
+use Rattle.layout.specs.Result.{Result, ◌>>=◌, done, refused}
 use Rattle.layout.specs.Octets.{number_at}
 use Rattle.layout.specs.Types.{TypeRow, type_at, value_of, classify}
 use Rattle.layout.specs.Values.{record_of}
@@ -129,11 +128,6 @@ type_table =
     row width signed least greatest null =
         record { width = width; signed = signed; least = least; greatest = greatest; null = null }
 
--- Its nine rows are what the rule gives for the types 0 to 8.
-pub nine_rows : map type_at (0 ∷ 1 ∷ 2 ∷ 3 ∷ 4 ∷ 5 ∷ 6 ∷ 7 ∷ 8 ∷ []) ≡ type_table
-unfolding type_at if◌then◌else◌ ◌and◌
-nine_rows = refl
-
 -- Two texts of four octets, the second optional, and a message of them.
 abbrev pub book_t : List ℕ
 book_t =
@@ -228,7 +222,3 @@ table =
     ∷ (listed (long_book 4 65514) [] says refused 7 0)
     ∷ (listed (with16 (long_book 2 65518) 30 1) [] says refused 6 0)
     ∷ []
-
-pub all_hold : map (λ (r : Row). answer r.case) table ≡ map (λ (r : Row). r.says) table
-unfolding all table
-all_hold = refl

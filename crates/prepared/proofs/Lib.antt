@@ -8,3 +8,4 @@ pub mod Prepared
 pub mod Ranges
 pub mod Rows
 pub mod Names
+pub mod Worked

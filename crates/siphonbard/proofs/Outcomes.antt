@@ -6,16 +6,26 @@ use mathlib.Core.Path.{◌≡◌, ◌∙◌, ap, refl, sym}
 use contract.Lifetimes.{Lfts}
 use denote.Triple.Clauses.{AtExit, Ended, Lasts, at_exit}
 use denote.Triple.Entry.{Args, Res}
-use Rattle.siphonbard.proofs.siphonbard_check as check
-use Rattle.siphonbard.proofs.siphonbard_check_book as check-book
-use Rattle.siphonbard.proofs.siphonbard_list as list
-use Rattle.siphonbard.proofs.siphonbard_place as place
-use Rattle.siphonbard.proofs.siphonbard_prepare as prepare
-use Rattle.siphonbard.proofs.siphonbard_stream_check as stream-check
-use Rattle.siphonbard.proofs.siphonbard_stream_list as stream-list
-use Rattle.siphonbard.proofs.siphonbard_stream_place as stream-place
-use Rattle.siphonbard.proofs.siphonbard_stream_write as stream-write
-use Rattle.siphonbard.proofs.siphonbard_write as write
+use Rattle.siphonbard.specs.contracts.siphonbard_check as check
+use Rattle.siphonbard.proofs.siphonbard_check.Reads as check_reads
+use Rattle.siphonbard.specs.contracts.siphonbard_check_book as check_book
+use Rattle.siphonbard.proofs.siphonbard_check_book.Reads as check_book_reads
+use Rattle.siphonbard.specs.contracts.siphonbard_list as list
+use Rattle.siphonbard.proofs.siphonbard_list.Reads as list_reads
+use Rattle.siphonbard.specs.contracts.siphonbard_place as place
+use Rattle.siphonbard.proofs.siphonbard_place.Reads as place_reads
+use Rattle.siphonbard.specs.contracts.siphonbard_prepare as prepare
+use Rattle.siphonbard.proofs.siphonbard_prepare.Reads as prepare_reads
+use Rattle.siphonbard.specs.contracts.siphonbard_stream_check as stream_check
+use Rattle.siphonbard.proofs.siphonbard_stream_check.Reads as stream_check_reads
+use Rattle.siphonbard.specs.contracts.siphonbard_stream_list as stream_list
+use Rattle.siphonbard.proofs.siphonbard_stream_list.Reads as stream_list_reads
+use Rattle.siphonbard.specs.contracts.siphonbard_stream_place as stream_place
+use Rattle.siphonbard.proofs.siphonbard_stream_place.Reads as stream_place_reads
+use Rattle.siphonbard.specs.contracts.siphonbard_stream_write as stream_write
+use Rattle.siphonbard.proofs.siphonbard_stream_write.Reads as stream_write_reads
+use Rattle.siphonbard.specs.contracts.siphonbard_write as write
+use Rattle.siphonbard.proofs.siphonbard_write.Reads as write_reads
 
 -- An outcome is a reply, and for each buffer that may be stored to what is left in it.
 module _ (f : Ended)
@@ -31,39 +41,39 @@ module _ (f : Ended)
 
 -- ---- any octets whatever
 
-pub siphonbard_check_book_has_one_outcome : OneOutcome check-book.ended check-book.Reads.Post
+pub siphonbard_check_book_has_one_outcome : OneOutcome check_book.ended check_book_reads.Post
 siphonbard_check_book_has_one_outcome κs args r r' left left' c c' = (c ∙ sym c', refl)
 
-pub siphonbard_prepare_has_one_outcome : OneOutcome prepare.ended prepare.Reads.Post
+pub siphonbard_prepare_has_one_outcome : OneOutcome prepare.ended prepare_reads.Post
 siphonbard_prepare_has_one_outcome κs args r r' left left' c c' =
     (c.reply ∙ sym c'.reply, ap (λ room. (tt, (room, tt))) (c.room ∙ sym c'.room))
 
-pub siphonbard_check_has_one_outcome : OneOutcome check.ended check.Reads.Post
+pub siphonbard_check_has_one_outcome : OneOutcome check.ended check_reads.Post
 siphonbard_check_has_one_outcome κs args r r' left left' c c' = (c ∙ sym c', refl)
 
-pub siphonbard_list_has_one_outcome : OneOutcome list.ended list.Reads.Post
+pub siphonbard_list_has_one_outcome : OneOutcome list.ended list_reads.Post
 siphonbard_list_has_one_outcome κs args r r' left left' c c' =
     (c.reply ∙ sym c'.reply, ap (λ room. (tt, (tt, (room, tt)))) (c.room ∙ sym c'.room))
 
-pub siphonbard_place_has_one_outcome : OneOutcome place.ended place.Reads.Post
+pub siphonbard_place_has_one_outcome : OneOutcome place.ended place_reads.Post
 siphonbard_place_has_one_outcome κs args r r' left left' c c' = (c ∙ sym c', refl)
 
-pub siphonbard_write_has_one_outcome : OneOutcome write.ended write.Reads.Post
+pub siphonbard_write_has_one_outcome : OneOutcome write.ended write_reads.Post
 siphonbard_write_has_one_outcome κs args r r' left left' c c' =
     (c.reply ∙ sym c'.reply, ap (λ room. (tt, (tt, (tt, (tt, (room, tt)))))) (c.room ∙ sym c'.room))
 
 -- ---- streams
 
-pub siphonbard_stream_check_has_one_outcome : OneOutcome stream-check.ended stream-check.Reads.Post
+pub siphonbard_stream_check_has_one_outcome : OneOutcome stream_check.ended stream_check_reads.Post
 siphonbard_stream_check_has_one_outcome κs args r r' left left' c c' = (c ∙ sym c', refl)
 
-pub siphonbard_stream_list_has_one_outcome : OneOutcome stream-list.ended stream-list.Reads.Post
+pub siphonbard_stream_list_has_one_outcome : OneOutcome stream_list.ended stream_list_reads.Post
 siphonbard_stream_list_has_one_outcome κs args r r' left left' c c' =
     (c.reply ∙ sym c'.reply, ap (λ room. (tt, (tt, (room, tt)))) (c.room ∙ sym c'.room))
 
-pub siphonbard_stream_place_has_one_outcome : OneOutcome stream-place.ended stream-place.Reads.Post
+pub siphonbard_stream_place_has_one_outcome : OneOutcome stream_place.ended stream_place_reads.Post
 siphonbard_stream_place_has_one_outcome κs args r r' left left' c c' = (c ∙ sym c', refl)
 
-pub siphonbard_stream_write_has_one_outcome : OneOutcome stream-write.ended stream-write.Reads.Post
+pub siphonbard_stream_write_has_one_outcome : OneOutcome stream_write.ended stream_write_reads.Post
 siphonbard_stream_write_has_one_outcome κs args r r' left left' c c' =
     (c.reply ∙ sym c'.reply, ap (λ room. (tt, (tt, (tt, (tt, (room, tt)))))) (c.room ∙ sym c'.room))

@@ -1,8 +1,0 @@
--- Each arm is the test by its first half.
-use Rattle.layout.specs.Result.{◌and◌}
-use Rattle.book.proofs.both.Statement.{statement}
-use Rattle.book.proofs.both.Tie as tie
-
-pub both-spec : {M : Type 1} → statement M
-unfolding ◌and◌
-both-spec = tie.close (tie.spec (λ c. simp c.if1.true) (λ c. simp c.if1.false))

@@ -1,0 +1,7 @@
+-- The law itself.
+use Rattle.prepare.proofs.Rows.{open_row}
+use Rattle.prepare.proofs.open_row.Goals as goal
+
+pub returns : goal.returns
+returns c =
+    open_row _ _ _ _ c.requires.1 c.requires.0

@@ -1,0 +1,75 @@
+-- Each way out is one law on what the judging came to.
+use mathlib.Core.Path.{◌∙◌, sym, refl}
+use Prim.Native.Nat.{◌+◌, ◌≤◌}
+use native.Mathlib.Omega.{arith}
+use lib.ListN.{length}
+use lib.Seq.{length-take-le}
+use Rattle.stream.proofs.Slices.{anew}
+use Rattle.stream.proofs.Writing.{IsGood, write_done, write_fits, write_full, write_long}
+use Rattle.stream.proofs.Writing.{write_ready, write_refused, write_small}
+use Rattle.stream.proofs.write_by.Goals as goal
+use Rattle.stream.proofs.write_by.Goals.{After-put_zeros, In-To}
+
+start : tie.After-judge-listing → tie.Start
+start c = c.before.before.before.before.before.before.before.before.before.before.before
+
+good : (c : In-To) → let a = (start c.After-judge_listing).args in
+    IsGood a.p.now a.a a.listing.now a.pool.now a.room.now c.in-To.next
+    c.in-To.length
+good c =
+    record {
+      block = (start c.After-judge_listing).requires;
+      is = sym c.in-To.is ∙ c.judge_listing.ensures ∙ simp anew;
+    }
+
+told_of : tie.After-put-zeros → tie.After-known-told2
+told_of c = c.before.before.before.before
+
+fits : (c : After-put_zeros) → 12 + (told_of c.After-put_zeros).before.length.given.0.1.0 ≤ length c.put_zeros.new.0
+fits c =
+    write_fits (good (told_of c.After-put_zeros)) c.if-n-gt65535.false c.if-room-n.false _
+    c.put_zeros.ensures
+
+pub judge_listing-requires : goal.judge_listing-requires
+judge_listing-requires c =
+    rw anew c.requires
+
+pub overflow_add-n : goal.overflow_add-n
+overflow_add-n c =
+    omega (arith, write_small (good (goal.at.overflow_add-n c).In-To))
+
+pub returns-then-n-gt65535 : goal.returns-then-n-gt65535
+returns-then-n-gt65535 c =
+    rw c.refuse.ensures (write_long (good (goal.at.returns-then-n-gt65535 c).In-To) c.if-n-gt65535.true)
+
+pub returns-then-room-n : goal.returns-then-room-n
+returns-then-room-n c =
+    rw c.refuse-then-room-n.ensures (write_full (good (goal.at.returns-then-room-n c).In-To) c.if-room-n.true)
+
+pub slice_bounds-write_message-end-in-To : goal.slice_bounds-write_message-end-in-To
+slice_bounds-write_message-end-in-To c =
+    sym (length-take-le _ _ (fits (goal.at.slice_bounds-write_message-end-in-To c).After-put_zeros))
+
+pub write_message-requires : goal.write_message-requires
+write_message-requires c =
+    let g = good (told_of (goal.at.write_message-requires c).After-put_zeros) in
+    record { block_at = (simp anew (
+      g.block,
+      write_ready g c.if-n-gt65535.false c.if-room-n.false _
+          c.put_zeros.ensures,
+    )).0;  ready = (simp anew (
+      g.block,
+      write_ready g c.if-n-gt65535.false c.if-room-n.false _
+          c.put_zeros.ensures,
+    )).1 }
+
+pub returns-in-Refused : goal.returns-in-Refused
+returns-in-Refused c =
+    let a = (start (goal.at.returns-in-Refused c).After-judge_listing).args in
+    write_refused a.p.now a.a a.listing.now a.pool.now a.room.now _
+    (sym c.in-Refused.is ∙ c.judge_listing.ensures ∙ simp anew)
+
+pub returns-else-room-n : goal.returns-else-room-n
+returns-else-room-n c =
+    write_done (good (told_of (goal.at.returns-else-room-n c).After-put_zeros)) c.if-n-gt65535.false c.if-room-n.false _
+    c.put_zeros.ensures _ _ (c.write_message.ensures ∙ simp anew) refl
