@@ -2,7 +2,7 @@
  * Siphonbard: checks schema books, checks FIX SBE 1.0 messages by them, answers what the messages say, and writes
  * messages.
  *
- * Link with libsiphonbard.a (`rt staticlib siphonbard` makes it; x86-64, System V). No call allocates, keeps a
+ * Link with libsiphonbard.a (`tools/archive` makes it; x86-64, System V). No call allocates, keeps a
  * pointer or touches memory that it was not lent, its stack aside; so any threads may call at the same time.
  *
  * A buffer is a pointer and the number of its elements. Length 0 is an empty buffer; its pointer is not followed and

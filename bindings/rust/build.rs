@@ -1,5 +1,4 @@
-//! Finds `libsiphonbard.a`: in the folder that SIPHONBARD_LIB_DIR names, else where `rt staticlib siphonbard`
-//! writes it.
+//! Finds `libsiphonbard.a`: in the folder that SIPHONBARD_LIB_DIR names, else where `tools/archive` writes it.
 
 use std::env;
 use std::path::PathBuf;

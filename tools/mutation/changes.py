@@ -17,17 +17,17 @@ VALUE = r"(-?\d+|%[\w.]+)"
 FIRST_STORED_REFUSAL = 10
 # An octet that was not set.
 UNSET = 90
-DECLARED = """
-declare void @llvm.trap()
-declare void @llvm.memset.p0.i64(ptr, i8, i64, i1)
-"""
+DECLARED = {"@llvm.trap(": "declare void @llvm.trap()",
+            "@llvm.memset.p0.i64(": "declare void @llvm.memset.p0.i64(ptr, i8, i64, i1)"}
 
 
 def changed(lines, change):
     """The module's text with the change, and without what only the right code keeps to: that no sum wraps, no match
     falls through and nothing is read before it is set. So changed code does what a processor does."""
     new = [change.edits.get(at, line) for at, line in enumerate(lines)]
-    return "\n".join(loosened(line) if line.startswith(("  ", "define")) else line for line in new) + DECLARED
+    there = [line for line in new if line.startswith("declare")]
+    new += [line for name, line in DECLARED.items() if not any(name in one for one in there)]
+    return "\n".join(loosened(line) if line.startswith(("  ", "define")) else line for line in new) + "\n"
 
 
 def loosened(line):

@@ -1,6 +1,5 @@
 """Tries modules: each is compiled to a shared library, which the test program, linked once, loads and tests."""
 import os
-import platform
 import signal
 import subprocess
 import threading
@@ -23,8 +22,7 @@ class Trials:
     """All that is made is made in the folder."""
 
     def __init__(self, repository, folder):
-        kit = os.path.dirname(os.path.dirname(said("rt", "doc").strip()))
-        self.tools = os.path.join(kit, "on", platform.machine(), "toolchain", "bin")
+        self.tools = os.path.join(os.path.dirname(said("rt", "doc").strip()), "toolchain", "bin")
         self.repository, self.folder, self.seconds = repository, folder, 600
         self.program = os.path.join(folder, "rust", "release", PROGRAM)
 
@@ -36,8 +34,8 @@ class Trials:
         return os.path.join(self.folder, name)
 
     def compile(self, module, to):
-        target = "--target=%s-unknown-linux-gnu" % platform.machine()
-        self.tool("clang", target, "-O1", "-fPIC", "-c", "-x", "ir", "-", "-o", to, input=module)
+        self.tool("clang", "--target=x86_64-unknown-linux-gnu", "-O1", "-fPIC", "-c", "-x", "ir", "-", "-o", to,
+                  input=module)
 
     def library(self, module, name):
         """The folder of that name, with the module's shared library."""

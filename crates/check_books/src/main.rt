@@ -2,43 +2,58 @@
 // for each: `accepted`, or `refused` with number and place. It ends with its input, or after 65,536 books.
 #![tactic(auto)]
 
-use layout::Checked;
-use libc::{STDIN_FILENO, STDOUT_FILENO};
+ghost use Rattle.std.specs.Prelude.{◌≤◌, length};
 
-fn show(book: &[u8]) {
+use layout::Checked;
+use std::io::{Read, Write};
+
+// Reads until `room` is full or the input ends, or fails, which counts as its end: how many octets came.
+fn read_full(input: &mut impl Read, room: &mut [u8]) -> usize
+    ensures { result ≤ length room.new }
+{
+    let mut came = 0;
+    while came < room.len() {
+        match input.read(&mut room[came..]) {
+            Ok(0) => break,
+            Ok(count) => came += count,
+            Err(_) => break,
+        }
+    }
+    came
+}
+
+fn show(output: &mut impl Write, book: &[u8]) {
     match book::check(book) {
         Checked::Accepted => {
-            io::write_all(STDOUT_FILENO, b"accepted\n");
+            let _ = output.write_all(b"accepted\n");
         }
         Checked::Refused(r) => {
-            io::write_all(STDOUT_FILENO, b"refused ");
-            io::print_decimal(STDOUT_FILENO, r.number as u64);
-            io::write_all(STDOUT_FILENO, b" ");
-            io::print_decimal(STDOUT_FILENO, r.place as u64);
-            io::write_all(STDOUT_FILENO, b"\n");
+            let number = r.number;
+            let place = r.place;
+            let _ = writeln!(output, "refused {number} {place}");
         }
     }
 }
 
 // Whether there was another book: it is read into the room and answered.
-fn answer_next(room: &mut [u8]) -> bool {
+fn answer_next(input: &mut impl Read, output: &mut impl Write, room: &mut [u8]) -> bool {
     let mut head = [0u8; 2];
-    if io::read_full(STDIN_FILENO, &mut head) < 2 {
+    if read_full(input, &mut head) < 2 {
         return false;
     }
     let size = octets::get2(&head, 0) as usize;
     if room.len() < size {
         return false;
     }
-    let n = io::read_full(STDIN_FILENO, &mut room[0..size]);
-    show(&room[0..n]);
+    let n = read_full(input, &mut room[0..size]);
+    show(output, &room[0..n]);
     true
 }
 
-fn main() {
-    let mut room = io::large_buffer();
+fn main(rt: HostRuntime) {
+    let mut room = [0u8; 65536];
     for _ in 0..65536usize {
-        if !answer_next(&mut room) {
+        if !answer_next(&mut rt.stdin(), &mut rt.stdout(), &mut room) {
             return;
         }
     }

@@ -6,7 +6,7 @@ ghost use Rattle.std.specs.Prelude.{◌≡◌, ◌+◌, ◌≤◌, length};
 ghost use Rattle.prepared.specs.Books.{IsPrepared};
 
 use layout::{Counted, Refusal};
-use libc::{STDIN_FILENO, STDOUT_FILENO};
+use std::io::{Read, Write};
 
 const SPACE: u8 = 32;
 
@@ -45,14 +45,29 @@ fn put_record(out: &mut [u8], at: usize, numbers: &[u64]) -> usize
     put_number(out, third, numbers[2], NEW_LINE)
 }
 
+// Reads until `room` is full or the input ends, or fails, which counts as its end: how many octets came.
+fn read_full(input: &mut impl Read, room: &mut [u8]) -> usize
+    ensures { result ≤ length room.new }
+{
+    let mut came = 0;
+    while came < room.len() {
+        match input.read(&mut room[came..]) {
+            Ok(0) => break,
+            Ok(count) => came += count,
+            Err(_) => break,
+        }
+    }
+    came
+}
+
 // Writes what `out` has up to `at` where a line may not fit behind it: where the next line goes.
-fn make_room(out: &[u8], at: usize) -> usize
+fn make_room(output: &mut impl Write, out: &[u8], at: usize) -> usize
     requires at_in_bounds { at ≤ length out.now }
     requires in_bounds { 63 ≤ length out.now }
     ensures { result + 63 ≤ length out.now }
 {
     if out.len() - at < 63 {
-        io::write_all(STDOUT_FILENO, &out[0..at]);
+        let _ = output.write_all(&out[0..at]);
         return 0;
     }
     at
@@ -60,77 +75,78 @@ fn make_room(out: &[u8], at: usize) -> usize
 
 // Writes `count` records from the room's start, and never more than the room has. Lines gather in a buffer, so that
 // a write has many of them.
-fn show_records(room: &[u64], count: usize) {
+fn show_records(output: &mut impl Write, room: &[u64], count: usize) {
     let mut out = io::large_buffer();
     let mut at = 0;
     for i in 0..count {
         if room.len() / 3 <= i {
             break;
         }
-        let line = make_room(&out, at);
+        let line = make_room(output, &out, at);
         at = put_record(&mut out, line, &room[3 * i..3 * i + 3]);
     }
-    io::write_all(STDOUT_FILENO, &out[..at]);
+    let _ = output.write_all(&out[..at]);
 }
 
-fn show_refusal(refusal: Refusal) {
+fn show_refusal(output: &mut impl Write, refusal: Refusal) {
     let mut out = [0u8; 42];
     let place = put_number(&mut out, 0, refusal.number as u64, SPACE);
     let end = put_number(&mut out, place, refusal.place as u64, NEW_LINE);
-    io::write_all(STDOUT_FILENO, b"refused ");
-    io::write_all(STDOUT_FILENO, &out[..end]);
+    let _ = output.write_all(b"refused ");
+    let _ = output.write_all(&out[..end]);
 }
 
 // The book's octet count, or 0 where the input ends within it.
-fn read_count() -> usize {
+fn read_count(input: &mut impl Read) -> usize {
     let mut count = [0u8; 2];
-    if io::read_full(STDIN_FILENO, &mut count) < 2 {
+    if read_full(input, &mut count) < 2 {
         return 0;
     }
     octets::get2(&count, 0) as usize
 }
 
 // Lists the message that is the rest of the input by a prepared book.
-fn list_rest(p: &[u64])
+fn list_rest(input: &mut impl Read, output: &mut impl Write, p: &[u64])
     requires { IsPrepared p.now }
 {
     // One octet more than a message may have, so that the library sees one that is too long.
     let mut message = io::large_buffer();
-    let size = io::read_full(STDIN_FILENO, &mut message);
+    let size = read_full(input, &mut message);
     let mut room = [0u64; 6000];
     let m = &message[..size];
     match stream::list(&p, &m, &mut room) {
-        Counted::Count(count) => show_records(&room, count),
-        Counted::Refused(refusal) => show_refusal(refusal),
+        Counted::Count(count) => show_records(output, &room, count),
+        Counted::Refused(refusal) => show_refusal(output, refusal),
     }
 }
 
 // Lists the message by a book, which may be any octets.
-fn list_by(book: &[u8]) {
+fn list_by(input: &mut impl Read, output: &mut impl Write, book: &[u8]) {
     // As many numbers as the prepared form of any book has at most.
     let mut numbers = [0u64; 8260];
     match prepare::prepare_octets(book, &mut numbers) {
-        Counted::Count(n) => list_rest(&numbers[..n]),
-        Counted::Refused(refusal) => show_refusal(refusal),
+        Counted::Count(n) => list_rest(input, output, &numbers[..n]),
+        Counted::Refused(refusal) => show_refusal(output, refusal),
     }
 }
 
 // Lists the input's message by the input's book, which is read into the room.
-fn list_input(room: &mut [u8]) {
-    let size = read_count();
+fn list_input(input: &mut impl Read, output: &mut impl Write, room: &mut [u8]) {
+    let size = read_count(input);
     if room.len() < size {
-        show_refusal(Refusal {
+        let refusal = Refusal {
             number: 1,
             place: 0,
-        });
+        };
+        show_refusal(output, refusal);
         return;
     }
-    let came = io::read_full(STDIN_FILENO, &mut room[0..size]);
-    list_by(&room[0..came]);
+    let came = read_full(input, &mut room[0..size]);
+    list_by(input, output, &room[0..came]);
 }
 
-fn main() {
+fn main(rt: HostRuntime) {
     // As many octets as a book may have.
     let mut room = [0u8; 8192];
-    list_input(&mut room);
+    list_input(&mut rt.stdin(), &mut rt.stdout(), &mut room);
 }

@@ -1,5 +1,5 @@
-// What other languages call. A slice is passed as its pointer and its number of elements; a reply is a struct of 64-bit
-// numbers, those that have nothing to tell being 0.
+// What other languages call, by the exports of `siphonbard_c`. A slice is passed as its pointer and its number of
+// elements; a reply is a struct of 64-bit numbers, those that have nothing to tell being 0.
 #![tactic(auto)]
 
 ghost use Rattle.std.specs.Prelude.{◌≡◌};
@@ -127,24 +127,21 @@ fn ask_for(kind: u64, element: u64) -> Asked
 // ---- any octets whatever
 
 // Checks a book.
-#[unsafe(no_mangle)]
-pub extern "C" fn siphonbard_check_book(book: &[u8]) -> CheckedReply
+pub fn siphonbard_check_book(book: &[u8]) -> CheckedReply
     ensures { result ≡ reply_checked (book_of book.now) }
 {
     say_checked(book::check(book))
 }
 
 // Prepares a book for the streams below: the number of numbers, which are stored from the room's start.
-#[unsafe(no_mangle)]
-pub extern "C" fn siphonbard_prepare(book: &[u8], room: &mut [u64]) -> CountedReply
+pub fn siphonbard_prepare(book: &[u8], room: &mut [u64]) -> CountedReply
     ensures { RepliesWrite (preparing book.now) room.old result room.new }
 {
     say_counted(prepare::prepare_octets(book, room))
 }
 
 // Checks a message.
-#[unsafe(no_mangle)]
-pub extern "C" fn siphonbard_check(book: &[u8], m: &[u8]) -> CheckedReply
+pub fn siphonbard_check(book: &[u8], m: &[u8]) -> CheckedReply
     ensures { result ≡ reply_checked (check_of book.now m.now) }
 {
     let mut numbers = [0u64; MOST];
@@ -155,15 +152,14 @@ pub extern "C" fn siphonbard_check(book: &[u8], m: &[u8]) -> CheckedReply
 }
 
 // Lists a message: the number of records, which are stored from the room's start.
-#[unsafe(no_mangle)]
-pub extern "C" fn siphonbard_list(book: &[u8], m: &[u8], room: &mut [u64]) -> CountedReply
+pub fn siphonbard_list(book: &[u8], m: &[u8], room: &mut [u64]) -> CountedReply
     ensures { RepliesList (list_of book.now m.now) room.old result
         room.new }
 {
     let mut numbers = [0u64; MOST];
     match prepare::prepare_octets(book, &mut numbers) {
         Counted::Refused(refusal) => say_counted(Counted::Refused(refusal)),
-        // Not by the export below: stream::list is short enough for the compiler to join it to both.
+        // Not by the function below: stream::list is short enough for the compiler to join it to both.
         Counted::Count(n) => {
             let p = &numbers[..n];
             say_counted(stream::list(&p, &m, room))
@@ -173,14 +169,7 @@ pub extern "C" fn siphonbard_list(book: &[u8], m: &[u8], room: &mut [u64]) -> Co
 
 // The answer for one place of a message. The steps hold a group's number and an entry's, by turns; the kind is 0 for a
 // field, 1 for a group, 2 for a data.
-#[unsafe(no_mangle)]
-pub extern "C" fn siphonbard_place(
-    book: &[u8],
-    m: &[u8],
-    steps: &[u64],
-    kind: u64,
-    element: u64,
-) -> FoundReply
+pub fn siphonbard_place(book: &[u8], m: &[u8], steps: &[u64], kind: u64, element: u64) -> FoundReply
     ensures { result ≡ reply_found (place_told book.now m.now steps.now
         (asked_for kind element)) }
 {
@@ -193,8 +182,7 @@ pub extern "C" fn siphonbard_place(
 
 // Writes the message that a listing gives for a template, its starts referring to the pool: the number of octets, which
 // are stored from the room's start.
-#[unsafe(no_mangle)]
-pub extern "C" fn siphonbard_write(
+pub fn siphonbard_write(
     book: &[u8],
     template: u64,
     listing: &[u64],
@@ -215,8 +203,7 @@ pub extern "C" fn siphonbard_write(
 // the `requires`; in another language it is the caller's duty.
 
 // Checks a message.
-#[unsafe(no_mangle)]
-pub extern "C" fn siphonbard_stream_check(p: &[u64], m: &[u8]) -> CheckedReply
+pub fn siphonbard_stream_check(p: &[u64], m: &[u8]) -> CheckedReply
     requires { IsPrepared p.now }
     ensures { result ≡ reply_checked (check_in (book_at p.now) m.now) }
 {
@@ -224,8 +211,7 @@ pub extern "C" fn siphonbard_stream_check(p: &[u64], m: &[u8]) -> CheckedReply
 }
 
 // Lists a message: the number of records, which are stored from the room's start.
-#[unsafe(no_mangle)]
-pub extern "C" fn siphonbard_stream_list(p: &[u64], m: &[u8], room: &mut [u64]) -> CountedReply
+pub fn siphonbard_stream_list(p: &[u64], m: &[u8], room: &mut [u64]) -> CountedReply
     requires { IsPrepared p.now }
     ensures { RepliesList (list_in (book_at p.now) m.now) room.old result
         room.new }
@@ -234,8 +220,7 @@ pub extern "C" fn siphonbard_stream_list(p: &[u64], m: &[u8], room: &mut [u64]) 
 }
 
 // The answer for one place of a message, asked as above.
-#[unsafe(no_mangle)]
-pub extern "C" fn siphonbard_stream_place(
+pub fn siphonbard_stream_place(
     p: &[u64],
     m: &[u8],
     steps: &[u64],
@@ -253,8 +238,7 @@ pub extern "C" fn siphonbard_stream_place(
 
 // Writes the message that a listing gives for a template, its starts referring to the pool: the number of octets, which
 // are stored from the room's start.
-#[unsafe(no_mangle)]
-pub extern "C" fn siphonbard_stream_write(
+pub fn siphonbard_stream_write(
     p: &[u64],
     template: u64,
     listing: &[u64],

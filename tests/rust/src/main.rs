@@ -23,8 +23,8 @@ use std::panic;
 const SEED: u64 = 20140603;
 const MESSAGES: u64 = 200_000;
 
-/// C's entry point and not Rust's: Rust's own reads the process's memory map first, which the emulator that
-/// `tests/run` uses off x86-64 does not survive.
+/// C's entry point and not Rust's: Rust's own reads the process's memory map first, which an emulator of x86-64 does not
+/// survive.
 #[no_mangle]
 pub extern "C" fn main(_count: c_int, _words: *const *const c_char) -> c_int {
     match panic::catch_unwind(run) {
