@@ -8,10 +8,8 @@ use Rattle.whole.proofs.enter.Goals.{After-walk_rest}
 
 -- What follows the root comes to.
 by_rest : (c : After-walk_rest) → let s = c.args in
-    let g = c.block-1.given.0 in
-    let r = c.next-1.given.0 in
     entered s.p.now.now s.m.now.now s.path.now.now (whole_at s.p.now.now s.m.now.now)
-    ≡ after_rest g.0 g.1.0 r.1.0 r.1.1.0 c.walk_rest.result
+    ≡ after_rest c.in-At.block c.in-At.version c.in-To.records c.in-To.spot c.walk_rest.result
 unfolding after_opened after_root
 by_rest c =
     let opens = c.open.ensures in
