@@ -7,7 +7,7 @@ use native.Mathlib.Omega.{arith}
 use lib.Dec.{leb}
 use lib.ListN.{get_or, length}
 use borrow.Author.Tests.{le-leb, leb-true, lt-leb, ltb-true}
-use Rattle.layout.specs.Result.{Each, Result, ◌>>=◌, done, if◌then◌else◌}
+use Rattle.layout.specs.Result.{Each, Result, ◌>>=◌, done, when◌then◌else◌}
 use Rattle.layout.specs.Octets.{number16}
 use Rattle.layout.specs.Book.{Field, Groups, Shape, more, need}
 use Rattle.layout.specs.BookRules.{parse_datas, parse_fields, word}
@@ -84,13 +84,13 @@ field_readable p depth a m v l at k stands enough fits less =
 -- ---- a group
 
 gone : (v since : ℕ) (r : Result (Answer × Values × ℕ)) (at : ℕ) (a : Answer × Values × ℕ) → v < since
-    → (if leb since v then r else done (Absent, nil, at)) ≡ done a → a.0 ≡ Absent
-unfolding if◌then◌else◌
+    → (when leb since v then r else done (Absent, nil, at)) ≡ done a → a.0 ≡ Absent
+unfolding when◌then◌else◌
 gone v since r at a l e = sym (ap (λ (d : Answer × Values × ℕ). d.0) (done_inj (rw (lt-leb since v l) at e)))
 
 here : (v since : ℕ) (r : Result (Answer × Values × ℕ)) (at : ℕ) (a : Answer × Values × ℕ) → since ≤ v
-    → (if leb since v then r else done (Absent, nil, at)) ≡ done a → r ≡ done a
-unfolding if◌then◌else◌
+    → (when leb since v then r else done (Absent, nil, at)) ≡ done a → r ≡ done a
+unfolding when◌then◌else◌
 here v since r at a l e = rw (le-leb since v l) at e
 
 -- A group with this since at `at` that was read is `is`.
@@ -153,7 +153,7 @@ module _ (big : Bool) (m : List ℕ) (v : ℕ) (p : List ℕ) where
     pub first : List Answer × ℕ
     pub one : Answer × ℕ
     pub passed : read_datas big m v (parse_datas p k a) 0 at ≡ done first
-    pub reads : (if leb (word p (a + 2 * k + 1)) v then read_data big m first.1 else done (Absent, first.1))
+    pub reads : (when leb (word p (a + 2 * k + 1)) v then read_data big m first.1 else done (Absent, first.1))
         ≡ done one
     pub is : get_or r.0 k Absent ≡ one.0
 
@@ -193,9 +193,9 @@ module _ (big : Bool) (m : List ℕ) (v : ℕ) (p : List ℕ) where
     pub fits : since ≤ v → at + 2 ≤ length m
     pub octets : since ≤ v → is ≡ Octets (at + 2) (number16 big m at)
 
-  one_data : (since at : ℕ) (d : Answer × ℕ) → (if leb since v then read_data big m at else done (Absent, at)) ≡ done d
+  one_data : (since at : ℕ) (d : Answer × ℕ) → (when leb since v then read_data big m at else done (Absent, at)) ≡ done d
       → DataHere since at d.0
-  unfolding if◌then◌else◌ read_data
+  unfolding when◌then◌else◌ read_data
   one_data since at d h =
       record {
         absent = λ l. sym (ap (λ (e : Answer × ℕ). e.0) (done_inj (rw (lt-leb since v l) at h)));

@@ -1,7 +1,7 @@
 -- Each return is the definition's case by the tests that led there.
 use Rattle.std.proofs.Common.{◌≡◌, true, eqb, leb, sym, refl, ◌∙◌, arith, eq-eqb, ne_eqb, le-leb}
 use borrow.Author.Tests.{lt-leb}
-use Rattle.layout.specs.Result.{◌and◌, if◌then◌else◌}
+use Rattle.layout.specs.Result.{◌and◌, when◌then◌else◌}
 use Rattle.layout.specs.Types.{classify, in_range, type_at}
 use Rattle.prepared.specs.Positions.{field_at}
 use Rattle.prepared.proofs.Ranges.{in_range_lem, in_range_number}
@@ -32,18 +32,18 @@ returns-then-wrapping_sub_u64-value c =
     sym (in_range_number _ _ _ (within (goal.at.returns-then-wrapping_sub_u64-value c).After-value-2 ∙ le-leb _ _ c.if-wrapping_sub_u64-value.true))
 
 pub returns-then-x-value : goal.returns-then-x-value
-unfolding classify if◌then◌else◌ ◌and◌
+unfolding classify when◌then◌else◌ ◌and◌
 returns-then-x-value c =
     rw (optional (goal.at.returns-then-x-value c).Then-number-eq1, eq-eqb _ _ (c.if-x-value.true ∙ null_is (goal.at.returns-then-x-value c).After-value-then-number-eq1)) refl
 
 pub returns-else-x-value : goal.returns-else-x-value
-unfolding classify if◌then◌else◌ ◌and◌
+unfolding classify when◌then◌else◌ ◌and◌
 returns-else-x-value c =
     let other = ne_eqb _ _ (λ e. c.if-x-value.false (e ∙ sym (null_is (goal.at.returns-else-x-value c).After-value-then-number-eq1))) in
     rw (optional (goal.at.returns-else-x-value c).Then-number-eq1, other, within (goal.at.returns-else-x-value c).After-value-2, lt-leb _ _ c.if-wrapping_sub_u64-value.false) refl
 
 pub returns-else-number-eq1 : goal.returns-else-number-eq1
-unfolding classify if◌then◌else◌ ◌and◌
+unfolding classify when◌then◌else◌ ◌and◌
 returns-else-number-eq1 c =
     let required = ne_eqb _ _ (λ e. c.if-number-eq1.false (c.number.ensures ∙ e)) in
     rw (required, within (goal.at.returns-else-number-eq1 c).After-value-2, lt-leb _ _ c.if-wrapping_sub_u64-value.false) refl

@@ -1,7 +1,7 @@
 -- Null fits an optional field, and a number one whose range has it and whose list, if there is one, has it too.
 use Rattle.std.proofs.Common.{◌≡◌, ℕ, ◌+◌, ◌%◌, ◌^◌, ◌<◌, List, leb, sym, refl, ◌∙◌, arith, eq-eqb, ne_eqb, le-leb}
 use borrow.Author.Tests.{lt-leb}
-use Rattle.layout.specs.Result.{◌and◌, if◌then◌else◌}
+use Rattle.layout.specs.Result.{◌and◌, when◌then◌else◌}
 use Rattle.layout.specs.BookRules.{word}
 use Rattle.layout.specs.Lists.{has, is_listed}
 use Rattle.layout.specs.Writing.{first, number_fits, second}
@@ -15,7 +15,7 @@ use Rattle.judges.proofs.number_fits.Goals as goal
 number_is : (l : List ℕ) (i : ℕ) {p : List ℕ} {f t : ℕ} (d least far : ℕ) → IsField p f t → (first l i ≡ 1 → ⊥)
     → d < 2 ^ 64 → (d + least) % 2 ^ 64 ≡ second l i → least ≡ word p (t + 1) → far ≡ word p (t + 2)
     → number_fits l (field_at p f) i ≡ (leb d far and has (field_at p f).names (second l i))
-unfolding if◌then◌else◌
+unfolding when◌then◌else◌
 number_is l i d least far field other small e p q =
     rw (ne_eqb _ _ other) (within _ _ _ _ _ _ small e (p ∙ field.derived.least) (q ∙ field.derived.spread))
 
@@ -24,7 +24,7 @@ leads : (p : List ℕ) (f t : ℕ) {x : ℕ} → IsField p f t → x ≡ word p 
 leads p f t field e = rw e field.derived.names
 
 pub returns-then-listing-i-eq1 : goal.returns-then-listing-i-eq1
-unfolding if◌then◌else◌
+unfolding when◌then◌else◌
 returns-then-listing-i-eq1 c =
     rw (c.number.ensures, eq-eqb _ _ c.if-listing-i-eq1.true) refl
 

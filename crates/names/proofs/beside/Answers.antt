@@ -2,7 +2,7 @@
 use mathlib.Core.Path.{◌≡◌, ◌∙◌, refl, sym}
 use Prim.Native.Nat.{ℕ, ◌+◌}
 use native.Mathlib.Omega.{arith}
-use Rattle.layout.specs.Result.{if◌then◌else◌}
+use Rattle.layout.specs.Result.{when◌then◌else◌}
 use Rattle.layout.specs.Lists.{Names, beside}
 use Rattle.layout.specs.declared.Answer.{Answer}
 use Rattle.layout.specs.declared.Answer.TheVariants.{Absent, Group, Null, Number, Octets, OutOfRange, Unlisted}
@@ -46,13 +46,13 @@ has-requires c =
     (leads (goal.at.has-requires c).After-number-list).list (omega (arith, c.if-list-eq0.false))
 
 pub returns-then-has : goal.returns-then-has
-unfolding beside if◌then◌else◌
+unfolding beside when◌then◌else◌
 returns-then-has c =
     rw (c.in-Number.is, names_here (leads (goal.at.returns-then-has c).After-number-list) c.if-list-eq0.false)
     (rw (sym c.has.ensures ∙ c.if-has.true) refl)
 
 pub returns : goal.returns
-unfolding beside if◌then◌else◌
+unfolding beside when◌then◌else◌
 returns c =
     rw (c.in-Number.is, names_here (leads (goal.at.returns c).After-number-list) c.if-list-eq0.false)
     (rw (sym c.has.ensures ∙ c.if-has.false) refl)
