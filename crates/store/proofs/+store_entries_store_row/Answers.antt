@@ -1,7 +1,6 @@
 -- The storing pass calls itself as the walk does. Of the whole's numbers some are stored, and those of what is left are
 -- to come (`Going`). The measure of a call is the depth left, and within a depth the order of the calls.
 use mathlib.Core.Path.{refl}
-use Prim.Native.Nat.{◌-◌}
 use native.Mathlib.Omega.{arith}
 use Rattle.layout.proofs.Results.{and_right}
 use Rattle.prepared.proofs.Open.{head_there, no_datas_at, no_groups_at, some_follow}
