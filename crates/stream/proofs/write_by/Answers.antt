@@ -1,14 +1,12 @@
 -- Each way out is one law on what the judging came to.
 use mathlib.Core.Path.{◌∙◌, sym, refl}
-use Prim.Native.Nat.{◌+◌, ◌≤◌}
 use native.Mathlib.Omega.{arith}
-use lib.ListN.{length}
 use lib.Seq.{length-take-le}
 use Rattle.stream.proofs.Slices.{anew}
 use Rattle.stream.proofs.Writing.{IsGood, write_done, write_fits, write_full, write_long}
 use Rattle.stream.proofs.Writing.{write_ready, write_refused, write_small}
 use Rattle.stream.proofs.write_by.Goals as goal
-use Rattle.stream.proofs.write_by.Goals.{After-put_zeros, In-To}
+use Rattle.stream.proofs.write_by.Goals.{In-To}
 
 good : (c : In-To) → let a = c.args in
     IsGood a.p.now a.a a.listing.now a.pool.now a.room.now c.in-To.next
@@ -18,11 +16,6 @@ good c =
       block = c.requires;
       is = sym c.in-To.is ∙ c.judge_listing.ensures ∙ simp anew;
     }
-
-fits : (c : After-put_zeros) → 12 + c.in-To.length ≤ length c.put_zeros.new.room
-fits c =
-    write_fits (good c.In-To) c.if-n-gt65535.false c.if-room-n.false _
-    c.put_zeros.ensures
 
 pub judge_listing-requires : goal.judge_listing-requires
 judge_listing-requires c =
@@ -42,11 +35,12 @@ returns-then-room-n c =
 
 pub slice_bounds-write_message-end-in-To : goal.slice_bounds-write_message-end-in-To
 slice_bounds-write_message-end-in-To c =
-    sym (length-take-le _ _ (fits (goal.at.slice_bounds-write_message-end-in-To c).After-put_zeros))
+    let g = good (goal.at.slice_bounds-write_message-end-in-To c).In-To in
+    sym (length-take-le _ _ (write_fits g c.if-n-gt65535.false c.if-room-n.false _ c.put_zeros.ensures))
 
 pub write_message-requires : goal.write_message-requires
 write_message-requires c =
-    let g = good ((goal.at.write_message-requires c).In-To) in
+    let g = good (goal.at.write_message-requires c).In-To in
     record {
       block_at = simp anew g.block;
       ready = simp anew (write_ready g c.if-n-gt65535.false c.if-room-n.false _ c.put_zeros.ensures);
@@ -60,5 +54,5 @@ returns-in-Refused c =
 
 pub returns-else-room-n : goal.returns-else-room-n
 returns-else-room-n c =
-    write_done (good ((goal.at.returns-else-room-n c).In-To)) c.if-n-gt65535.false c.if-room-n.false _
+    write_done (good (goal.at.returns-else-room-n c).In-To) c.if-n-gt65535.false c.if-room-n.false _
     c.put_zeros.ensures _ _ (c.write_message.ensures ∙ simp anew) refl
