@@ -7,7 +7,7 @@ use native.Mathlib.Omega.{arith}
 use lib.Dec.{leb, ltb}
 use lib.ListN.{drop, length, take}
 use borrow.Author.Tests.{eq-eqb, lt-ltb, ne_eqb}
-use Rattle.layout.specs.Result.{Result, ◌>>=◌, as_refusal, done, if◌then◌else◌, must, refused}
+use Rattle.layout.specs.Result.{Result, ◌>>=◌, as_refusal, done, when◌then◌else◌, must, refused}
 use Rattle.layout.specs.Lists.{NameList}
 use Rattle.layout.specs.Book.{Format, Groups, Shape, Template}
 use Rattle.layout.specs.BookRules.{each_must, layout_good, least_length, length_kept, parse_bodies, parse_body, parse_contents}
@@ -26,7 +26,6 @@ use Rattle.book.specs.declared.Rules.{Rules}
 use Rattle.book.specs.declared.Row.TheVariants as Row
 use Rattle.book.specs.declared.Block.TheVariants as Block
 use Rattle.book.specs.declared.Body.{Body}
-use Rattle.book.specs.declared.Body.TheVariants as Body
 
 -- What 7 measures is what a body's words say.
 least_is : (ls : List NameList) (b : List ℕ) (format : Format) (g x y : ℕ) (s : Shape) (gs : Groups)
@@ -122,12 +121,12 @@ seen_next : (seen n t : ℕ) (keeps : Bool) (x : Result (Unit {0})) → t < 64
 unfolding seen_or first_of
 seen_next seen n t keeps x h = go (ltb seen 64) refl keeps
   where
-    go : (s : Bool) → ltb seen 64 ≡ s → (k : Bool) → (if s then refused n seen else must k n t >>= λ _. x)
-        ≡ (if ltb (if s then seen else if k then 64 else t) 64 then refused n
-        (if s then seen else if k then 64 else t) else x)
-    go true e k = unfold if◌then◌else◌ in rw e refl
-    go false e true = unfold if◌then◌else◌ must ◌>>=◌ in refl
-    go false e false = unfold if◌then◌else◌ must ◌>>=◌ in rw (lt-ltb t 64 h) refl
+    go : (s : Bool) → ltb seen 64 ≡ s → (k : Bool) → (when s then refused n seen else must k n t >>= λ _. x)
+        ≡ (when ltb (when s then seen else when k then 64 else t) 64 then refused n
+        (when s then seen else when k then 64 else t) else x)
+    go true e k = unfold when◌then◌else◌ in rw e refl
+    go false e true = unfold when◌then◌else◌ must ◌>>=◌ in refl
+    go false e false = unfold when◌then◌else◌ must ◌>>=◌ in rw (lt-ltb t 64 h) refl
 
 each_next : (f : Template → Bool) (seen n t : ℕ) (x : Template) (xs : List Template) → t < 64
     → seen_or seen n (each_must f n t (x ∷ xs)) ≡ seen_or (first_of seen (f x) t) n (each_must f n (suc t) xs)

@@ -6,7 +6,7 @@ use Prim.Native.Nat.{◌+◌, ℕ}
 use native.Mathlib.Omega.{arith}
 use lib.ListN.{length}
 use borrow.Author.Tests.{eq-eqb, ne_eqb}
-use Rattle.layout.specs.Result.{Result, ◌>>=◌, done, if◌then◌else◌, must, refused}
+use Rattle.layout.specs.Result.{Result, ◌>>=◌, done, when◌then◌else◌, must, refused}
 use Rattle.layout.specs.Octets.{words_of}
 use Rattle.layout.specs.Book.{Book, Template}
 use Rattle.layout.specs.BookRules.{book_of, check_contents, check_templates, contents_end, contents_size, each_must, format_of}
@@ -91,7 +91,7 @@ module _ (s : List ℕ) where
 
       pub book_bodies : Checked.Accepted ≡ checked (check_contents (words_of s))
           → checked (book_of s) ≡ checked (bodies_of (words_of s))
-      unfolding check_templates ruled seen_or if◌then◌else◌
+      unfolding check_templates ruled seen_or when◌then◌else◌
       book_bodies e =
           let b = words_of s in
           rw after_head

@@ -18,7 +18,6 @@ use Rattle.book.proofs.RuleLaws.{and_true, rules_assoc, rules_start}
 use Rattle.layout.proofs.Results.{and_assoc, bind_done, done_inj, inv_bind, inv_must}
 use Rattle.book.specs.declared.Rules.{Rules}
 use Rattle.book.specs.declared.Row.{Row}
-use Rattle.book.specs.declared.Row.TheVariants as Row
 use Rattle.book.specs.declared.Block.TheVariants as Block
 
 -- A row after others that have these rules.

@@ -10,7 +10,7 @@ use lib.ListN.{drop, length, length-drop, take}
 use lib.Seq.{drop-cons, drop-drop, get_or-drop, get_or-take, length-take-le, take-nil}
 use types.Run.{OneOf}
 use borrow.Author.Tests.{eq-eqb, le-leb, le-ltb, leb-false, leb-true, lt-leb, lt-ltb, ne_eqb}
-use Rattle.layout.specs.Result.{◌>>=◌, ◌and◌, ◌or◌, done, if◌then◌else◌, must, refused}
+use Rattle.layout.specs.Result.{◌>>=◌, ◌and◌, ◌or◌, done, when◌then◌else◌, must, refused}
 use Rattle.layout.specs.Lists.{NameList, Names, enumeration, is_one_of, missing, names_of, no_names, set}
 use Rattle.layout.specs.Book.{Field, is_array}
 use Rattle.layout.specs.BookRules.{climbing, each_must, greatest, kind_good, list_good, name_list_of, names_good}
@@ -150,7 +150,7 @@ module _ (f : Field) where
   module _ (l : NameList) (is : f.names ≡ names_of l) where
     -- An array takes no list, and a number one that fits its type.
     names_of_lem : (a t : Bool) → is_array f ≡ a → eqb l.kind 0 ≡ t → names_good f ≡ (not a and list_fits l f.type)
-    unfolding kind_good list_fits if◌then◌else◌
+    unfolding kind_good list_fits when◌then◌else◌
     names_of_lem a true e t =
         let k : f.names.kind ≡ enumeration = rw (is, t) refl in
         rw (k, t, e) refl

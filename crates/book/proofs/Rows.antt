@@ -7,7 +7,7 @@ use native.Mathlib.Omega.{arith}
 use lib.Dec.{eqb, leb, ltb}
 use lib.ListN.{length}
 use borrow.Author.Tests.{eq-eqb, eqb-true, leb-true, ne_eqb}
-use Rattle.layout.specs.Result.{Result, ◌>>=◌, ◌and◌, done, if◌then◌else◌, must, refused}
+use Rattle.layout.specs.Result.{Result, ◌>>=◌, ◌and◌, done, when◌then◌else◌, must, refused}
 use Rattle.layout.specs.Octets.{words_of}
 use Rattle.layout.specs.Lists.{find_names, missing, names_of}
 use Rattle.layout.specs.BookRules.{ContentsRow, check_contents, contents_end, contents_size, head_good, head_size, list_rows}
@@ -267,29 +267,29 @@ module _ (b : List ℕ) where
             → (t : Bool) → eqb (word b w) id ≡ t
             → (j : ℕ) × (i ≡ k + j) × Found (suc n) w j
         go others true t =
-            let q : k ≡ i = unfold if◌then◌else◌ in let f = rw t at e in cc in (
+            let q : k ≡ i = unfold when◌then◌else◌ in let f = rw t at e in cc in (
               0,
               omega arith,
               record {
                 below = omega arith;
                 number = rw (unshifted w) (eqb-true _ _ t);
-                names = unfold find_names if◌then◌else◌ in rw (t, unshifted w) refl;
+                names = unfold find_names when◌then◌else◌ in rw (t, unshifted w) refl;
               },
             )
         go others false t =
-            let f = others (unfold if◌then◌else◌ in rw t at e) in (
+            let f = others (unfold when◌then◌else◌ in rw t at e) in (
               suc f.0,
               omega (arith, f.1),
               record {
                 below = omega (arith, f.2.below);
                 number = rw (shifted w f.0) f.2.number;
-                names = unfold find_names if◌then◌else◌ in rw (t, shifted w f.0) f.2.names;
+                names = unfold find_names when◌then◌else◌ in rw (t, shifted w f.0) f.2.names;
               },
             )
 
     none_among : (n w k : ℕ) → listed_among id (parse_contents b n w) k ≡ Missing
         → find_names (suc id) (map (name_list_of b) (parse_contents b n w)) ≡ record { kind = missing; numbers = [] }
-    unfolding listed_among parse_contents find_names if◌then◌else◌
+    unfolding listed_among parse_contents find_names when◌then◌else◌
     none_among zero w k e = refl
     none_among (suc n) w k e = go (none_among n (w + 3) (suc k)) (eqb (word b w) id) refl
       where
@@ -330,7 +330,7 @@ module _ (b : List ℕ) where
 
     at_among : (n w k i : ℕ) → i < n → ((j : ℕ) → j < i → Other w j) → word b (w + 3 * i) ≡ id
         → listed_among id (parse_contents b n w) k ≡ At (k + i)
-    unfolding listed_among parse_contents if◌then◌else◌
+    unfolding listed_among parse_contents when◌then◌else◌
     at_among zero w k i h others is = absurd (omega arith)
     at_among (suc n) w k zero h others is =
         let q : k + 0 ≡ k = omega arith in
@@ -342,7 +342,7 @@ module _ (b : List ℕ) where
         (rw (shifted w i) at is))
 
     missing_among : (n w k : ℕ) → ((j : ℕ) → j < n → Other w j) → listed_among id (parse_contents b n w) k ≡ Missing
-    unfolding listed_among parse_contents if◌then◌else◌
+    unfolding listed_among parse_contents when◌then◌else◌
     missing_among zero w k others = refl
     missing_among (suc n) w k others =
         rw (ne_eqb (word b w) id (rw (unshifted w) at (others 0 (omega arith))))

@@ -1,6 +1,6 @@
 -- What the walk over a book's words answers, by cases on what the definitions make of them.
 use Rattle.std.specs.Prelude.{◌≡◌, Bool, true, List, ◌*◌, ◌+◌, ◌<◌, ℕ, leb, ltb}
-use Rattle.layout.specs.Result.{Result, ◌>>=◌, ◌and◌, done, if◌then◌else◌, refused}
+use Rattle.layout.specs.Result.{Result, ◌>>=◌, ◌and◌, done, when◌then◌else◌, refused}
 use Rattle.layout.specs.Octets.{words_of}
 use Rattle.layout.specs.Book.{Field, Format, Groups, Shape, Template, end, field_sinces}
 use Rattle.layout.specs.BookRules.{each_must, field_good, fields_good, fields_since, format_of, groups_good, groups_since}
@@ -88,11 +88,11 @@ no_template = 64
 
 -- The first template that breaks a rule, `seen` being the first before template t.
 unfoldable pub first_of : ℕ → Bool → ℕ → ℕ
-first_of seen keeps t = if ltb seen no_template then seen else if keeps then no_template else t
+first_of seen keeps t = when ltb seen no_template then seen else when keeps then no_template else t
 
 -- Refusal n at a template seen before, or what comes of the others.
 unfoldable pub seen_or : ℕ → ℕ → Result (Unit {0}) → Result (Unit {0})
-seen_or seen n x = if ltb seen no_template then refused n seen else x
+seen_or seen n x = when ltb seen no_template then refused n seen else x
 
 -- 4 of the lists, and 5, 6 and 7 for the templates x from number t on, `five`, `six` and `seven` being the first that
 -- broke a rule before them.

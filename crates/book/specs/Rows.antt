@@ -1,6 +1,6 @@
 -- The rows of a book's contents, and its lists, as the code finds them: s is the octets of a book.
 use Rattle.std.specs.Prelude.{◌≡◌, Bool, true, List, [], ◌∷◌, ℕ, suc, ◌+◌, ◌*◌, ◌/◌, ◌≤◌, eqb, ltb, length}
-use Rattle.layout.specs.Result.{Result, ◌and◌, done, if◌then◌else◌, refused}
+use Rattle.layout.specs.Result.{Result, ◌and◌, done, when◌then◌else◌, refused}
 use Rattle.layout.specs.Octets.{words_of}
 use Rattle.layout.specs.Types.{type_at}
 use Rattle.layout.specs.Lists.{NameList, is_one_of}
@@ -47,7 +47,7 @@ pub record IsListRow (s : List ℕ) (w : ℕ) : Type 0 where
 -- The position of the list with this number among rows, of which the first has position i.
 unfoldable pub listed_among : ℕ → List ContentsRow → ℕ → Listed
 listed_among id [] i = Listed.TheVariants.Missing
-listed_among id (r ∷ rs) i = if eqb r.id id then Listed.TheVariants.At i else listed_among id rs (suc i)
+listed_among id (r ∷ rs) i = when eqb r.id id then Listed.TheVariants.At i else listed_among id rs (suc i)
 
 abbrev pub listed_of : List ℕ → ℕ → Listed
 listed_of b id = listed_among id (list_rows b) 0
@@ -55,5 +55,5 @@ listed_of b id = listed_among id (list_rows b) 0
 -- Rule 5 of a list: whether it fits a number of type t.
 unfoldable pub list_fits : NameList → ℕ → Bool
 list_fits l t =
-    if eqb l.kind 0 then is_one_of t (0 ∷ 2 ∷ 4 ∷ [])
+    when eqb l.kind 0 then is_one_of t (0 ∷ 2 ∷ 4 ∷ [])
     else is_one_of t (2 ∷ 4 ∷ 6 ∷ 8 ∷ []) and ltb (greatest l.numbers) (8 * (type_at t).width)

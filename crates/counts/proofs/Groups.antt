@@ -8,7 +8,7 @@ use native.Mathlib.Omega.{arith}
 use lib.Dec.{eqb, leb, ltb}
 use lib.ListN.{drop, length, take}
 use borrow.Author.Tests.{le-leb, leb-true, lt-leb, lt-ltb, ltb-true, ne_eqb}
-use Rattle.layout.specs.Result.{Each, Result, ◌>>=◌, ◌and◌, done, if◌then◌else◌, must, refused}
+use Rattle.layout.specs.Result.{Each, Result, ◌>>=◌, ◌and◌, done, when◌then◌else◌, must, refused}
 use Rattle.layout.specs.Octets.{in_order, lowest, null16, number16}
 use Rattle.layout.specs.Writing.{numbers16}
 use Rattle.layout.specs.Book.{Shape, data_sinces, group_sinces, need}
@@ -48,8 +48,8 @@ code_by true (Is x) (Is y) = together x y
 
 coded_by : (t u w : Bool) (x y q : ℕ)
     → coded (must t 17 q >>= λ _. must (u and w) 21 q >>= λ _. done (together x y))
-    ≡ code_by t (if u then Is x else Wrong) (if w then Is y else Wrong)
-unfolding coded code_by must ◌>>=◌ ◌and◌ if◌then◌else◌
+    ≡ code_by t (when u then Is x else Wrong) (when w then Is y else Wrong)
+unfolding coded code_by must ◌>>=◌ ◌and◌ when◌then◌else◌
 coded_by false u w x y q = refl
 coded_by true false w x y q = refl
 coded_by true true false x y q = refl
@@ -81,7 +81,7 @@ counts_own {p} {depth} {a} b {m} {v} {at} own =
 
 own_octets : (big : Bool) (g d : ℕ) → g ≤ 16 → d ≤ 16
     → lowest 4 (own_counts (order_of big) g d) ≡ numbers16 big (g ∷ d ∷ [])
-unfolding lowest in_order numbers16 if◌then◌else◌
+unfolding lowest in_order numbers16 when◌then◌else◌
 own_octets false g d h k =
     let is : own_counts (order_of false) g d ≡ g + 65536 * d = omega arith in
     let low : (g + 65536 * d) % 256 ≡ g % 256 = omega arith in
@@ -235,8 +235,8 @@ inv_not_open (refused n q) z h =
 unfoldable pub answer : Bool → Bool → ℕ → Bool → ℕ → ℕ → ℕ → Opened
 answer fits whole c enough l k at =
     let no : ℕ → Opened = λ n. Opened.Refused (refusal n at) in
-    if fits then (if whole then (if eqb c (limit + 17) then no 17 else (if enough
-    then (if leb limit c then no 21 else Opened.Of (record { length = l; count = k; surplus = c })) else no 18))
+    when fits then (when whole then (when eqb c (limit + 17) then no 17 else (when enough
+    then (when leb limit c then no 21 else Opened.Of (record { length = l; count = k; surplus = c })) else no 18))
     else no 17) else no 16
 
 module _ (at : ℕ) (d : Dimension) (e : Dimension → Entries) (l k s : ℕ)
@@ -246,7 +246,7 @@ module _ (at : ℕ) (d : Dimension) (e : Dimension → Entries) (l k s : ℕ)
       → opened ((must fits 16 at >>= λ _. must (lw and kw and cw) 17 at >>= λ _. done d)
       >>= λ x. must (enough x) 18 at >>= λ _. must (good x) 21 at >>= λ _. done (e x))
       ≡ answer fits (lw and kw) (coded (must cw 17 at >>= λ _. must u 21 at >>= λ _. done s)) t l k at
-  unfolding opened answer coded must ◌>>=◌ ◌and◌ if◌then◌else◌
+  unfolding opened answer coded must ◌>>=◌ ◌and◌ when◌then◌else◌
   decided_by false lw kw cw enough good t u et eu less = refl
   decided_by true false kw cw enough good t u et eu less = refl
   decided_by true true false cw enough good t u et eu less = refl
@@ -286,10 +286,10 @@ nothing_told at = refl
 
 pub group_told : (counted : Bool) (version : ℕ) (big : Bool) (m : List ℕ) (v : ℕ) (s : Shape) (groups : List ℕ) (at : ℕ)
     (l k c : ℕ) → l ≡ number16 big m at → k ≡ number16 big m (at + 2)
-    → c ≡ (if counted then coded (counts_by version big m v s groups at (at + 4)) else 0)
+    → c ≡ (when counted then coded (counts_by version big m v s groups at (at + 4)) else 0)
     → opened (open_by counted version big m v s groups at)
     ≡ answer (leb (at + dimension_size counted) (length m)) (ltb l null16 and ltb k null16) c (leb (need v s) l) l k at
-unfolding open_by read_dimension counts_by if◌then◌else◌
+unfolding open_by read_dimension counts_by when◌then◌else◌
 group_told true version big m v s groups at l k c el ek ec =
     rw (ec, el, ek) (decided_by at (numbers true big m at) (entries_of v s groups) _ _ _ refl _ _ _ _
     (λ x. leb (need v s) x.length) (both_good true version v s groups) _ _ refl refl
@@ -310,18 +310,18 @@ module _ (counted : Bool) (version : ℕ) (big : Bool) (m : List ℕ) (v : ℕ) 
   no n = Opened.Refused (refusal n at)
 
   pub no_room : length m < at + dimension_size counted → says ≡ no 16
-  unfolding answer if◌then◌else◌
+  unfolding answer when◌then◌else◌
   no_room h = group_told counted version big m v s groups at _ _ _ refl refl refl ∙ rw (lt-leb _ (length m) h) refl
 
   module _ (fits : at + dimension_size counted ≤ length m) (l k : ℕ) (el : l ≡ number16 big m at)
       (ek : k ≡ number16 big m (at + 2)) where
     pub not_whole : (ltb l null16 and ltb k null16) ≡ false → says ≡ no 17
-    unfolding answer if◌then◌else◌
+    unfolding answer when◌then◌else◌
     not_whole h =
         group_told counted version big m v s groups at l k _ el ek refl ∙ rw (le-leb _ (length m) fits, h) refl
 
     module _ (whole : (ltb l null16 and ltb k null16) ≡ true) (c : ℕ)
-        (ec : c ≡ (if counted then coded (counts_by version big m v s groups at (at + 4)) else 0)) where
+        (ec : c ≡ (when counted then coded (counts_by version big m v s groups at (at + 4)) else 0)) where
       abbrev told : says
           ≡ answer (leb (at + dimension_size counted) (length m)) (ltb l null16 and ltb k null16) c (leb (need v s) l)
           l k at
@@ -330,10 +330,10 @@ module _ (counted : Bool) (version : ℕ) (big : Bool) (m : List ℕ) (v : ℕ) 
       abbrev is : Opened
       is = Opened.Of (record { length = l; count = k; surplus = c })
 
-      faulty : (t u w : Bool) (f : ℕ) → f ≡ (if t then 17 else (if u then (if w then 21 else 0) else 18))
-          → (0 < f → (if t then no 17 else (if u then (if w then no 21 else is) else no 18)) ≡ no f)
-          × (f ≤ 0 → (if t then no 17 else (if u then (if w then no 21 else is) else no 18)) ≡ is)
-      unfolding if◌then◌else◌
+      faulty : (t u w : Bool) (f : ℕ) → f ≡ (when t then 17 else (when u then (when w then 21 else 0) else 18))
+          → (0 < f → (when t then no 17 else (when u then (when w then no 21 else is) else no 18)) ≡ no f)
+          × (f ≤ 0 → (when t then no 17 else (when u then (when w then no 21 else is) else no 18)) ≡ is)
+      unfolding when◌then◌else◌
       faulty true u w f e = (λ h. rw e refl, λ h. absurd (omega arith))
       faulty false false w f e = (λ h. rw e refl, λ h. absurd (omega arith))
       faulty false true true f e = (λ h. rw e refl, λ h. absurd (omega arith))
@@ -341,14 +341,14 @@ module _ (counted : Bool) (version : ℕ) (big : Bool) (m : List ℕ) (v : ℕ) 
 
       module _ (f : ℕ) (ef : f ≡ fault_in l (need v s) c) where
         pub is_refused : 0 < f → says ≡ no f
-        unfolding answer fault_in if◌then◌else◌
+        unfolding answer fault_in when◌then◌else◌
         is_refused h =
             told
             ∙ rw (le-leb _ (length m) fits, whole)
             ((faulty (eqb c (limit + 17)) (leb (need v s) l) (leb limit c) f ef).0 h)
 
         pub is_open : f ≤ 0 → says ≡ is
-        unfolding answer fault_in if◌then◌else◌
+        unfolding answer fault_in when◌then◌else◌
         is_open h =
             told
             ∙ rw (le-leb _ (length m) fits, whole)
@@ -357,9 +357,9 @@ module _ (counted : Bool) (version : ℕ) (big : Bool) (m : List ℕ) (v : ℕ) 
   -- Of a group that was accepted no test fails.
   pub still_open : (e : Entries) → open_by counted version big m v s groups at ≡ done e → (l k c : ℕ)
       → l ≡ number16 big m at → k ≡ number16 big m (at + 2)
-      → c ≡ (if counted then coded (counts_by version big m v s groups at (at + 4)) else 0)
+      → c ≡ (when counted then coded (counts_by version big m v s groups at (at + 4)) else 0)
       → open_by counted version big m v s groups at ≡ done (record { length = l; count = k; surplus = c })
-  unfolding opened answer ◌and◌ if◌then◌else◌
+  unfolding opened answer ◌and◌ when◌then◌else◌
   still_open e is l k c el ek ec =
       let g = group_good counted version big m v s groups at e is in
       let told = group_told counted version big m v s groups at l k c el ek ec in
@@ -374,7 +374,7 @@ module _ (counted : Bool) (version : ℕ) (big : Bool) (m : List ℕ) (v : ℕ) 
         le-leb (need v s) l enough,
       ) at told)
     where
-      go : (t u : Bool) → Opened.Of e ≡ (if t then no 17 else (if u then no 21 else Opened.Of (record {
+      go : (t u : Bool) → Opened.Of e ≡ (when t then no 17 else (when u then no 21 else Opened.Of (record {
         length = l;
         count = k;
         surplus = c;

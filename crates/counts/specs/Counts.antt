@@ -1,6 +1,6 @@
 -- How many elements of a block are present, and how many a message has more.
 use Rattle.std.specs.Prelude.{◌≡◌, true, List, ◌∷◌, ℕ, ◌+◌, ◌-◌, ◌≤◌}
-use Rattle.layout.specs.Result.{if◌then◌else◌}
+use Rattle.layout.specs.Result.{when◌then◌else◌}
 use Rattle.layout.specs.Book.{present}
 use Rattle.layout.specs.Message.{count_good}
 use Rattle.counts.specs.declared.Surplus.{Surplus}
@@ -13,4 +13,4 @@ pub record Counts (v seen since r : ℕ) : Type 0 where
 
 -- Of the elements with these sinces n are counted.
 unfoldable pub left_over : ℕ → ℕ → List ℕ → ℕ → Surplus
-left_over version v ss n = if count_good true version v ss n then Is (n - present v ss) else Wrong
+left_over version v ss n = when count_good true version v ss n then Is (n - present v ss) else Wrong

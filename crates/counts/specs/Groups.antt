@@ -1,6 +1,6 @@
 -- A group that the book knows, up to its entries.
 use Rattle.std.specs.Prelude.{◌≡◌, Bool, true, List, ℕ, ◌+◌, ◌*◌, ◌/◌, ◌%◌, ◌≤◌, eqb, leb, ltb}
-use Rattle.layout.specs.Result.{Result, ◌>>=◌, ◌and◌, done, if◌then◌else◌, must, refused}
+use Rattle.layout.specs.Result.{Result, ◌>>=◌, ◌and◌, done, when◌then◌else◌, must, refused}
 use Rattle.layout.specs.Octets.{null16, number16}
 use Rattle.layout.specs.Book.{Shape, data_sinces, group_sinces, need}
 use Rattle.layout.specs.Operations.{refusal}
@@ -52,7 +52,7 @@ coded (refused n p) = limit + n
 -- nothing.
 unfoldable pub fault_in : ℕ → ℕ → ℕ → ℕ
 fault_in l least c =
-    if eqb c (limit + 17) then 17 else (if leb least l then (if leb limit c then 21 else 0) else 18)
+    when eqb c (limit + 17) then 17 else (when leb least l then (when leb limit c then 21 else 0) else 18)
 
 -- ---- the group
 

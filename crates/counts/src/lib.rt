@@ -4,7 +4,7 @@
 
 ghost use Rattle.std.specs.Prelude.{◌≡◌, true, ◌+◌, ◌-◌, ◌≤◌, length};
 ghost use Rattle.layout.specs.Book.{data_sinces, group_sinces, need, present};
-ghost use Rattle.layout.specs.Result.{done, if◌then◌else◌};
+ghost use Rattle.layout.specs.Result.{done, when◌then◌else◌};
 ghost use Rattle.layout.specs.Operations.{refusal};
 ghost use Rattle.prepared.specs.Positions.{BlockAt, IsBlock, inner_at, is_counted, shape_at, version_at};
 ghost use Rattle.layout.specs.Message.{dimension_size};
@@ -28,7 +28,7 @@ pub enum Surplus {
 // It counts n of which `here` are present, if its count is good.
 fn over(good: bool, n: usize, here: usize) -> Surplus
     requires { good ≡ true → here ≤ n }
-    ensures { result ≡ (if good then Surplus.Is (n - here) else Surplus.Wrong) }
+    ensures { result ≡ (when good then Surplus.Is (n - here) else Surplus.Wrong) }
 {
     if good {
         return Surplus::Is(n - here);
@@ -198,7 +198,7 @@ fn surplus_at(p: &&[u64], a: usize, depth: usize, m: &&[u8], v: usize, at: usize
 fn surplus_in(p: &&[u64], a: usize, depth: usize, m: &&[u8], v: usize, at: usize) -> usize
     requires { BlockAt p.now.now depth a × (length m.now.now ≤ 65535)
         × (at + dimension_size (is_counted p.now.now) ≤ length m.now.now) }
-    ensures { result ≡ (if is_counted p.now.now then coded (counts_at p.now.now depth a
+    ensures { result ≡ (when is_counted p.now.now then coded (counts_at p.now.now depth a
         m.now.now v at) else 0) }
 {
     let s = *p;

@@ -6,7 +6,7 @@ use Prim.Native.Nat.{◌+◌, ◌<◌, ◌≤◌, suc, zero, ℕ}
 use native.Mathlib.Omega.{arith}
 use lib.Dec.{leb}
 use lib.ListN.{length, take}
-use Rattle.layout.specs.Result.{Result, done, if◌then◌else◌}
+use Rattle.layout.specs.Result.{Result, done, when◌then◌else◌}
 use Rattle.layout.specs.Lists.{beside}
 use Rattle.layout.specs.Book.{Data, Field, Format, Groups, Shape, data_sinces, group_sinces, more, none, present}
 use Rattle.layout.specs.Values.{Values, entry, group, nil}
@@ -68,7 +68,7 @@ module _ (big : Bool) (m : List ℕ) (v : ℕ) (strict : Bool) where
   -- Data that the newer book knows are skipped as surplus.
   skips_datas : (ds : List Data) (n n' at : ℕ) → n ≡ n' + present v (data_sinces ds)
       → Sees strict datas_end (skip_datas big m n at) (read_datas big m v ds n' at)
-  unfolding read_datas in_row present if◌then◌else◌
+  unfolding read_datas in_row present when◌then◌else◌
   skips_datas [] n n' at e =
       let q : n ≡ n' = omega arith in
       rw q (sees_after strict (λ (x : ℕ). x) datas_end _ _ (λ x. ([], x)) (sees_same strict _) λ x. refl)
@@ -179,7 +179,7 @@ module _ (counted : Bool) (version : ℕ) (big : Bool) (m : List ℕ) (v : ℕ) 
       → n ≡ n' + present v (group_sinces new)
       → Sees strict row_end (in_row n (skip_group counted big m levels) at)
       (read_groups counted version big m v new levels n' at)
-  unfolding in_row read_groups Plain GoodGroups present group_sinces if◌then◌else◌
+  unfolding in_row read_groups Plain GoodGroups present group_sinces when◌then◌else◌
   skips_groups strict none levels n n' at plain good z e =
       let q : n ≡ n' = omega arith in
       rw q (sees_after strict (λ (x : ℕ). x) row_end _ _ (λ x. (nil, x)) (sees_same strict _) λ x. refl)
@@ -274,7 +274,7 @@ module _ (format : Format) (vo vn : ℕ) (newer : vo < vn) (m : List ℕ) (v : �
       (added_kept counted vn big m v s₀ new levels n' at)
   sees_groups grows (more i since s inner rest) none s₀ levels n n' at x good good' e = absurd x
   sees_groups grows (more i since s inner rest) (more i' since' s' inner' rest') s₀ levels n n' at x good good' e =
-      let same : ◌≡◌ {A = ℕ} (if leb since v then 1 else 0) (if leb since' v then 1 else 0) = rw x.same_since in
+      let same : ◌≡◌ {A = ℕ} (when leb since v then 1 else 0) (when leb since' v then 1 else 0) = rw x.same_since in
       sees_bind strict (kept_group s inner) (kept_row s₀ (more i since s inner rest)) _ _ _ _
       (rw x.same_since
       (sees_pick strict (kept_group s inner) (leb since' v) _ _ _ _

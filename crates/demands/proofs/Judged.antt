@@ -8,7 +8,7 @@ use native.Mathlib.Omega.{arith}
 use lib.Dec.{eqb}
 use lib.ListN.{drop, length, take}
 use borrow.Author.Tests.{eq-eqb, le-leb, leb-true, lt-ltb}
-use Rattle.layout.specs.Result.{Each, Result, ◌and◌, done, if◌then◌else◌}
+use Rattle.layout.specs.Result.{Each, Result, ◌and◌, done, when◌then◌else◌}
 use Rattle.layout.specs.Octets.{null16, number16, number_at, text_length}
 use Rattle.layout.specs.Types.{TypeRow, classify, in_range, type_at, value_of}
 use Rattle.layout.specs.Lists.{beside}
@@ -44,14 +44,14 @@ module _ (big : Bool) (l m : List ℕ) (v : ℕ) where
 
   class_judged : (f : Field) (i x to : ℕ) → let a = beside f.names (classify (type_at f.type) (is_optional f) x) in
       Sound a → Stands l (3 * i) (record_of a) to → judge_number l f i ≡ done a
-  unfolding classify if◌then◌else◌ beside Sound
+  unfolding classify when◌then◌else◌ beside Sound
   class_judged f i x to sound s = go (is_optional f and eqb x k.null) refl (in_range k x) refl sound s
     where
       k : TypeRow
       k = type_at f.type
 
       go : (b : Bool) → (is_optional f and eqb x k.null) ≡ b → (c : Bool) → in_range k x ≡ c
-          → let a = beside f.names (if b then Null else if c then Number x else OutOfRange x) in
+          → let a = beside f.names (when b then Null else when c then Number x else OutOfRange x) in
           Sound a → Stands l (3 * i) (record_of a) to → judge_number l f i ≡ done a
       go true e c o sound s = null_judged l m f i to (and_left _ _ e) s
       go false e true o sound s =
@@ -63,7 +63,7 @@ module _ (big : Bool) (l m : List ℕ) (v : ℕ) where
   text_judged : (f : Field) (i p to : ℕ) → let n = text_length (take f.length (drop p m)) in
       p + f.length ≤ length m → (is_optional f and eqb n 0) ≡ false → Stands l (3 * i) (record_of (Octets p n)) to
       → judge_text l m f i ≡ done (Octets p n)
-  unfolding if◌then◌else◌ ◌and◌
+  unfolding when◌then◌else◌ ◌and◌
   text_judged f i p to h e s =
       let n = text_length (take f.length (drop p m)) in
       let short = text_within f.length (drop p m) in
@@ -79,16 +79,16 @@ module _ (big : Bool) (l m : List ℕ) (v : ℕ) where
 
   array_judged : (f : Field) (i p to : ℕ) → p + f.length ≤ length m → Stands l (3 * i) (record_of (array_at m p f)) to
       → judge_array l m f i ≡ done (array_at m p f)
-  unfolding array_at judge_array if◌then◌else◌
+  unfolding array_at judge_array when◌then◌else◌
   array_judged f i p to h s = go (is_char f) (is_optional f and eqb n 0) refl s
     where
       n : ℕ
       n = text_length (take f.length (drop p m))
 
       go : (c b : Bool) → (is_optional f and eqb n 0) ≡ b
-          → let a = if c then (if b then Null else Octets p n) else Octets p f.length in
+          → let a = when c then (when b then Null else Octets p n) else Octets p f.length in
           Stands l (3 * i) (record_of a) to
-          → (if c then judge_text l m f i else judge_octets l m (eqb (third l i) f.length) i) ≡ done a
+          → (when c then judge_text l m f i else judge_octets l m (eqb (third l i) f.length) i) ≡ done a
       go true true e s = null_text_judged l m f i to (and_left _ _ e) s
       go true false e s = text_judged f i p to h e s
       go false b e s =
@@ -98,7 +98,7 @@ module _ (big : Bool) (l m : List ℕ) (v : ℕ) where
   field_judged : (f : Field) (i at to : ℕ) → length_good f ≡ true → f.since ≤ v → at + end f ≤ length m
       → Sound (read_field big m v at f)
       → Stands l (3 * i) (record_of (read_field big m v at f)) to → judge_field l m f i ≡ done (read_field big m v at f)
-  unfolding read_field if◌then◌else◌
+  unfolding read_field when◌then◌else◌
   field_judged f i at to g u h sound s =
       let q = le-leb f.since v u in
       rw q (go (is_array f) refl (rw q at sound) (rw q at s))
@@ -107,11 +107,11 @@ module _ (big : Bool) (l m : List ℕ) (v : ℕ) where
       k = type_at f.type
 
       a : Bool → Answer
-      a y = if y then array_at m (at + f.offset) f else beside f.names (classify k (is_optional f)
+      a y = when y then array_at m (at + f.offset) f else beside f.names (classify k (is_optional f)
           (value_of k (number_at big k.width m (at + f.offset))))
 
       go : (y : Bool) → is_array f ≡ y → Sound (a y) → Stands l (3 * i) (record_of (a y)) to
-          → (if y then judge_array l m f i else judge_number l f i) ≡ done (a y)
+          → (when y then judge_array l m f i else judge_number l f i) ≡ done (a y)
       go true y sound s = array_judged f i (at + f.offset) to (omega (arith, size_array f g y)) s
       go false y sound s = class_judged f i _ to sound s
 
@@ -119,7 +119,7 @@ module _ (big : Bool) (l m : List ℕ) (v : ℕ) where
       → at + need_after v e fs ≤ length m
       → Each Sound (map (read_field big m v at) fs) → Stands l (3 * i) (records_of (map (read_field big m v at) fs)) to
       → Judges l m (judge_fields l m fs) i to (map (read_field big m v at) fs)
-  unfolding Each records_of need_after if◌then◌else◌
+  unfolding Each records_of need_after when◌then◌else◌
   fields_judged [] i at len from e to g u h sound s = (i, omega (arith, s.ends), fields_stop l m i)
   fields_judged (f ∷ fs) i at len from e to g u h sound s =
       let k = field_good_lem len from f fs g in

@@ -8,7 +8,7 @@ use native.Mathlib.Omega.{arith}
 use lib.Dec.{eqb}
 use lib.ListN.{get_or, length}
 use borrow.Author.Tests.{eq-eqb, le-leb, lt-ltb}
-use Rattle.layout.specs.Result.{Result, ◌>>=◌, ◌and◌, ◌or◌, done, if◌then◌else◌, must}
+use Rattle.layout.specs.Result.{Result, ◌>>=◌, ◌and◌, ◌or◌, done, when◌then◌else◌, must}
 use Rattle.layout.specs.Octets.{null16}
 use Rattle.layout.specs.Types.{in_range, type_at}
 use Rattle.layout.specs.Lists.{has}
@@ -53,14 +53,14 @@ module _ (l m : List ℕ) where
   pub number_judged : (f : Field) (i x to : ℕ) → in_range (type_at f.type) x ≡ true
       → eqb x (type_at f.type).null ≡ false → has f.names x ≡ true
       → Stands l (3 * i) (record_of (Number x)) to → judge_number l f i ≡ done (Number x)
-  unfolding judge_number if◌then◌else◌ must ◌>>=◌ record_of ◌and◌ ◌or◌
+  unfolding judge_number when◌then◌else◌ must ◌>>=◌ record_of ◌and◌ ◌or◌
   number_judged f i x to o n y s =
       let r = record_is i 0 x 0 to s in
       rw (r.there, r.is₁, r.is₂, r.is₃, o, n, y) refl
 
   pub null_judged : (f : Field) (i to : ℕ) → is_optional f ≡ true → Stands l (3 * i) (record_of Null) to
       → judge_number l f i ≡ done Null
-  unfolding judge_number if◌then◌else◌ must ◌>>=◌ record_of ◌and◌ ◌or◌
+  unfolding judge_number when◌then◌else◌ must ◌>>=◌ record_of ◌and◌ ◌or◌
   null_judged f i to o s =
       let r = record_is i 1 0 0 to s in
       rw (r.there, r.is₁, r.is₂, r.is₃, o) refl
@@ -69,7 +69,7 @@ module _ (l m : List ℕ) where
 
   pub null_text_judged : (f : Field) (i to : ℕ) → is_optional f ≡ true → Stands l (3 * i) (record_of Null) to
       → judge_text l m f i ≡ done Null
-  unfolding judge_null if◌then◌else◌ must ◌>>=◌ record_of ◌and◌
+  unfolding judge_null when◌then◌else◌ must ◌>>=◌ record_of ◌and◌
   null_text_judged f i to o s =
       let r = record_is i 1 0 0 to s in
       rw (r.there, r.is₁, r.is₂, r.is₃, o) refl

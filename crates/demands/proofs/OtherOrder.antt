@@ -10,7 +10,7 @@ use lib.Dec.{eqb, leb}
 use lib.ListN.{drop, length, take}
 use lib.Seq.{take-take}
 use borrow.Author.Tests.{eqb-true, leb-true}
-use Rattle.layout.specs.Result.{Result, ◌>>=◌, ◌and◌, ◌or◌, done, if◌then◌else◌, must}
+use Rattle.layout.specs.Result.{Result, ◌>>=◌, ◌and◌, ◌or◌, done, when◌then◌else◌, must}
 use Rattle.layout.specs.Octets.{number16}
 use Rattle.layout.specs.Types.{classify, type_at}
 use Rattle.layout.specs.Lists.{beside}
@@ -153,7 +153,7 @@ module _ (big : Bool) (m : List ℕ) where
 
     turned_field : (at : ℕ) (f : Field) → length_good f ≡ true → leb f.since v ≡ true → at + end f ≤ length m
         → Turned m (at + f.offset) (at + end f) (SameField at f)
-    unfolding read_field if◌then◌else◌
+    unfolding read_field when◌then◌else◌
     turned_field at f g e h =
         let p = at + f.offset in
         let k = type_at f.type in
@@ -172,7 +172,7 @@ module _ (big : Bool) (m : List ℕ) where
     next_field at f fs m' a b = (rw (a.0, b.0) refl, rw (a.1, b.1) refl)
 
     absent_field : (at : ℕ) (f : Field) → leb f.since v ≡ false → (m' : List ℕ) → SameField at f m'
-    unfolding read_field if◌then◌else◌ content_of
+    unfolding read_field when◌then◌else◌ content_of
     absent_field at f e m' = rw e (refl, refl)
 
     -- Of the block of l octets at `at`, from its octet `from` on: the fields before end there, or later if absent, at
@@ -180,7 +180,7 @@ module _ (big : Bool) (m : List ℕ) where
     turned_fields : (fs : List Field) (at len low from l : ℕ) → fields_good len low fs ≡ true → from ≤ low
         → need_after v from fs ≤ l → at + l ≤ length m
         → Turned m (at + from) (at + l) (SameFields at fs)
-    unfolding need_after if◌then◌else◌
+    unfolding need_after when◌then◌else◌
     turned_fields [] at len low from l g u h fits =
         so (keep (at + from) (l - from) (omega arith) fits) λ m' _ _. (refl, refl)
     turned_fields (f ∷ fs) at len low from l g u h fits =

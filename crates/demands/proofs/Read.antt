@@ -5,7 +5,7 @@ use mathlib.Core.List.{List, ◌∷◌}
 use Prim.Native.Nat.{◌+◌, ◌<◌, ◌≤◌, ℕ}
 use lib.ListN.{length}
 use borrow.Author.Tests.{le-leb, leb-true, ltb-true}
-use Rattle.layout.specs.Result.{Result, done, if◌then◌else◌}
+use Rattle.layout.specs.Result.{Result, done, when◌then◌else◌}
 use Rattle.layout.specs.Octets.{null16, number16}
 use Rattle.layout.specs.Book.{Data, Groups, Shape, data_sinces, group_sinces, more, need}
 use Rattle.layout.specs.Values.{Values, group}
@@ -45,7 +45,7 @@ module _ (big : Bool) (m : List ℕ) (v : ℕ) where
   pub datas_read_lem : (d : Data) (ds : List Data) (at : ℕ) (r : List Answer × ℕ) → d.since ≤ v
       → read_datas big m v (d ∷ ds) 0 at ≡ done r
       → DatasRead ds at r
-  unfolding read_datas if◌then◌else◌
+  unfolding read_datas when◌then◌else◌
   datas_read_lem d ds at r u e =
       let p = inv_both _ _ _ _ (rw (le-leb d.since v u) at e) in
       record { first = p.value; rest = p.other; reads = p.first; after = p.second; is = p.is }
@@ -94,7 +94,7 @@ module _ (counted big : Bool) (m : List ℕ) where
     pub group_read_lem : (i since : ℕ) (s : Shape) (inner rest : Groups) (levels at : ℕ) (r : Values × ℕ) → since ≤ v
         → read_groups counted v big m v (more i since s inner rest) levels 0 at ≡ done r
         → GroupRead levels s inner rest at r
-    unfolding read_groups read_group if◌then◌else◌
+    unfolding read_groups read_group when◌then◌else◌
     group_read_lem i since s inner rest levels at r u e =
         let p = inv_both _ _ _ _ (rw (le-leb since v u) at e) in
         let d = inv_bind _ _ _ p.first in

@@ -8,7 +8,7 @@ use native.Mathlib.Omega.{arith}
 use lib.Dec.{eqb}
 use lib.ListN.{drop, length, length-replicate, replicate, take}
 use borrow.Author.Tests.{eqb-true, le-leb, leb-true}
-use Rattle.layout.specs.Result.{Each, Result, ◌and◌, done, if◌then◌else◌}
+use Rattle.layout.specs.Result.{Each, Result, ◌and◌, done, when◌then◌else◌}
 use Rattle.layout.specs.Octets.{AllOctets, number16, number_at, octets_of, text_length}
 use Rattle.layout.specs.Types.{TypeRow, classify, in_range, type_at, value_of}
 use Rattle.layout.specs.Lists.{beside}
@@ -46,7 +46,7 @@ module _ (big : Bool) (m : List ℕ) (v : ℕ) (octets : AllOctets m) where
   class_stands : (f : Field) (p : ℕ) → is_array f ≡ false → let k = type_at f.type in
       let a = classify k (is_optional f) (value_of k (number_at big k.width m p)) in
       p + k.width ≤ length m → Sound a → Stands m p (field_octets big m f a) (p + k.width)
-  unfolding classify if◌then◌else◌ field_octets Sound
+  unfolding classify when◌then◌else◌ field_octets Sound
   class_stands f p plain h s = go (is_optional f and eqb y k.null) refl (in_range k y) s
     where
       k : TypeRow
@@ -56,8 +56,8 @@ module _ (big : Bool) (m : List ℕ) (v : ℕ) (octets : AllOctets m) where
       y = value_of k (number_at big k.width m p)
 
       go : (b : Bool) → (is_optional f and eqb y k.null) ≡ b → (c : Bool)
-          → Sound (if b then Null else if c then Number y else OutOfRange y)
-          → Stands m p (field_octets big m f (if b then Null else if c then Number y else OutOfRange y)) (p + k.width)
+          → Sound (when b then Null else when c then Number y else OutOfRange y)
+          → Stands m p (field_octets big m f (when b then Null else when c then Number y else OutOfRange y)) (p + k.width)
       go true e c s =
           let n : y ≡ k.null = eqb-true y k.null (and_right _ _ e) in
           rw plain (octets_stand big m octets k.width p k.null h
@@ -67,7 +67,7 @@ module _ (big : Bool) (m : List ℕ) (v : ℕ) (octets : AllOctets m) where
 
   array_stands : (f : Field) (at : ℕ) → is_array f ≡ true → at + f.offset + f.length ≤ length m → ZeroTail m at f
       → let p = at + f.offset in Stands m p (field_octets big m f (array_at m p f)) (p + f.length)
-  unfolding field_octets span_of array_at if◌then◌else◌ ◌and◌
+  unfolding field_octets span_of array_at when◌then◌else◌ ◌and◌
   array_stands f at y h tail = go (is_char f) refl (is_optional f and eqb n 0) refl
     where
       p : ℕ
@@ -80,7 +80,7 @@ module _ (big : Bool) (m : List ℕ) (v : ℕ) (octets : AllOctets m) where
       zeros c = tail (rw (y, c) refl)
 
       go : (c : Bool) → is_char f ≡ c → (b : Bool) → (is_optional f and eqb n 0) ≡ b
-          → Stands m p (field_octets big m f (if c then (if b then Null else Octets p n) else Octets p f.length))
+          → Stands m p (field_octets big m f (when c then (when b then Null else Octets p n) else Octets p f.length))
           (p + f.length)
       go true c true e =
           let q : p + n ≡ p = omega (arith, eqb-true n 0 (and_right (is_optional f) (eqb n 0) e)) in
@@ -96,7 +96,7 @@ module _ (big : Bool) (m : List ℕ) (v : ℕ) (octets : AllOctets m) where
   field_stands : (f : Field) (at : ℕ) → length_good f ≡ true → f.since ≤ v → at + end f ≤ length m
       → ZeroTail m at f → Sound (read_field big m v at f)
       → Stands m (at + f.offset) (field_octets big m f (read_field big m v at f)) (at + end f)
-  unfolding read_field if◌then◌else◌
+  unfolding read_field when◌then◌else◌
   field_stands f at g u h tail s = rw (le-leb f.since v u) (go (is_array f) refl (rw (le-leb f.since v u) at s))
     where
       k : TypeRow
@@ -109,7 +109,7 @@ module _ (big : Bool) (m : List ℕ) (v : ℕ) (octets : AllOctets m) where
       number = classify k (is_optional f) (value_of k (number_at big k.width m p))
 
       a : Bool → Answer
-      a y = if y then array_at m p f else beside f.names number
+      a y = when y then array_at m p f else beside f.names number
 
       go : (y : Bool) → is_array f ≡ y → Sound (a y) → Stands m p (field_octets big m f (a y)) (at + end f)
       go true y s =

@@ -8,7 +8,7 @@ use native.Mathlib.Omega.{arith}
 use lib.Dec.{eqb}
 use lib.ListN.{drop, length, length-append, length-replicate, replicate, take}
 use borrow.Author.Tests.{eq-eqb, eqb-true, le-leb, leb-true, lt-ltb, ltb-true, not-true}
-use Rattle.layout.specs.Result.{Each, Result, ◌>>=◌, ◌and◌, done, if◌then◌else◌, must}
+use Rattle.layout.specs.Result.{Each, Result, ◌>>=◌, ◌and◌, done, when◌then◌else◌, must}
 use Rattle.layout.specs.Octets.{Numbers64, null16, number16, number_at, octets_of, text_length}
 use Rattle.layout.specs.Types.{TypeRow, classify, in_range, type_at, value_of}
 use Rattle.layout.specs.Lists.{beside, has}
@@ -56,12 +56,12 @@ module _ (big : Bool) (l pool m : List ℕ) (v : ℕ) (small : Numbers64 l) wher
   -- ---- a field
 
   class_null : (k : TypeRow) → classify k true k.null ≡ Null
-  unfolding classify if◌then◌else◌ ◌and◌
+  unfolding classify when◌then◌else◌ ◌and◌
   class_null k = rw (eq-eqb k.null k.null refl) refl
 
   class_number : (k : TypeRow) (o : Bool) (x : ℕ) → in_range k x ≡ true → eqb x k.null ≡ false
       → classify k o x ≡ Number x
-  unfolding classify if◌then◌else◌ ◌and◌
+  unfolding classify when◌then◌else◌ ◌and◌
   class_number k true x h n = rw (n, h) refl
   class_number k false x h n = rw h refl
 
@@ -74,7 +74,7 @@ module _ (big : Bool) (l pool m : List ℕ) (v : ℕ) (small : Numbers64 l) wher
   null_back_at : (f : Field) (at to : ℕ) → is_array f ≡ false → is_optional f ≡ true
       → Stands m at (field_octets big pool f Null) to
       → ReadAs f at Null
-  unfolding field_octets if◌then◌else◌ beside
+  unfolding field_octets when◌then◌else◌ beside
   null_back_at f at to y o s =
       let k = type_at f.type in
       let e = ap (value_of k) (number_stands big k.width k.null (rw y at s)) ∙ null_back f.type in
@@ -95,7 +95,7 @@ module _ (big : Bool) (l pool m : List ℕ) (v : ℕ) (small : Numbers64 l) wher
   number_field : (f : Field) (i at to : ℕ) (a : Answer) → is_array f ≡ false
       → judge_field l pool f i ≡ done a
       → Stands m at (field_octets big pool f a) to → ReadAs f at a × (content_of m a ≡ content_of pool a)
-  unfolding if◌then◌else◌ content_of
+  unfolding when◌then◌else◌ content_of
   number_field f i at to a y e s =
       let q = number_said l pool f i a y e in
       go (eqb (first l i) 1) q.fits q.is
@@ -103,9 +103,9 @@ module _ (big : Bool) (l pool m : List ℕ) (v : ℕ) (small : Numbers64 l) wher
       k : TypeRow
       k = type_at f.type
 
-      go : (b : Bool) → (if b then is_optional f
+      go : (b : Bool) → (when b then is_optional f
           else in_range k (second l i) and not (eqb (second l i) k.null) and has f.names (second l i)) ≡ true
-          → (if b then Null else Number (second l i)) ≡ a → ReadAs f at a × (content_of m a ≡ content_of pool a)
+          → (when b then Null else Number (second l i)) ≡ a → ReadAs f at a × (content_of m a ≡ content_of pool a)
       go true h q = rw (← q) (null_back_at f at to y h (rw (← q) at s), refl)
       go false h q = rw (← q) (number_back_at f (second l i) at to (small (3 * i + 1)) h (rw (← q) at s), refl)
 
@@ -135,14 +135,14 @@ module _ (big : Bool) (l pool m : List ℕ) (v : ℕ) (small : Numbers64 l) wher
 
   null_array : (f : Field) (at to : ℕ) → is_array f ≡ true → is_char f ≡ true → is_optional f ≡ true
       → Stands m at (field_octets big pool f Null) to → array_at m at f ≡ Null
-  unfolding field_octets array_at if◌then◌else◌ ◌and◌
+  unfolding field_octets array_at when◌then◌else◌ ◌and◌
   null_array f at to y c o s =
       let n = f.length in
       let w : take n (drop at m) ≡ replicate n 0 = rw (length-replicate {A = ℕ} n 0) at (rw y at s).whole in
       rw (c, o, w, text_zeros n) refl
 
   plain_array : (f : Field) (at : ℕ) → is_char f ≡ false → array_at m at f ≡ Octets at f.length
-  unfolding array_at if◌then◌else◌
+  unfolding array_at when◌then◌else◌
   plain_array f at c = rw c refl
 
   -- A text is read up to where it ended.
@@ -150,7 +150,7 @@ module _ (big : Bool) (l pool m : List ℕ) (v : ℕ) (small : Numbers64 l) wher
       → second l i + third l i ≤ length pool
       → Stands m at (field_octets big pool f (Octets (second l i) (third l i))) to
       → array_at m at f ≡ Octets at (third l i)
-  unfolding field_octets span_of array_at if◌then◌else◌
+  unfolding field_octets span_of array_at when◌then◌else◌
   text_array f i at to c h within s =
       let n = f.length in
       let len = third l i in
@@ -183,14 +183,14 @@ module _ (big : Bool) (l pool m : List ℕ) (v : ℕ) (small : Numbers64 l) wher
       → judge_field l pool f i ≡ done a
       → Stands m (base + f.offset) (field_octets big pool f a) to
       → content_of m (read_field big m v base f) ≡ content_of pool a
-  unfolding read_field if◌then◌else◌
+  unfolding read_field when◌then◌else◌
   field_back f i base to a h e s = rw (le-leb f.since v h) (go (is_array f) refl)
     where
       k : TypeRow
       k = type_at f.type
 
       go : (y : Bool) → is_array f ≡ y
-          → content_of m (if y then array_at m (base + f.offset) f else beside f.names (classify k
+          → content_of m (when y then array_at m (base + f.offset) f else beside f.names (classify k
           (is_optional f) (value_of k (number_at big k.width m (base + f.offset))))) ≡ content_of pool a
       go true y = array_field f i (base + f.offset) to a y (array_said l pool f i a y e) s
       go false y =
@@ -255,7 +255,7 @@ module _ (big : Bool) (l pool m : List ℕ) (v : ℕ) (small : Numbers64 l) wher
   datas_next : (d : Data) (ds : List Data) (at to : ℕ) (b : Answer × ℕ) (w : List Answer) → d.since ≤ v
       → read_data big m at ≡ done b → read_datas big m v ds 0 b.1 ≡ done (w, to)
       → read_datas big m v (d ∷ ds) 0 at ≡ done (b.0 ∷ w, to)
-  unfolding read_datas ◌>>=◌ if◌then◌else◌
+  unfolding read_datas ◌>>=◌ when◌then◌else◌
   datas_next d ds at to b w h e q = rw (le-leb d.since v h, e, q) refl
 
   datas_back : (ds : List Data) (i at to : ℕ) (r : List Answer × ℕ) → UpTo v (data_sinces ds)
@@ -435,7 +435,7 @@ module _ (counted big : Bool) (l pool m : List ℕ) (v : ℕ) (small : Numbers64
       ≡ done (es, x)
       → read_known rest levels x ≡ done (r, to)
       → read_known (more i since s inner rest) levels at ≡ done (group (Group k) es r, to)
-  unfolding read_groups read_group must ◌>>=◌ ◌and◌ if◌then◌else◌
+  unfolding read_groups read_group must ◌>>=◌ ◌and◌ when◌then◌else◌
   groups_next i since s inner rest levels at x to k es r h a n o b c =
       rw (
         le-leb since v h,

@@ -7,7 +7,7 @@ use native.Mathlib.Omega.{arith}
 use lib.Dec.{eqb}
 use lib.ListN.{length, length-replicate, replicate}
 use borrow.Author.Tests.{eq-eqb, le-leb, leb-false, leb-true, ltb-true, ne_eqb, not-true}
-use Rattle.layout.specs.Result.{Each, ◌>>=◌, ◌and◌, ◌or◌, done, if◌then◌else◌, must, refused}
+use Rattle.layout.specs.Result.{Each, ◌>>=◌, ◌and◌, ◌or◌, done, when◌then◌else◌, must, refused}
 use Rattle.layout.specs.Octets.{AllOctets, Numbers64, text_length}
 use Rattle.layout.specs.Book.{Book, Data, Field, Groups, Shape, Template, end, group_sinces, is_array, is_char, is_optional}
 use Rattle.layout.specs.Book.{more, none}
@@ -73,7 +73,7 @@ module _ (f : Field) where
           record {
             answer = Null;
             small = unfold record_of in kind_small 1 (omega arith);
-            judged = λ l i to s. unfold judge_array if◌then◌else◌ in rw (y, c) (null_text_judged l zeros f i to o s);
+            judged = λ l i to s. unfold judge_array when◌then◌else◌ in rw (y, c) (null_text_judged l zeros f i to o s);
           }
       go true c false o =
           record {
@@ -81,7 +81,7 @@ module _ (f : Field) where
             small = unfold record_of in kind_small 2 (omega arith);
             judged = λ l i to s.
                 let r = record_is l zeros i 2 0 0 to (unfold record_of in s) in
-                unfold judge_array if◌then◌else◌ in
+                unfold judge_array when◌then◌else◌ in
                 rw (y, c, r.is₁)
                 (octets_judged l zeros _ i 0 0 to
                 (unfold ◌and◌ text_length in rw (r.is₂, r.is₃, le-leb 0 f.length (omega arith), o) refl)
@@ -94,7 +94,7 @@ module _ (f : Field) where
             small = unfold record_of in three_small 2 0 f.length (omega arith) (omega arith) (omega arith);
             judged = λ l i to s.
                 let r = record_is l zeros i 2 0 f.length to (unfold record_of in s) in
-                unfold judge_array if◌then◌else◌ in
+                unfold judge_array when◌then◌else◌ in
                 rw (y, c)
                 (octets_judged l zeros _ i 0 f.length to (eq-eqb _ _ r.is₃)
                 (omega (arith, length-replicate {A = ℕ} 1024 0)) s);
@@ -108,7 +108,7 @@ module _ (f : Field) where
           record {
             answer = Null;
             small = unfold record_of in kind_small 1 (omega arith);
-            judged = λ l i to s. unfold if◌then◌else◌ in rw y (null_judged l zeros f i to o s);
+            judged = λ l i to s. unfold when◌then◌else◌ in rw y (null_judged l zeros f i to o s);
           }
       go false o =
           let x = h (unfold ◌or◌ in rw (y, o) refl) in
@@ -117,7 +117,7 @@ module _ (f : Field) where
             answer = Number x.0;
             small = unfold record_of in three_small 0 x.0 0 (omega arith) x.1 (omega arith);
             judged = λ l i to s.
-                unfold if◌then◌else◌ in
+                unfold when◌then◌else◌ in
                 rw y (number_judged l zeros f i x.0 to (and_left _ _ x.2) (not-true _ (and_left _ _ t))
                 (and_right _ _ t) s);
           }
@@ -284,7 +284,7 @@ sent book b t e a h =
 
 module _ (l pool : List ℕ) (small : Numbers64 l) where
   field_said : (f : Field) (i : ℕ) (a : Answer) → judge_field l pool f i ≡ done a → HasValue f
-  unfolding ◌or◌ if◌then◌else◌
+  unfolding ◌or◌ when◌then◌else◌
   field_said f i a e other =
       let y : is_array f ≡ false = (or_none (is_array f) (is_optional f) other).0 in
       let q = number_said l pool f i a y e in

@@ -6,7 +6,7 @@ use mathlib.Core.List.{List, ◌++◌}
 use Prim.Native.Nat.{◌+◌, ◌≤◌, ℕ}
 use native.Mathlib.Omega.{arith}
 use lib.ListN.{drop, length, length-append, length-reverse, take}
-use Rattle.layout.specs.Result.{Result, ◌>>=◌, done, if◌then◌else◌, must}
+use Rattle.layout.specs.Result.{Result, ◌>>=◌, done, when◌then◌else◌, must}
 use Rattle.layout.specs.Octets.{in_order, number_at, number_of}
 use Rattle.layout.specs.Types.{is_width}
 use Rattle.layout.specs.Demands.{Runs, kept, row, turned}
@@ -139,7 +139,7 @@ module _ {m : List ℕ} {A : Type 0} {H : List ℕ → Type 0} {at : ℕ} {end :
 
   pub turns_if : (t : Bool) {x x₂ : Result A} {y y₂ : List ℕ → Result A} → TurnsIf m H at end P x y
       → TurnsIf m H at end P x₂ y₂
-      → TurnsIf m H at end P (if t then x else x₂) (λ m'. if t then y m' else y₂ m')
-  unfolding if◌then◌else◌
+      → TurnsIf m H at end P (when t then x else x₂) (λ m'. when t then y m' else y₂ m')
+  unfolding when◌then◌else◌
   turns_if true u v = u
   turns_if false u v = v

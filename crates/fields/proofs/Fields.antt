@@ -1,7 +1,7 @@
 -- What a field is, as the code's tests find it.
 use Rattle.std.proofs.Common.{◌≡◌, ℕ, zero, suc, ◌+◌, ◌-◌, ◌<◌, ◌≤◌, Bool, true, false, eqb, leb, List, [], ◌∷◌, length, take, drop, sym, refl, ap, ◌∙◌, mul-le-mul_right, mul-one, arith, le-ltb, lt-ltb, ne_eqb, eqb-true, le-leb, leb-true}
 use borrow.Author.Tests.{lt-leb}
-use Rattle.layout.specs.Result.{Each, ◌and◌, if◌then◌else◌}
+use Rattle.layout.specs.Result.{Each, ◌and◌, when◌then◌else◌}
 use Rattle.layout.specs.Octets.{number_at, text_length}
 use Rattle.layout.specs.Lists.{beside, no_names}
 use Rattle.layout.specs.Types.{classify, type_at, value_of}
@@ -34,32 +34,32 @@ module _ (m : List ℕ) (v at : ℕ) (f : Field) (h : f.since ≤ v) (p : Fits m
 
 module _ (big : Bool) (m : List ℕ) (v at : ℕ) (f : Field) where
   pub field_absent : v < f.since → read_field big m v at f ≡ Absent
-  unfolding read_field if◌then◌else◌
+  unfolding read_field when◌then◌else◌
   field_absent h = rw (lt-leb f.since v h) refl
 
   module _ (h : f.since ≤ v) where
     pub field_array : 1 < f.length → read_field big m v at (plain f) ≡ array_at m (at + f.offset) f
-    unfolding read_field array_at if◌then◌else◌
+    unfolding read_field array_at when◌then◌else◌
     field_array l = rw (le-leb f.since v h, lt-ltb 1 f.length l) refl
 
     pub field_number : f.length ≤ 1 → read_field big m v at (plain f) ≡ classify (type_at f.type) (is_optional f)
         (value_of (type_at f.type) (number_at big (type_at f.type).width m (at + f.offset)))
-    unfolding read_field if◌then◌else◌
+    unfolding read_field when◌then◌else◌
     field_number l = rw (le-leb f.since v h, le-ltb 1 f.length l) (beside_none _)
 
 -- ---- arrays
 
 module _ (m : List ℕ) (start : ℕ) (f : Field) where
   pub array_octets : (f.type ≡ 0 → ⊥) → array_at m start f ≡ Octets start f.length
-  unfolding array_at if◌then◌else◌
+  unfolding array_at when◌then◌else◌
   array_octets other = rw (ne_eqb f.type 0 other) refl
 
   module _ (char : f.type ≡ 0) (n : ℕ) (long : n ≡ text_length (take f.length (drop start m))) where
     pub text_some : 0 < n → array_at m start f ≡ Octets start n
-    unfolding array_at if◌then◌else◌ ◌and◌
+    unfolding array_at when◌then◌else◌ ◌and◌
     text_some some = rw (char, ← long, ne_eqb n 0 (λ e. omega (arith, some, e))) (either_way (is_optional f))
       where
-        either_way : (b : Bool) → (if b and false then Null else Octets start n) ≡ Octets start n
+        either_way : (b : Bool) → (when b and false then Null else Octets start n) ≡ Octets start n
         either_way true = refl
         either_way false = refl
 
@@ -68,11 +68,11 @@ module _ (m : List ℕ) (start : ℕ) (f : Field) where
       none = omega arith
 
       pub text_null : f.presence ≡ 1 → array_at m start f ≡ Null
-      unfolding array_at if◌then◌else◌ ◌and◌
+      unfolding array_at when◌then◌else◌ ◌and◌
       text_null optional = rw (char, ← long, none, optional) refl
 
       pub text_empty : (f.presence ≡ 1 → ⊥) → array_at m start f ≡ Octets start 0
-      unfolding array_at if◌then◌else◌ ◌and◌
+      unfolding array_at when◌then◌else◌ ◌and◌
       text_empty required = rw (char, ← long, none, ne_eqb f.presence 1 required) refl
 
 -- ---- the fields of a good block
@@ -105,12 +105,12 @@ fields_fit_lem m v at size l e least (f ∷ fs) g h n i = (
     good : FieldGood l e f fs
     good = field_good_lem l e f fs g
 
-    low : (if leb f.since v then end f else least) ≤ end f
+    low : (when leb f.since v then end f else least) ≤ end f
     low = either (λ x. x ≤ end f) (leb f.since v) (end f) least (omega arith) (omega (arith, good.placed))
 
     within : f.since ≤ v → at + end f ≤ length m
     within here =
-        let here-is : need_after v (end f) fs ≤ size = unfold if◌then◌else◌ in rw (le-leb f.since v here) at n in
+        let here-is : need_after v (end f) fs ≤ size = unfold when◌then◌else◌ in rw (le-leb f.since v here) at n in
         omega (arith, need_least v l (end f) (end f) fs good.rest (omega arith), here-is)
 
 pub fields_each : (P : Field → Type 0) (p : List ℕ) (n f : ℕ) → 0 < n → Each P (parse_fields (lists_at p) p n f)

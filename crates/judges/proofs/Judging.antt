@@ -3,7 +3,7 @@ use Rattle.std.proofs.Common.{◌≡◌, ℕ, suc, ◌+◌, ◌-◌, ◌*◌, �
 use native.Mathlib.Nat.{sub_self, sub-zero}
 use borrow.Author.Tests.{lt-leb}
 use borrow.Fn.Enter.{pair≡}
-use Rattle.layout.specs.Result.{Result, done, refused, must, if◌then◌else◌, ◌and◌, ◌>>=◌}
+use Rattle.layout.specs.Result.{Result, done, refused, must, when◌then◌else◌, ◌and◌, ◌>>=◌}
 use Rattle.layout.specs.Octets.{null16}
 use Rattle.layout.specs.Types.{in_range, type_at}
 use Rattle.layout.specs.Book.{Field, Groups, Shape, Template, more, none}
@@ -192,29 +192,29 @@ module _ (l pool : List ℕ) (f : Field) (i : ℕ) where
   as_field r = judged (field_end i) r
 
   pub field_array : 1 < f.length → as_field (judge_field l pool f i) ≡ as_field (judge_array l pool f i)
-  unfolding if◌then◌else◌
+  unfolding when◌then◌else◌
   field_array h = rw (lt-ltb 1 f.length h) refl
 
   pub field_number : f.length ≤ 1 → as_field (judge_field l pool f i) ≡ as_field (judge_number l f i)
-  unfolding if◌then◌else◌
+  unfolding when◌then◌else◌
   field_number h = rw (le-ltb 1 f.length h) refl
 
   pub array_text : f.type ≡ 0 → as_field (judge_array l pool f i) ≡ as_field (judge_text l pool f i)
-  unfolding judge_array if◌then◌else◌
+  unfolding judge_array when◌then◌else◌
   array_text h = rw (eq-eqb f.type 0 h) refl
 
   pub array_plain : (f.type ≡ 0 → ⊥)
       → as_field (judge_array l pool f i) ≡ as_field (judge_octets l pool (eqb (third l i) f.length) i)
-  unfolding judge_array if◌then◌else◌
+  unfolding judge_array when◌then◌else◌
   array_plain h = rw (ne_eqb f.type 0 h) refl
 
   module _ (h : is_null l i ≡ true) where
     pub null_required : (f.presence ≡ 1 → ⊥) → as_field (judge_text l pool f i) ≡ Refused (refusal 52 i)
-    unfolding judge_null judged must ◌>>=◌ if◌then◌else◌
+    unfolding judge_null judged must ◌>>=◌ when◌then◌else◌
     null_required k = rw (h, and_left _ _ (and_right _ _ h), ne_eqb f.presence 1 k) refl
 
     pub null_optional : f.presence ≡ 1 → as_field (judge_text l pool f i) ≡ To (i + 1) 0
-    unfolding judge_null judged must ◌>>=◌ if◌then◌else◌
+    unfolding judge_null judged must ◌>>=◌ when◌then◌else◌
     null_optional k = rw (h, and_left _ _ (and_right _ _ h), eq-eqb f.presence 1 k) refl
 
   -- A record of null's kind is no octets.
@@ -225,7 +225,7 @@ module _ (l pool : List ℕ) (f : Field) (i : ℕ) where
   -- A record of null's kind that is no null is 51 either way.
   pub text_octets : is_null l i ≡ false
       → as_field (judge_text l pool f i) ≡ as_field (judge_octets l pool (text_fits l pool f i) i)
-  unfolding judge_null judge_octets must ◌>>=◌ if◌then◌else◌
+  unfolding judge_null judge_octets must ◌>>=◌ when◌then◌else◌
   text_octets h = each_way (eqb (first l i) 1) (λ e. rw (h, null_kind e, e) refl) (λ e. rw e refl)
 
 module _ (l pool p : List ℕ) where

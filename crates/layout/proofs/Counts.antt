@@ -8,7 +8,7 @@ use native.Mathlib.Nat.{le_refl}
 use native.Mathlib.Omega.{arith}
 use lib.ListN.{length, length-map}
 use borrow.Author.Tests.{eq-eqb, eqb-true, le-leb}
-use Rattle.layout.specs.Result.{Each, if◌then◌else◌}
+use Rattle.layout.specs.Result.{Each, when◌then◌else◌}
 use Rattle.layout.specs.Octets.{null16, number16}
 use Rattle.layout.specs.Book.{Data, Groups, Shape, data_sinces, group_sinces, present}
 use Rattle.layout.specs.Message.{count_at, count_good, surplus}
@@ -30,7 +30,7 @@ counts_whole false s gs few = tt
 module _ (counted : Bool) (v : ℕ) (ss : List ℕ) (big : Bool) (m : List ℕ) (at : ℕ) where
   count_good_lem : UpTo v ss → (counted ≡ true → number16 big m at ≡ length ss)
       → count_good counted v v ss (count_at counted big m at) ≡ true
-  unfolding count_good if◌then◌else◌
+  unfolding count_good when◌then◌else◌
   count_good_lem u h = go counted h
     where
       go : (c : Bool) → (c ≡ true → number16 big m at ≡ length ss) → count_good c v v ss (count_at c big m at) ≡ true
@@ -41,12 +41,12 @@ module _ (counted : Bool) (v : ℕ) (ss : List ℕ) (big : Bool) (m : List ℕ) 
   -- A count that is good at the book's own version is what is present.
   count_is : count_good counted v v ss (count_at counted big m at) ≡ true → counted ≡ true
       → number16 big m at ≡ present v ss
-  unfolding count_good if◌then◌else◌
+  unfolding count_good when◌then◌else◌
   count_is e c = eqb-true _ _ (rw (c, le-leb v v (le_refl v)) at e)
 
   none_surplus : count_good counted v v ss (count_at counted big m at) ≡ true
       → surplus v ss (count_at counted big m at) ≡ 0
-  unfolding if◌then◌else◌
+  unfolding when◌then◌else◌
   none_surplus e = go counted (count_is e)
     where
       go : (c : Bool) → (c ≡ true → number16 big m at ≡ present v ss) → surplus v ss (count_at c big m at) ≡ 0
@@ -110,6 +110,6 @@ module _ (counted : Bool) (v : ℕ) (gs : Groups) (ds : List Data) (big : Bool) 
 pub counts_are : (counted big : Bool) (m : List ℕ) (at : ℕ) (gs : Groups) (ds : List Data)
     → AllWhole (counts_of counted gs ds) → AreAt big m at (counts_of counted gs ds)
     → (count_at counted big m at < null16) × (count_at counted big m (at + 2) < null16)
-unfolding counts_of AreAt Each if◌then◌else◌
+unfolding counts_of AreAt Each when◌then◌else◌
 counts_are true big m at gs ds w a = (omega (arith, a.0, w.0), omega (arith, a.1.0, w.1.0))
 counts_are false big m at gs ds w a = (omega arith, omega arith)

@@ -7,7 +7,7 @@ use Prim.Native.Nat.{◌<◌, ◌^◌, suc, zero, ℕ}
 use native.Mathlib.Omega.{arith}
 use lib.Dec.{eqb, leb}
 use borrow.Author.Tests.{eq-eqb, le-leb, leb-true}
-use Rattle.layout.specs.Result.{Each, ◌and◌, ◌or◌, if◌then◌else◌}
+use Rattle.layout.specs.Result.{Each, ◌and◌, ◌or◌, when◌then◌else◌}
 use Rattle.layout.specs.Types.{TypeRow, in_range, int, type_at, uint}
 use Rattle.layout.specs.Lists.{Kind, enumeration, free, has, is_listed, is_one_of, missing, only_bits, set}
 use Rattle.layout.specs.Book.{Field, end, is_array, is_optional}
@@ -24,7 +24,7 @@ abbrev InType : TypeRow → Type 0
 InType k = (x : ℕ) × (x < 2 ^ 64) × (in_range k x ≡ true)
 
 some_number : (t : ℕ) → InType (type_at t)
-unfolding in_range if◌then◌else◌ ◌and◌ ◌or◌
+unfolding in_range when◌then◌else◌ ◌and◌ ◌or◌
 some_number t =
     each_type InType (32, omega arith, refl)
     (λ w h. (0, omega arith, rw (le-leb 0 (int w).greatest (omega arith)) refl))
@@ -37,7 +37,7 @@ no_bits ns i zero = refl
 no_bits ns i (suc w) = no_bits ns (suc i) w
 
 zero_in_range : (t : ℕ) → is_one_of t (2 ∷ 4 ∷ 6 ∷ 8 ∷ []) ≡ true → in_range (type_at t) 0 ≡ true
-unfolding Each in_range type_at if◌then◌else◌ ◌and◌ ◌or◌
+unfolding Each in_range type_at when◌then◌else◌ ◌and◌ ◌or◌
 zero_in_range t h = one_of (λ t. in_range (type_at t) 0 ≡ true) _ (refl, (refl, (refl, (refl, tt)))) t h
 
 taken : (f : Field) (x : ℕ) → in_range (type_at f.type) x ≡ true → has f.names x ≡ true → takes f x ≡ true
@@ -65,11 +65,11 @@ abbrev Narrow : TypeRow → Type 0
 Narrow k = (k.signed ≡ false) × (k.greatest < 2 ^ 64)
 
 narrow : (t : ℕ) → is_one_of t (0 ∷ 2 ∷ 4 ∷ []) ≡ true → Narrow (type_at t)
-unfolding Each type_at if◌then◌else◌ ◌and◌
+unfolding Each type_at when◌then◌else◌ ◌and◌
 narrow t h = one_of (λ t. Narrow (type_at t)) _ ((refl, omega arith), ((refl, omega arith), ((refl, omega arith), tt))) t h
 
 narrow_small : (k : TypeRow) → Narrow k → (x : ℕ) → in_range k x ≡ true → x < 2 ^ 64
-unfolding in_range if◌then◌else◌
+unfolding in_range when◌then◌else◌
 narrow_small k n x o =
     let r : (leb k.least x and leb x k.greatest) ≡ true = rw n.0 at o in
     omega (arith, leb-true x k.greatest (and_right _ _ r), n.1)

@@ -9,7 +9,7 @@ use lib.Dec.{eqb}
 use lib.ListN.{drop, length, length-append, length-drop, length-replicate, replicate, take}
 use lib.Seq.{length-take-le}
 use borrow.Author.Tests.{leb-true}
-use Rattle.layout.specs.Result.{Result, done, if◌then◌else◌}
+use Rattle.layout.specs.Result.{Result, done, when◌then◌else◌}
 use Rattle.layout.specs.Octets.{octets_of}
 use Rattle.layout.specs.Types.{type_at}
 use Rattle.layout.specs.Book.{Book, Data, Field, Groups, Shape, Template, end, is_array, more, none, size}
@@ -43,7 +43,7 @@ module _ (big : Bool) (l pool : List ℕ) where
       filled_long (take len (drop start pool)) (f.length - len) _ ∙ omega (arith, span_long pool start len h)
 
   null_long : (f : Field) → is_array f ≡ true → length (field_octets big pool f Null) ≡ f.length
-  unfolding field_octets if◌then◌else◌
+  unfolding field_octets when◌then◌else◌
   null_long f y = rw y (length-replicate {A = ℕ} f.length _)
 
   said_long : (f : Field) (i : ℕ) (a : Answer) → is_array f ≡ true → ArraySaid l pool f i a
@@ -56,8 +56,8 @@ module _ (big : Bool) (l pool : List ℕ) where
       rw (← q.is) (array_long f (second l i) (third l i) q.within (omega arith))
 
   number_long : (f : Field) (b : Bool) (x : ℕ) → is_array f ≡ false
-      → length (field_octets big pool f (if b then Null else Number x)) ≡ (type_at f.type).width
-  unfolding field_octets if◌then◌else◌
+      → length (field_octets big pool f (when b then Null else Number x)) ≡ (type_at f.type).width
+  unfolding field_octets when◌then◌else◌
   number_long f true x y = rw y (length_octets big _ _)
   number_long f false x y = length_octets big _ _
 
@@ -127,7 +127,7 @@ module _ (big : Bool) (l pool : List ℕ) where
 -- The counts, where there are any.
 pub counts_long : (counted : Bool) (gs : Groups) (ds : List Data)
     → length (counts_of counted gs ds) ≡ count_numbers counted
-unfolding counts_of if◌then◌else◌
+unfolding counts_of when◌then◌else◌
 counts_long true gs ds = refl
 counts_long false gs ds = refl
 

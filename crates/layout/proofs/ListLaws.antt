@@ -8,7 +8,7 @@ use native.Mathlib.Numerals.{unary_clauses}
 use native.Mathlib.Omega.{arith}
 use lib.Dec.{eqb, ltb}
 use borrow.Author.Tests.{eqb-true, leb-true, ltb-true}
-use Rattle.layout.specs.Result.{Each, ◌or◌, if◌then◌else◌}
+use Rattle.layout.specs.Result.{Each, ◌or◌, when◌then◌else◌}
 use Rattle.layout.specs.Lists.{KeepsNames, Kind, Names, beside, enumeration, free, has, is_listed, is_one_of}
 use Rattle.layout.specs.Lists.{missing, no_names, only_bits, set}
 use Rattle.layout.specs.Book.{Field, with_names}
@@ -52,11 +52,11 @@ has_more old new k x h = rw (← k.same_kind) (listed_more old.numbers new.numbe
 -- A number that the newer list lacks, the older lacks too.
 number_twice : (old new : Names) → KeepsNames old new → (x : ℕ)
     → beside old (beside new (Number x)) ≡ beside old (Number x)
-unfolding beside if◌then◌else◌
+unfolding beside when◌then◌else◌
 number_twice old new k x = go (has new x) refl (has old x) refl
   where
     go : (b : Bool) → has new x ≡ b → (c : Bool) → has old x ≡ c
-        → beside old (if b then Number x else Unlisted x) ≡ beside old (Number x)
+        → beside old (when b then Number x else Unlisted x) ≡ beside old (Number x)
     go true e c h = refl
     go false e true h = absurd (false≢true (sym e ∙ has_more old new k x h))
     go false e false h = rw h refl
@@ -73,7 +73,7 @@ beside_twice old new k (Unlisted x) = refl
 
 -- Where there is no list, an answer stays as it is.
 pub beside_none : (a : Answer) → beside no_names a ≡ a
-unfolding beside is_listed if◌then◌else◌
+unfolding beside is_listed when◌then◌else◌
 beside_none (Number x) = refl
 beside_none Null = refl
 beside_none (Octets start len) = refl
@@ -84,10 +84,10 @@ beside_none (Unlisted x) = refl
 
 -- So does one that is sound beside its list.
 pub beside_sound : (l : Names) (a : Answer) → Sound (beside l a) → beside l a ≡ a
-unfolding beside Sound if◌then◌else◌
+unfolding beside Sound when◌then◌else◌
 beside_sound l (Number x) s = go (has l x) s
   where
-    go : (b : Bool) → Sound (if b then Number x else Unlisted x) → (if b then Number x else Unlisted x) ≡ Number x
+    go : (b : Bool) → Sound (when b then Number x else Unlisted x) → (when b then Number x else Unlisted x) ≡ Number x
     go true s = refl
     go false s = absurd s
 beside_sound l Null s = refl
@@ -99,14 +99,14 @@ beside_sound l (Unlisted x) s = refl
 
 -- What is listed stays a number, and nothing else is sound.
 pub beside_listed : (l : Names) (x : ℕ) → has l x ≡ true → beside l (Number x) ≡ Number x
-unfolding beside if◌then◌else◌
+unfolding beside when◌then◌else◌
 beside_listed l x h = rw h refl
 
 pub sound_listed : (l : Names) (x : ℕ) → Sound (beside l (Number x)) → has l x ≡ true
-unfolding beside Sound if◌then◌else◌
+unfolding beside Sound when◌then◌else◌
 sound_listed l x s = go (has l x) s
   where
-    go : (b : Bool) → Sound (if b then Number x else Unlisted x) → b ≡ true
+    go : (b : Bool) → Sound (when b then Number x else Unlisted x) → b ≡ true
     go true s = refl
     go false s = absurd s
 
@@ -137,9 +137,9 @@ module _ (l l' : Names) (twice : (a : Answer) → beside l (beside l' a) ≡ bes
 
   -- Whether the field is present, and whether it is an array.
   choice_beside : (b y : Bool) (x x' a : Answer) → x ≡ beside l x'
-      → (if b then (if y then x else beside l a) else Absent)
-      ≡ beside l (if b then (if y then x' else beside l' a) else Absent)
-  unfolding beside if◌then◌else◌
+      → (when b then (when y then x else beside l a) else Absent)
+      ≡ beside l (when b then (when y then x' else beside l' a) else Absent)
+  unfolding beside when◌then◌else◌
   choice_beside true true x x' a e = e
   choice_beside true false x x' a e = sym (twice a)
   choice_beside false y x x' a e = refl

@@ -8,7 +8,7 @@ use native.Mathlib.Omega.{arith}
 use lib.Dec.{leb}
 use lib.ListN.{length}
 use borrow.Author.Tests.{le-leb, leb-false, leb-true, lt-leb}
-use Rattle.layout.specs.Result.{Result, ◌>>=◌, done, if◌then◌else◌, must}
+use Rattle.layout.specs.Result.{Result, ◌>>=◌, done, when◌then◌else◌, must}
 use Rattle.layout.specs.Message.{Dimension, dimension_size, in_row, read_dimension, skip_entry, skip_group}
 use Rattle.layout.proofs.Results.{bind_done, done_inj, inv_bind, inv_must}
 
@@ -57,7 +57,7 @@ module _ (big : Bool) (m : List ℕ) where
 -- With two-number dimensions every surplus group is.
 pub two_at_once : (big : Bool) (m : List ℕ) (levels at : ℕ) (d : Dimension) → read_dimension false big m at ≡ done d
     → skip_group false big m (suc levels) at ≡ passed big m (d.length * d.entries) at (at + dimension_size false)
-unfolding read_dimension if◌then◌else◌
+unfolding read_dimension when◌then◌else◌
 two_at_once big m levels at d e =
     let q = done_inj (inv_bind _ _ _ (inv_bind _ _ _ e).next).next in
     group_at_once big m false levels at d e (sym (ap (λ (x : Dimension). x.groups) q))

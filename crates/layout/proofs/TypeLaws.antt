@@ -6,7 +6,7 @@ use native.Mathlib.Nat.{mod-eq_of_lt, mul-add-mod_self_right, mul_left_comm, pow
 use native.Mathlib.Omega.{arith}
 use lib.Dec.{eqb, leb}
 use borrow.Author.Tests.{le-leb, leb-true, lt-leb, ne_eqb}
-use Rattle.layout.specs.Result.{◌and◌, ◌or◌, if◌then◌else◌}
+use Rattle.layout.specs.Result.{◌and◌, ◌or◌, when◌then◌else◌}
 use Rattle.layout.specs.Octets.{in_order, lowest, octets_of}
 use Rattle.layout.specs.Types.{TypeRow, char, in_range, int, is_signed, is_width, row_of, type_at, uint, value_of}
 use Rattle.layout.specs.Types.{width_of}
@@ -40,10 +40,10 @@ width_at t h = doubled ((t - 1) / 2) (omega arith)
 -- What holds of char and, at every width, of the signed and the unsigned type holds of every type.
 pub each_type : (P : TypeRow → Type 0) → P char → ((w : ℕ) → Width w → P (int w)) → ((w : ℕ) → Width w → P (uint w))
     → (t : ℕ) → P (type_at t)
-unfolding type_at if◌then◌else◌
+unfolding type_at when◌then◌else◌
 each_type P c i u t = go (leb 1 t and leb t 8) refl (is_signed t)
   where
-    go : (b : Bool) → (leb 1 t and leb t 8) ≡ b → (s : Bool) → P (if b then row_of (width_of t) s else char)
+    go : (b : Bool) → (leb 1 t and leb t 8) ≡ b → (s : Bool) → P (when b then row_of (width_of t) s else char)
     go true e true = i _ (width_at t (omega (arith, leb-true t 8 (and_right _ _ e))))
     go true e false = u _ (width_at t (omega (arith, leb-true t 8 (and_right _ _ e))))
     go false e s = c
@@ -58,18 +58,18 @@ width_few t = each_type (λ k. k.width ≤ 8) (omega arith) (λ w a. a.few) (λ 
 -- ---- written and read again
 
 plain_back : (k : TypeRow) (x : ℕ) → k.signed ≡ false → x < 256 ^ k.width → value_of k (x % 256 ^ k.width) ≡ x
-unfolding value_of if◌then◌else◌ ◌and◌
+unfolding value_of when◌then◌else◌ ◌and◌
 plain_back k x s h = rw s (mod-eq_of_lt h)
 
 module _ (w : ℕ) (a : Width w) (x : ℕ) where
   int_low : x < 256 ^ w / 2 → value_of (int w) (x % 256 ^ w) ≡ x
-  unfolding value_of if◌then◌else◌ ◌and◌
+  unfolding value_of when◌then◌else◌ ◌and◌
   int_low h =
       let m : x % 256 ^ w ≡ x = mod-eq_of_lt (omega (arith, a.even)) in
       rw (m, lt-leb (256 ^ w / 2) x h) refl
 
   int_high : 2 ^ 64 - 256 ^ w / 2 ≤ x → x < 2 ^ 64 → value_of (int w) (x % 256 ^ w) ≡ x
-  unfolding value_of if◌then◌else◌ ◌and◌
+  unfolding value_of when◌then◌else◌ ◌and◌
   int_high h k =
       let y = x - a.above * 256 ^ w in
       let sum : a.above * 256 ^ w + y ≡ x = omega (arith, a.whole, a.even) in
@@ -79,18 +79,18 @@ module _ (w : ℕ) (a : Width w) (x : ℕ) where
       rw (m, le-leb (256 ^ w / 2) y (omega (arith, a.whole, a.even))) (omega (arith, a.whole, sum))
 
   int_back : in_range (int w) x ≡ true → x < 2 ^ 64 → value_of (int w) (x % 256 ^ w) ≡ x
-  unfolding in_range if◌then◌else◌
+  unfolding in_range when◌then◌else◌
   int_back r h =
       each_way (leb x (256 ^ w / 2 - 1))
       (λ e. int_low (omega (arith, leb-true x (256 ^ w / 2 - 1) e, a.even, a.many)))
       (λ e. int_high (omega (arith, leb-true (2 ^ 64 - 256 ^ w / 2 + 1) x (or_right _ _ r e))) h)
 
   uint_back : in_range (uint w) x ≡ true → value_of (uint w) (x % 256 ^ w) ≡ x
-  unfolding in_range if◌then◌else◌
+  unfolding in_range when◌then◌else◌
   uint_back r = plain_back (uint w) x refl (omega (arith, leb-true x (256 ^ w - 2) (and_right _ _ r), a.many))
 
 char_back : (x : ℕ) → in_range char x ≡ true → value_of char (x % 256) ≡ x
-unfolding in_range if◌then◌else◌
+unfolding in_range when◌then◌else◌
 char_back x r = plain_back char x refl (omega (arith, leb-true x 126 (and_right _ _ r)))
 
 -- A number in a type's range is read again.
@@ -110,7 +110,7 @@ null_back t =
 
 -- A type's null is not in its range.
 null_outside : (t : ℕ) → in_range (type_at t) (type_at t).null ≡ false
-unfolding in_range if◌then◌else◌ ◌and◌ ◌or◌
+unfolding in_range when◌then◌else◌ ◌and◌ ◌or◌
 null_outside t =
     each_type (λ k. in_range k k.null ≡ false) refl
     (λ w a. let n = 2 ^ 64 - 256 ^ w / 2 in
@@ -133,7 +133,7 @@ lowest_add (suc w) k x =
     rw (pow-succ', mul_left_comm k 256 (256 ^ w), l, r, lowest_add w k (x / 256)) refl
 
 plain_octets : (k : TypeRow) (x : ℕ) → k.signed ≡ false → lowest k.width (value_of k x) ≡ lowest k.width x
-unfolding value_of if◌then◌else◌ ◌and◌
+unfolding value_of when◌then◌else◌ ◌and◌
 plain_octets k x s = rw s refl
 
 int_octets : (w : ℕ) → Width w → (x : ℕ) → lowest w (value_of (int w) x) ≡ lowest w x

@@ -8,7 +8,7 @@ use native.Mathlib.Omega.{arith}
 use lib.Dec.{eqb, ltb}
 use lib.ListN.{drop, get_or, length, take}
 use borrow.Author.Tests.{eq-eqb, ltb-true}
-use Rattle.layout.specs.Result.{Each, ◌and◌, ◌or◌, done, if◌then◌else◌, refused}
+use Rattle.layout.specs.Result.{Each, ◌and◌, ◌or◌, done, when◌then◌else◌, refused}
 use Rattle.layout.specs.Octets.{AllOctets, Numbers64}
 use Rattle.layout.specs.Lists.{KeepsNames, NameList, Names, is_one_of, names_of, no_names}
 use Rattle.layout.specs.Book.{Book, Data, Field, Format, Groups, Shape, Template, data_sinces, field_sinces}
@@ -158,7 +158,7 @@ record Extended (format : Format) (s s' : Shape) (gs gs' : Groups) : Type 0 wher
 
 extends : {format : Format} {ls ls' : List NameList} {s s' : Shape} {gs gs' : Groups} → Extended format s s' gs gs'
     → Extends (single format 0 ls s gs) (single format 1 ls' s' gs')
-unfolding Each find_template if◌then◌else◌
+unfolding Each find_template when◌then◌else◌
 extends {format} {ls' = ls'} {s' = s'} {gs' = gs'} x =
     record {
       schema = refl;
@@ -279,7 +279,7 @@ gained_numbers_extend before after before' after' n n' =
 extended : {format : Format} {ls ls' : List NameList} {s s' : Shape} {gs gs' : Groups}
     → Extends (single format 0 ls s gs) (single format 1 ls' s' gs')
     → Extended format s s' gs gs'
-unfolding Each find_template if◌then◌else◌
+unfolding Each find_template when◌then◌else◌
 extended {format} {ls' = ls'} {s = s} {s' = s'} {gs = gs} {gs' = gs'} x =
     let t = x.templates.0 in
     let q : t.newer ≡ get_or (single format 1 ls' s' gs').templates 0 template_a = cc in
@@ -320,7 +320,7 @@ template2 = record { id = 2; shape = template_a.shape; groups = none }
 pub missing_template : ¬ Extends
     (record { schema = 7; version = 0; format = little; lists = []; templates = template_a ∷ template2 ∷ [] })
     (record { schema = 7; version = 1; format = little; lists = []; templates = template_a ∷ [] })
-unfolding Each find_template if◌then◌else◌
+unfolding Each find_template when◌then◌else◌
 missing_template x =
     let there = x.templates.1.0.there in
     let z : ◌≡◌ {A = ℕ} 0 1 = cc in
@@ -371,7 +371,7 @@ changed_number x = false≢true (extended x).shape.fields.0.names.numbers.1.0
 
 pub other_kind : ¬ Extends (tree_l 0 (flags_of (3 ∷ [])) (codes_of (1 ∷ [])))
     (tree_l 1 (flags_of (3 ∷ [])) (record { id = 9; kind = 1; numbers = 1 ∷ [] }))
-unfolding ExtendsFields ExtendsGroups if◌then◌else◌
+unfolding ExtendsFields ExtendsGroups when◌then◌else◌
 other_kind x =
     let same = (extended x).groups.shape.fields.0.names.same_kind in
     let z : ◌≡◌ {A = ℕ} 0 1 = cc in

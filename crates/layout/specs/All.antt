@@ -1,5 +1,5 @@
 -- Everything that computes, under one name: what says `unfolding all` is evaluated to its answer.
-use Rattle.layout.specs.Result.{◌>>=◌, must, or_refuse, as_refusal, ◌and◌, ◌or◌, if◌then◌else◌}
+use Rattle.layout.specs.Result.{◌>>=◌, must, or_refuse, as_refusal, ◌and◌, ◌or◌, when◌then◌else◌}
 use Rattle.layout.specs.Octets.{in_order, lowest, number_of, text_length, words_of}
 use Rattle.layout.specs.Types.{type_at, value_of, in_range, classify}
 use Rattle.layout.specs.Lists.{find_names, is_one_of, only_bits, is_listed, beside}
@@ -22,7 +22,7 @@ use Rattle.layout.specs.Writing.{write_of, judge_null, judge_array, counts_of}
 
 unfoldable pub all : Unit {0}
 unfolding
-    ◌>>=◌ must or_refuse as_refusal ◌and◌ ◌or◌ if◌then◌else◌
+    ◌>>=◌ must or_refuse as_refusal ◌and◌ ◌or◌ when◌then◌else◌
     number_of lowest in_order text_length words_of
     type_at value_of in_range classify
     find_names is_one_of only_bits is_listed beside

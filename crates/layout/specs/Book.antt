@@ -1,7 +1,7 @@
 -- The schema book as a tree, and what it says of a block.
 use Rattle.std.specs.Prelude.{Bool, List, [], ◌∷◌, map, ℕ, ◌+◌, ◌*◌, leb, ltb, eqb}
 use Rattle.std.proofs.Math.Option.{Option, none as no, some}
-use Rattle.layout.specs.Result.{◌and◌, if◌then◌else◌}
+use Rattle.layout.specs.Result.{◌and◌, when◌then◌else◌}
 use Rattle.layout.specs.Types.{type_at}
 use Rattle.layout.specs.Lists.{NameList, Names}
 
@@ -56,7 +56,7 @@ pub record Book : Type 0 where
 
 unfoldable pub find_template : ℕ → List Template → Option Template
 find_template id [] = no
-find_template id (t ∷ ts) = if eqb t.id id then some t else find_template id ts
+find_template id (t ∷ ts) = when eqb t.id id then some t else find_template id ts
 
 -- ---- fields
 
@@ -96,7 +96,7 @@ is_optional f = eqb f.presence 1
 -- "The need of a block at v is the end of its last field with since at most v, or 0": after fields that need e.
 unfoldable pub need_after : ℕ → ℕ → List Field → ℕ
 need_after v e [] = e
-need_after v e (f ∷ fs) = need_after v (if leb f.since v then end f else e) fs
+need_after v e (f ∷ fs) = need_after v (when leb f.since v then end f else e) fs
 
 abbrev pub need : ℕ → Shape → ℕ
 need v s = need_after v 0 s.fields
@@ -116,4 +116,4 @@ group_sinces (more i since s inner rest) = since ∷ group_sinces rest
 -- How many of these have "since at most v".
 unfoldable pub present : ℕ → List ℕ → ℕ
 present v [] = 0
-present v (s ∷ ss) = (if leb s v then 1 else 0) + present v ss
+present v (s ∷ ss) = (when leb s v then 1 else 0) + present v ss

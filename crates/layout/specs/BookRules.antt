@@ -1,7 +1,7 @@
 -- From a book's octets to its tree, or the refusal 1 to 7: "lowest number found in any template, then the first
 -- template that has it".
 use Rattle.std.specs.Prelude.{Bool, not, true, false, List, [], ◌∷◌, map, ℕ, zero, suc, ◌+◌, ◌-◌, ◌*◌, ◌%◌, leb, ltb, eqb, length, get_or, take, drop}
-use Rattle.layout.specs.Result.{Result, done, refused, ◌>>=◌, must, as_refusal, ◌and◌, ◌or◌, if◌then◌else◌}
+use Rattle.layout.specs.Result.{Result, done, refused, ◌>>=◌, must, as_refusal, ◌and◌, ◌or◌, when◌then◌else◌}
 use Rattle.layout.specs.Octets.{words_of, null16}
 use Rattle.layout.specs.Types.{type_at}
 use Rattle.layout.specs.Lists.{Kind, NameList, enumeration, find_names, free, is_one_of, missing, set}
@@ -147,7 +147,7 @@ shape_since version low high top s =
 -- How young data and groups inside a group may be: "data and groups inside a group have the since of that group"; with
 -- four-number dimensions they "may then have a since at or above the group's".
 unfoldable pub youngest : Bool → ℕ → ℕ → ℕ
-youngest counted version since = if counted then version else since
+youngest counted version since = when counted then version else since
 
 unfoldable pub groups_since : Bool → ℕ → ℕ → ℕ → Groups → Bool
 groups_since counted version low high none = true

@@ -1,6 +1,6 @@
 -- The words in which demands 2 and 3 are said, what rule 7 is good for, and what the two orders have in common.
 use Rattle.std.specs.Prelude.{◌≡◌, Bool, false, not, true, List, [], ◌++◌, ◌∷◌, map, reverse, ◌*◌, ◌+◌, ◌-◌, ◌<◌, ◌^◌, ◌≤◌, suc, zero, ℕ, eqb, drop, get_or, length, replicate, set, take}
-use Rattle.layout.specs.Result.{Each, ◌or◌, done, if◌then◌else◌}
+use Rattle.layout.specs.Result.{Each, ◌or◌, done, when◌then◌else◌}
 use Rattle.layout.specs.Octets.{AllOctets, Numbers64, number16, text_length}
 use Rattle.layout.specs.Types.{in_range, is_width, type_at}
 use Rattle.layout.specs.Lists.{Names, beside, enumeration, has, no_names}
@@ -29,7 +29,7 @@ unfoldable pub contents : List ℕ → List ℕ → List (List ℕ)
 contents pool [] = []
 contents pool (k ∷ []) = []
 contents pool (k ∷ a ∷ []) = []
-contents pool (k ∷ a ∷ b ∷ l) = (if eqb k 2 then k ∷ take b (drop a pool) else k ∷ a ∷ b ∷ []) ∷ contents pool l
+contents pool (k ∷ a ∷ b ∷ l) = (when eqb k 2 then k ∷ take b (drop a pool) else k ∷ a ∷ b ∷ []) ∷ contents pool l
 
 -- ---- "what is read writes back to the same octets if it carries the book's own version and block lengths, has
 -- zero padding and no value out of range"

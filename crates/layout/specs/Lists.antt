@@ -1,6 +1,6 @@
 -- Name lists: which numbers a field's list has, and what an answer is beside it.
 use Rattle.std.specs.Prelude.{◌≡◌, Bool, true, false, List, [], ◌∷◌, ℕ, zero, suc, ◌%◌, ◌/◌, eqb}
-use Rattle.layout.specs.Result.{Each, ◌and◌, ◌or◌, if◌then◌else◌}
+use Rattle.layout.specs.Result.{Each, ◌and◌, ◌or◌, when◌then◌else◌}
 use Rattle.layout.specs.declared.Answer.{Answer}
 use Rattle.layout.specs.declared.Answer.TheVariants.{Number, Null, Octets, Absent, Group, OutOfRange, Unlisted}
 
@@ -24,13 +24,13 @@ pub record NameList : Type 0 where
   pub numbers : List ℕ
 
 abbrev pub names_of : NameList → Names
-names_of l = record { kind = if eqb l.kind 0 then enumeration else set; numbers = l.numbers }
+names_of l = record { kind = when eqb l.kind 0 then enumeration else set; numbers = l.numbers }
 
 -- What a field's seventh word leads to among a book's lists: "0 for none or the list's number plus one".
 unfoldable pub find_names : ℕ → List NameList → Names
 find_names zero ls = no_names
 find_names (suc id) [] = record { kind = missing; numbers = [] }
-find_names (suc id) (l ∷ ls) = if eqb l.id id then names_of l else find_names (suc id) ls
+find_names (suc id) (l ∷ ls) = when eqb l.id id then names_of l else find_names (suc id) ls
 
 unfoldable pub is_one_of : ℕ → List ℕ → Bool
 is_one_of x [] = false
@@ -54,7 +54,7 @@ has l x = is_listed l.kind l.numbers x
 -- "Listed values in range stay kind 0, and null or a value out of range stays 1 or 5 even where the list has it; a
 -- value in range that the list lacks .. is a new kind 6 with the same number".
 unfoldable pub beside : Names → Answer → Answer
-beside l (Number x) = if has l x then Number x else Unlisted x
+beside l (Number x) = when has l x then Number x else Unlisted x
 beside l Null = Null
 beside l (Octets start len) = Octets start len
 beside l Absent = Absent

@@ -1,7 +1,7 @@
 -- A message's octets, checked against the book and read into a tree of answers, or the refusal 10 to 22: the one walk
 -- by which every reading operation is defined.
 use Rattle.std.specs.Prelude.{Bool, true, false, List, [], ◌∷◌, map, ℕ, zero, suc, ◌+◌, ◌-◌, ◌*◌, leb, ltb, eqb, drop, length, take}
-use Rattle.layout.specs.Result.{Result, done, must, or_refuse, if◌then◌else◌, ◌and◌, ◌>>=◌, refused}
+use Rattle.layout.specs.Result.{Result, done, must, or_refuse, when◌then◌else◌, ◌and◌, ◌>>=◌, refused}
 use Rattle.layout.specs.Octets.{number_at, number16, null16, text_length}
 use Rattle.layout.specs.Types.{type_at, value_of, classify}
 use Rattle.layout.specs.Lists.{beside}
@@ -53,7 +53,7 @@ data_count big m = count_at true big m 10
 -- v. If v is greater, each is at least the book's number": of the elements with these sinces n are counted. "With four,
 -- the header's rule on counts holds for every known group, empty or not, at its own level."
 unfoldable pub count_good : Bool → ℕ → ℕ → List ℕ → ℕ → Bool
-count_good true version v ss n = if leb v version then eqb n (present v ss) else leb (length ss) n
+count_good true version v ss n = when leb v version then eqb n (present v ss) else leb (length ss) n
 count_good false version v ss n = true
 
 -- How many of those are surplus. Where nothing is counted, n is 0 and nothing is surplus.
@@ -154,11 +154,11 @@ module _ (m : List ℕ) where
   abbrev pub text_at : ℕ → Field → Answer
   text_at start f =
       let n = text_length (take f.length (drop start m)) in
-      if is_optional f and eqb n 0 then Null else Octets start n
+      when is_optional f and eqb n 0 then Null else Octets start n
 
   -- An array, which but for text "is plain octets, never null and not range-checked".
   unfoldable pub array_at : ℕ → Field → Answer
-  array_at start f = if is_char f then text_at start f else Octets start f.length
+  array_at start f = when is_char f then text_at start f else Octets start f.length
 
 -- "Let v be the message's version."
 module _ (big : Bool) (m : List ℕ) (v : ℕ) where
@@ -168,11 +168,11 @@ module _ (big : Bool) (m : List ℕ) (v : ℕ) where
       let k = type_at f.type in
       let start = at + f.offset in
       let value = value_of k (number_at big k.width m start) in
-      if is_array f then array_at m start f else beside f.names (classify k (is_optional f) value)
+      when is_array f then array_at m start f else beside f.names (classify k (is_optional f) value)
 
   -- "An element with since above v is absent, even where the block has octets for it."
   unfoldable pub read_field : ℕ → Field → Answer
-  read_field at f = if leb f.since v then present_field at f else Absent
+  read_field at f = when leb f.since v then present_field at f else Absent
 
   -- The data of a block in order, and then n surplus ones.
   unfoldable pub read_datas : List Data → ℕ → ℕ → Result (List Answer × ℕ)
@@ -180,7 +180,7 @@ module _ (big : Bool) (m : List ℕ) (v : ℕ) where
     x ← skip_datas big m n at
     done ([], x)
   read_datas (d ∷ ds) n at = do
-    (a, x) ← if leb d.since v then read_data big m at else done (Absent, at)
+    (a, x) ← when leb d.since v then read_data big m at else done (Absent, at)
     (rest, y) ← read_datas ds n x
     done (a ∷ rest, y)
 
@@ -215,7 +215,7 @@ module _ (counted : Bool) (version : ℕ) (big : Bool) (m : List ℕ) (v : ℕ) 
     done (nil, x)
   read_groups (more i since s inner rest) levels n at = do
     let known = read_group s (group_sinces inner) (read_groups inner (inside levels))
-    (a, es, x) ← if leb since v then known at else done (Absent, nil, at)
+    (a, es, x) ← when leb since v then known at else done (Absent, nil, at)
     (gs, y) ← read_groups rest levels n x
     done (group a es gs, y)
 

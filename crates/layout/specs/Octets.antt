@@ -1,7 +1,7 @@
 -- Numbers as octets, said once over the width and the order. Every number of a message is read by `number_at` and
 -- written by `octets_of`, which take the order: `big` is whether the most significant octet comes first.
 use Rattle.std.specs.Prelude.{Bool, false, true, List, [], ◌∷◌, reverse, ◌%◌, ◌*◌, ◌+◌, ◌/◌, ◌<◌, ◌^◌, suc, zero, ℕ, eqb, drop, get_or, take}
-use Rattle.layout.specs.Result.{if◌then◌else◌}
+use Rattle.layout.specs.Result.{when◌then◌else◌}
 
 -- The number that the octets are, the least significant first.
 unfoldable pub number_of : List ℕ → ℕ
@@ -37,7 +37,7 @@ null16 = 65535
 -- "A char array's text now ends before its first NUL": how many octets that is.
 unfoldable pub text_length : List ℕ → ℕ
 text_length [] = 0
-text_length (b ∷ bs) = if eqb b 0 then 0 else suc (text_length bs)
+text_length (b ∷ bs) = when eqb b 0 then 0 else suc (text_length bs)
 
 -- "Words are 16-bit, least significant octet first", whatever the order of the messages: "Books themselves stay as they
 -- are."

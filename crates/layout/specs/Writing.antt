@@ -1,6 +1,6 @@
 -- A message from a listing: its records judged one by one into a tree of answers (51 to 54), and the tree's octets.
 use Rattle.std.specs.Prelude.{Bool, not, false, true, List, [], ◌++◌, ◌∷◌, ◌*◌, ◌+◌, ◌-◌, suc, zero, ℕ, eqb, leb, ltb, drop, get_or, length, replicate, take}
-use Rattle.layout.specs.Result.{Result, ◌>>=◌, ◌and◌, ◌or◌, done, if◌then◌else◌, must, or_refuse}
+use Rattle.layout.specs.Result.{Result, ◌>>=◌, ◌and◌, ◌or◌, done, when◌then◌else◌, must, or_refuse}
 use Rattle.layout.specs.Octets.{null16, octets_of, text_length}
 use Rattle.layout.specs.Types.{in_range, type_at}
 use Rattle.layout.specs.Lists.{has}
@@ -50,7 +50,7 @@ module _ (l : List ℕ) where
 
   -- 52: as above, or "null for a required field"
   abbrev pub number_fits : Field → ℕ → Bool
-  number_fits f i = if eqb (first i) 1 then is_optional f else takes f (second i)
+  number_fits f i = when eqb (first i) 1 then is_optional f else takes f (second i)
 
 -- ---- 51 to 54, in the listing's order
 
@@ -59,7 +59,7 @@ module _ (l : List ℕ) where
   judge_number f i = do
     _ ← must (is_number l i) 51 i
     _ ← must (number_fits l f i) 52 i
-    done (if eqb (first l i) 1 then Null else Number (second l i))
+    done (when eqb (first l i) 1 then Null else Number (second l i))
 
   -- An optional text "now takes null; 52 for null in a required one".
   unfoldable pub judge_null : Field → ℕ → Result Answer
@@ -85,13 +85,13 @@ module _ (l pool : List ℕ) where
       and not (is_optional f and eqb (third l i) 0)
 
   abbrev pub judge_text : Field → ℕ → Result Answer
-  judge_text f i = if eqb (first l i) 1 then judge_null l f i else judge_octets (text_fits f i) i
+  judge_text f i = when eqb (first l i) 1 then judge_null l f i else judge_octets (text_fits f i) i
 
   unfoldable pub judge_array : Field → ℕ → Result Answer
-  judge_array f i = if is_char f then judge_text f i else judge_octets (eqb (third l i) f.length) i
+  judge_array f i = when is_char f then judge_text f i else judge_octets (eqb (third l i) f.length) i
 
   abbrev pub judge_field : Field → ℕ → Result Answer
-  judge_field f i = if is_array f then judge_array f i else judge_number l f i
+  judge_field f i = when is_array f then judge_array f i else judge_number l f i
 
   abbrev pub judge_data : ℕ → Result Answer
   judge_data i = judge_octets (ltb (third l i) null16) i
@@ -189,7 +189,7 @@ module _ (big : Bool) (pool : List ℕ) where
   unfoldable pub field_octets : Field → Answer → List ℕ
   field_octets f (Number x) = octets_of big (type_at f.type).width x
   field_octets f Null =
-      if is_array f then replicate f.length 0 else octets_of big (type_at f.type).width (type_at f.type).null
+      when is_array f then replicate f.length 0 else octets_of big (type_at f.type).width (type_at f.type).null
   field_octets f (Octets start len) = span_octets pool (Octets start len) ++ replicate (f.length - len) 0
   field_octets f Absent = []
   field_octets f (Group k) = []

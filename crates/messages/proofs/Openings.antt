@@ -4,7 +4,7 @@ use mathlib.Core.Bool.{Bool, false, true}
 use mathlib.Core.List.{List}
 use Prim.Native.Nat.{ℕ}
 use lib.Dec.{leb}
-use Rattle.layout.specs.Result.{◌>>=◌, done, if◌then◌else◌, must}
+use Rattle.layout.specs.Result.{◌>>=◌, done, when◌then◌else◌, must}
 use Rattle.layout.specs.Book.{data_sinces, group_sinces, need}
 use Rattle.layout.specs.Operations.{refusal}
 use Rattle.layout.specs.Message.{surplus_of}
@@ -30,8 +30,8 @@ module _ (p : List ℕ) (a : ℕ) (m : List ℕ) (h : Header) (is : IsHeader (is
   decided : (t u w : Bool) (s : ℕ × ℕ)
       → opened (is_big p) m (must t 14 0 >>= (λ _. must u 15 8 >>= λ _. must w 15 10 >>= λ _. done s)
       >>= λ x. done (a, x.0, x.1))
-      ≡ open_by a h t (if u then Is s.0 else Wrong) (if w then Is s.1 else Wrong)
-  unfolding open_by opened must ◌>>=◌ if◌then◌else◌
+      ≡ open_by a h t (when u then Is s.0 else Wrong) (when w then Is s.1 else Wrong)
+  unfolding open_by opened must ◌>>=◌ when◌then◌else◌
   decided false u w s = refl
   decided true false w s = refl
   decided true true false s = refl

@@ -9,7 +9,7 @@ use native.Mathlib.Omega.{arith}
 use lib.Bits.{and_step, bit_and}
 use lib.Dec.{eqb, leb, ltb}
 use borrow.Author.Tests.{eq-eqb, eqb-false, eqb-true, le-leb, lt-leb, lt-ltb, ltb-false, ltb-true, ne_eqb}
-use Rattle.layout.specs.Result.{◌and◌, ◌or◌, if◌then◌else◌}
+use Rattle.layout.specs.Result.{◌and◌, ◌or◌, when◌then◌else◌}
 use Rattle.layout.specs.Lists.{is_one_of, only_bits}
 use Rattle.layout.specs.BookRules.{climbing}
 use Rattle.layout.proofs.Results.{and_right, each_way}
@@ -57,7 +57,7 @@ shares x b m =
 -- ---- the mask from bit i on: what a bit n is worth in it, and all bits of a list
 
 worth : ℕ → ℕ → ℕ
-worth i n = if leb i n and ltb n 64 then 2 ^ (n - i) else 0
+worth i n = when leb i n and ltb n 64 then 2 ^ (n - i) else 0
 
 mask_from : ℕ → List ℕ → ℕ
 mask_from i [] = 0
@@ -70,20 +70,20 @@ mask_whole (n ∷ ns) = rw (le-leb 0 n (omega arith), sub-zero n, mask_whole ns)
 
 module _ (i n : ℕ) where
   worth_here : i ≡ n → i < 64 → worth i n ≡ 1
-  unfolding worth ◌and◌ if◌then◌else◌
+  unfolding worth ◌and◌ when◌then◌else◌
   worth_here is h =
       let none : n - i ≡ 0 = omega arith in
       rw (le-leb i n (omega arith), lt-ltb n 64 (omega arith), none) refl
 
   worth_below : n < i → worth i n ≡ 0
-  unfolding worth ◌and◌ if◌then◌else◌
+  unfolding worth ◌and◌ when◌then◌else◌
   worth_below h = rw (lt-leb i n h) refl
 
   worth_above : i < n → worth i n ≡ 2 * worth (suc i) n
-  unfolding worth ◌and◌ if◌then◌else◌
+  unfolding worth ◌and◌ when◌then◌else◌
   worth_above h = rw (le-leb i n (omega arith), le-leb (suc i) n h) (go (ltb n 64))
     where
-      go : (b : Bool) → (if b then 2 ^ (n - i) else 0) ≡ 2 * (if b then 2 ^ (n - suc i) else 0)
+      go : (b : Bool) → (when b then 2 ^ (n - i) else 0) ≡ 2 * (when b then 2 ^ (n - suc i) else 0)
       go true = let e : n - i ≡ suc (n - suc i) = omega arith in rw e (omega (arith, pow-suc 2 (n - suc i)))
       go false = refl
 

@@ -5,7 +5,7 @@ use Prim.Native.Nat.{◌%◌, ◌*◌, ◌+◌, ◌-◌, ◌/◌, ◌<◌, ◌^�
 use native.Mathlib.Omega.{arith}
 use lib.Dec.{eqb, leb}
 use borrow.Author.Tests.{eq-eqb, eqb-false, eqb-true, le-leb, leb-true, lt-leb, ne_eqb}
-use Rattle.layout.specs.Result.{◌and◌, if◌then◌else◌}
+use Rattle.layout.specs.Result.{◌and◌, when◌then◌else◌}
 use Rattle.layout.specs.Types.{TypeRow, char, int, is_signed, is_width, row_of, type_at, value_of, width_of}
 use Rattle.layout.proofs.Results.{each_way, or_right}
 use Rattle.layout.proofs.TypeLaws.{Width, each_type}
@@ -28,22 +28,22 @@ each_width P one two four eight w h =
 -- ---- the number of a type
 
 pub integer_at : (t : ℕ) → 1 ≤ t → t < 9 → type_at t ≡ row_of (width_of t) (is_signed t)
-unfolding type_at if◌then◌else◌ ◌and◌
+unfolding type_at when◌then◌else◌ ◌and◌
 integer_at t h k = rw (le-leb 1 t h, le-leb t 8 (omega arith)) refl
 
 pub char_at : (t : ℕ) → (1 ≤ t → 9 ≤ t) → type_at t ≡ char
-unfolding type_at if◌then◌else◌ ◌and◌
+unfolding type_at when◌then◌else◌ ◌and◌
 char_at t h = each_way (leb 1 t) (λ e. rw (e, lt-leb t 8 (h (leb-true 1 t e))) refl) (λ e. rw e refl)
 
 -- ---- the code of a type and an order
 
 pub type_in_lem : (big : Bool) (t : ℕ) → type_in (coded big t) ≡ t
-unfolding if◌then◌else◌
+unfolding when◌then◌else◌
 type_in_lem false t = omega arith
 type_in_lem true t = omega arith
 
 pub is_big_in_lem : (big : Bool) (t : ℕ) → is_big_in (coded big t) ≡ big
-unfolding if◌then◌else◌
+unfolding when◌then◌else◌
 is_big_in_lem false t = ne_eqb ((2 * t + 0) % 2) 1 (λ e. omega arith)
 is_big_in_lem true t = eq-eqb ((2 * t + 1) % 2) 1 (omega arith)
 
@@ -58,14 +58,14 @@ module _ (t x n g : ℕ) (s : (type_at t).signed ≡ true) (e : n ≡ (type_at t
       (λ w a s e f. i w a e f) (λ w a s. absurd (false≢true s)) t s e f
 
   pub value_high : g < x → x < 256 ^ (type_at t).width → value_of (type_at t) x ≡ n + (x - g - 1)
-  unfolding value_of if◌then◌else◌ ◌and◌
+  unfolding value_of when◌then◌else◌ ◌and◌
   value_high h =
       of_signed (λ k. x < 256 ^ k.width → value_of k x ≡ n + (x - g - 1))
       (λ w a e f b. rw (le-leb (256 ^ w / 2) x (omega (arith, f, a.even, a.many)))
       (omega (arith, e, f, a.even, a.whole, a.many)))
 
   pub value_low : x ≤ g → value_of (type_at t) x ≡ x
-  unfolding value_of if◌then◌else◌ ◌and◌
+  unfolding value_of when◌then◌else◌ ◌and◌
   value_low h =
       of_signed (λ k. value_of k x ≡ x)
       (λ w a e f. rw (lt-leb (256 ^ w / 2) x (omega (arith, f, a.even, a.many))) refl)

@@ -1,6 +1,6 @@
 -- A type as it is kept in the code, the value of the number of type t at `at`, and the code of a type with its order.
 use Rattle.std.specs.Prelude.{Bool, List, ℕ, ◌%◌, ◌*◌, ◌+◌, ◌/◌, eqb}
-use Rattle.layout.specs.Result.{if◌then◌else◌}
+use Rattle.layout.specs.Result.{when◌then◌else◌}
 use Rattle.layout.specs.Octets.{number_at}
 use Rattle.layout.specs.Types.{TypeRow, type_at, value_of}
 use Rattle.number_types.specs.declared.NumberType.{NumberType}
@@ -14,7 +14,7 @@ value_at big s at t = value_of (type_at t) (number_at big (type_at t).width s at
 
 -- An order as the book's head has it: "0 little or 1 big".
 abbrev pub order_of : Bool → ℕ
-order_of big = if big then 1 else 0
+order_of big = when big then 1 else 0
 
 -- Twice the type, and the order.
 abbrev pub coded : Bool → ℕ → ℕ

@@ -6,7 +6,7 @@ use Prim.Native.Nat.{ℕ, zero, suc, ◌+◌, ◌-◌, ◌*◌, ◌%◌, ◌≤�
 use native.Mathlib.Omega.{arith}
 use lib.Dec.{ltb}
 use lib.ListN.{length}
-use Rattle.layout.specs.Result.{if◌then◌else◌}
+use Rattle.layout.specs.Result.{when◌then◌else◌}
 use Rattle.layout.specs.Book.{Groups, Shape, more, none}
 use Rattle.layout.specs.BookRules.{word}
 use Rattle.layout.specs.Reading.{group_has, has_element, has_place, steps_of, whole_steps}
@@ -90,13 +90,13 @@ steps_half (g ∷ e ∷ l) h = steps_half l (omega arith)
 -- What is left of the steps from the block at a.
 module _ (p : List ℕ) (depth a : ℕ) (stands : BlockAt p depth a) (path : List ℕ) (i : ℕ) (x : Element) where
   pub place_ends : length path ≤ i
-      → block_for p depth a (steps_from path i) x ≡ (if ltb (number_of x) (count_of p a x) then At a else Unknown)
+      → block_for p depth a (steps_from path i) x ≡ (when ltb (number_of x) (count_of p a x) then At a else Unknown)
   unfolding has_place block_after
   place_ends h = rw (steps_done path i h, has_element_lem p depth a x stands) refl
 
   module _ (some : i + 2 ≤ length path) where
     pub place_lacks : many_groups p a ≤ word path i → block_for p depth a (steps_from path i) x ≡ Unknown
-    unfolding has_place if◌then◌else◌
+    unfolding has_place when◌then◌else◌
     place_lacks h =
         let has = has_place (steps_from path (i + 2)) x in
         rw (steps_next path i some, has_none (word path i) (inner_at p depth a) has (row_drops_all p depth _ _ _ h)) refl

@@ -7,7 +7,7 @@ use native.Mathlib.Omega.{arith}
 use lib.Dec.{leb}
 use lib.ListN.{get_or, length}
 use borrow.Author.Tests.{le-leb, leb-true, lt-leb, ltb-true}
-use Rattle.layout.specs.Result.{Each, Result, ◌>>=◌, done, if◌then◌else◌}
+use Rattle.layout.specs.Result.{Each, Result, ◌>>=◌, done, when◌then◌else◌}
 use Rattle.layout.specs.Octets.{number16}
 use Rattle.layout.specs.Book.{Field, Groups, Shape, more, need}
 use Rattle.layout.specs.BookRules.{parse_datas, parse_fields, word}
@@ -16,7 +16,6 @@ use Rattle.layout.specs.Reading.{has_element}
 use Rattle.layout.specs.Values.{Values, element_of, group_of, nil}
 use Rattle.layout.specs.declared.Answer.{Answer}
 use Rattle.layout.specs.declared.Element.{Element}
-use Rattle.layout.specs.declared.Element.TheVariants as Element
 use Rattle.layout.specs.declared.Refusal.{Refusal}
 use Rattle.layout.specs.declared.Answer.TheVariants.{Absent, Group, Octets}
 use Rattle.layout.proofs.Results.{and_right, done_inj, inv_bind, inv_both, inv_must}
@@ -54,7 +53,7 @@ not_refused r f h z e =
 pub field_in : (big : Bool) (m : List ℕ) (v at : ℕ) (p : List ℕ) (n k f : ℕ) → k < n
     → get_or (map (read_field big m v at) (parse_fields (lists_at p) p n f)) k Absent
     ≡ read_field big m v at (field_at p (f + 7 * k))
-unfolding parse_fields get_or map
+unfolding parse_fields
 field_in big m v at p zero k f h = absurd (omega arith)
 field_in big m v at p (suc n) zero f h = let q : f + 7 * 0 ≡ f = omega arith in rw q refl
 field_in big m v at p (suc n) (suc k) f h =
@@ -85,13 +84,13 @@ field_readable p depth a m v l at k stands enough fits less =
 -- ---- a group
 
 gone : (v since : ℕ) (r : Result (Answer × Values × ℕ)) (at : ℕ) (a : Answer × Values × ℕ) → v < since
-    → (if leb since v then r else done (Absent, nil, at)) ≡ done a → a.0 ≡ Absent
-unfolding if◌then◌else◌
+    → (when leb since v then r else done (Absent, nil, at)) ≡ done a → a.0 ≡ Absent
+unfolding when◌then◌else◌
 gone v since r at a l e = sym (ap (λ (d : Answer × Values × ℕ). d.0) (done_inj (rw (lt-leb since v l) at e)))
 
 here : (v since : ℕ) (r : Result (Answer × Values × ℕ)) (at : ℕ) (a : Answer × Values × ℕ) → since ≤ v
-    → (if leb since v then r else done (Absent, nil, at)) ≡ done a → r ≡ done a
-unfolding if◌then◌else◌
+    → (when leb since v then r else done (Absent, nil, at)) ≡ done a → r ≡ done a
+unfolding when◌then◌else◌
 here v since r at a l e = rw (le-leb since v l) at e
 
 -- A group with this since at `at` that was read is `is`.
@@ -154,7 +153,7 @@ module _ (big : Bool) (m : List ℕ) (v : ℕ) (p : List ℕ) where
     pub first : List Answer × ℕ
     pub one : Answer × ℕ
     pub passed : read_datas big m v (parse_datas p k a) 0 at ≡ done first
-    pub reads : (if leb (word p (a + 2 * k + 1)) v then read_data big m first.1 else done (Absent, first.1))
+    pub reads : (when leb (word p (a + 2 * k + 1)) v then read_data big m first.1 else done (Absent, first.1))
         ≡ done one
     pub is : get_or r.0 k Absent ≡ one.0
 
@@ -164,7 +163,7 @@ module _ (big : Bool) (m : List ℕ) (v : ℕ) (p : List ℕ) where
 
   data_from : (n k a at : ℕ) (r : List Answer × ℕ) → k < n → read_datas big m v (parse_datas p n a) 0 at ≡ done r
       → DataFrom k a at r
-  unfolding read_datas parse_datas get_or
+  unfolding read_datas parse_datas
   data_from zero k a at r less h = absurd (omega arith)
   data_from (suc n) zero a at r less h =
       let d = inv_both _ _ _ _ h in
@@ -194,9 +193,9 @@ module _ (big : Bool) (m : List ℕ) (v : ℕ) (p : List ℕ) where
     pub fits : since ≤ v → at + 2 ≤ length m
     pub octets : since ≤ v → is ≡ Octets (at + 2) (number16 big m at)
 
-  one_data : (since at : ℕ) (d : Answer × ℕ) → (if leb since v then read_data big m at else done (Absent, at)) ≡ done d
+  one_data : (since at : ℕ) (d : Answer × ℕ) → (when leb since v then read_data big m at else done (Absent, at)) ≡ done d
       → DataHere since at d.0
-  unfolding if◌then◌else◌ read_data
+  unfolding when◌then◌else◌ read_data
   one_data since at d h =
       record {
         absent = λ l. sym (ap (λ (e : Answer × ℕ). e.0) (done_inj (rw (lt-leb since v l) at h)));

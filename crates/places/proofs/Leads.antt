@@ -7,7 +7,7 @@ use native.Mathlib.Omega.{arith}
 use lib.Dec.{leb}
 use lib.ListN.{length}
 use borrow.Author.Tests.{le-leb, leb-false, leb-true}
-use Rattle.layout.specs.Result.{Result, ◌>>=◌, done, if◌then◌else◌, must, refused}
+use Rattle.layout.specs.Result.{Result, ◌>>=◌, done, when◌then◌else◌, must, refused}
 use Rattle.layout.specs.Octets.{number16}
 use Rattle.layout.specs.Book.{Data, Groups, Shape, group_sinces, more, need, none}
 use Rattle.layout.specs.Message.{Dimension, Entry, dimension_size, in_row, inside, read_block, read_data, read_datas}
@@ -49,7 +49,7 @@ module _ (big : Bool) (m : List ℕ) (v : ℕ) where
       let x : at + 2 + number16 big m at ≡ r.1 = ap (λ (d : Answer × ℕ). d.1) e in
       omega (arith, x)
 
-  here_on : (since at : ℕ) (r : Answer × ℕ) → (if leb since v then read_data big m at else done (Absent, at)) ≡ done r
+  here_on : (since at : ℕ) (r : Answer × ℕ) → (when leb since v then read_data big m at else done (Absent, at)) ≡ done r
       → at ≤ r.1
   here_on since at r h =
       inv_if (leb since v) h (λ t e. data_on at r e) (λ t e. omega (arith, ap (λ (d : Answer × ℕ). d.1) (done_inj e)))
@@ -284,11 +284,11 @@ module _ (p m : List ℕ) (v : ℕ) where
         (at + dimension_size (is_counted p))
         (open_by (is_counted p) (version_at p) (is_big p) m v s (group_sinces inner) at) in
         inv_if (leb since v) a.first
-        (λ t h. let same : (if leb since v then spot else nowhere) ≡ spot = unfold if◌then◌else◌ in rw t refl in
+        (λ t h. let same : (when leb since v then spot else nowhere) ≡ spot = unfold when◌then◌else◌ in rw t refl in
         retold refl refl same (λ x. ap (answer_at ps x) (sym is))
         (group_leads s inner (depth - 1) at e _ (group_read_lem p m v s inner (depth - 1) at _ h)))
         (λ t h. let none_here = ap (λ (d : Answer × Values × ℕ). entries_from e d.1) (done_inj h) in
-        missing (unfold if◌then◌else◌ in rw t refl)
+        missing (unfold when◌then◌else◌ in rw t refl)
         (λ x. ap (answer_at ps x) (sym is ∙ sym none_here ∙ no_entries_lem e) ∙ nothing ps x))
 
     -- A step from a row that was read, with n surplus groups.

@@ -3,7 +3,7 @@ use mathlib.Core.Path.{◌∙◌, ◌≡◌, refl}
 use mathlib.Core.List.{List, [], ◌∷◌}
 use Prim.Native.Nat.{ℕ, zero, suc, ◌+◌, ◌-◌, ◌≤◌, ◌<◌}
 use native.Mathlib.Omega.{arith}
-use lib.ListN.{drop, get_or, length}
+use lib.ListN.{length}
 use Rattle.layout.specs.Book.{more, none}
 use Rattle.layout.specs.Reading.{steps_of}
 use Rattle.layout.specs.BookRules.{word}
@@ -81,7 +81,7 @@ row_after_next p n a h = rw (some_left h, one_less) refl
 -- ---- steps
 
 pub steps_done : (path : List ℕ) (i : ℕ) → length path ≤ i → steps_from path i ≡ []
-unfolding steps_of drop
+unfolding steps_of
 steps_done [] zero h = refl
 steps_done [] (suc i) h = refl
 steps_done (x ∷ l) zero h = absurd (omega (arith, h))
@@ -89,7 +89,7 @@ steps_done (x ∷ l) (suc i) h = steps_done l i (omega (arith, h))
 
 pub steps_next : (path : List ℕ) (i : ℕ) → i + 2 ≤ length path
     → steps_from path i ≡ step_at path i ∷ steps_from path (i + 2)
-unfolding steps_of drop get_or
+unfolding steps_of
 steps_next [] i h = absurd (omega (arith, h))
 steps_next (g ∷ []) zero h = absurd (omega (arith, h))
 steps_next (g ∷ []) (suc i) h = absurd (omega (arith, h))

@@ -5,7 +5,7 @@ use Prim.Native.Nat.{ℕ, zero, suc, ◌-◌, ◌≤◌, ◌<◌}
 use native.Mathlib.Omega.{arith}
 use lib.Dec.{eqb, leb}
 use borrow.Author.Tests.{eqb-false, eqb-true, ne_eqb}
-use Rattle.layout.specs.Result.{Result, ◌>>=◌, done, if◌then◌else◌, refused}
+use Rattle.layout.specs.Result.{Result, ◌>>=◌, done, when◌then◌else◌, refused}
 use Rattle.layout.specs.Book.{Groups, group_sinces, more, none}
 use Rattle.layout.specs.Message.{Entry, in_row, inside, read_entries, read_group, read_groups}
 use Rattle.layout.specs.Values.{Values, entries_from, entries_of, entry, group, group_of, nil}
@@ -91,7 +91,7 @@ module _ (p m : List ℕ) (v depth : ℕ) where
   row_cut zero gs n at = refl
   row_cut (suc g) none n at = refl
   row_cut (suc g) (more i since s inner rest) n at =
-      go (if leb since v then read_group (is_counted p) (version_at p) (is_big p) m v s (group_sinces inner)
+      go (when leb since v then read_group (is_counted p) (version_at p) (is_big p) m v s (group_sinces inner)
       (groups_by p m v inner (inside depth)) at else done (Absent, nil, at)) (λ x. row_cut g rest n x)
     where
       go : (f : Result (Answer × Values × ℕ))
@@ -144,7 +144,7 @@ module _ (f : ℕ → Result Entry) where
     -- No entry's turn comes.
     pub spots_past : (z : Spot) (n at : ℕ) → ((i : ℕ) → i < n → suc i ≡ turn → ⊥)
         → entries_spot f inside turn z n at ≡ z
-    unfolding entries_spot if◌then◌else◌
+    unfolding entries_spot when◌then◌else◌
     spots_past z zero at h = refl
     spots_past z (suc n) at h =
         rw (ne_eqb (suc n) turn (h n (omega arith))) (spots_past z n _ λ i l. h i (omega (arith, l)))
@@ -162,7 +162,7 @@ module _ (f : ℕ → Result Entry) where
     turn_next : ((x : ℕ) (e : Entry) → f x ≡ done e → x ≤ e.3) → (z : Spot) (n at : ℕ) (e : Entry) (r : Values)
         → f at ≡ done e → turn ≤ suc n → (turn ≤ n → Turn z n e.3 r) → (es : Values)
         → es ≡ entry e.0 e.1 e.2 r → Turn z (suc n) at es
-    unfolding entries_spot entries_from end_of_entry if◌then◌else◌
+    unfolding entries_spot entries_from end_of_entry when◌then◌else◌
     turn_next on z n at e r reads few next es whole =
         each_way (eqb (suc n) turn)
         (λ is. let same = eqb-true (suc n) turn is in

@@ -7,7 +7,7 @@ use native.Mathlib.Omega.{arith}
 use lib.Dec.{eqb, ltb}
 use lib.ListN.{length}
 use borrow.Author.Tests.{eqb-false, eqb-true, le-leb, lt-leb, ltb-false, ltb-true}
-use Rattle.layout.specs.Result.{Result, ◌>>=◌, done, if◌then◌else◌, must, refused}
+use Rattle.layout.specs.Result.{Result, ◌>>=◌, done, when◌then◌else◌, must, refused}
 use Rattle.layout.specs.Book.{Groups, Shape, group_sinces, more, none}
 use Rattle.layout.specs.BookRules.{word}
 use Rattle.layout.specs.Operations.{refusal}
@@ -105,9 +105,9 @@ found_within m at own (Walked.TheVariants.To x k) s b = b.1
 found_within m at own (Walked.TheVariants.Refused z) s b = tt
 
 pub ends_walked : {all r : Row} {w : Walked} (m : List ℕ) (at own : ℕ) (q : Result (Values × ℕ)) (s : Spot)
-    → r ≡ found_at w s → (w ≡ walked (values_end 0) q) × Bounded m at own w → all ≡ rowed q s → Answers m all r
-ends_walked {w = w} m at own q s e b h =
-    rw e (ap (λ w. found_at w s) b.0 ∙ told_found 0 q s ∙ sym h, found_within m at own w s b.1)
+    → r ≡ found_at w s → w ≡ walked (values_end 0) q → Bounded m at own w → all ≡ rowed q s → Answers m all r
+ends_walked {w = w} m at own q s e is b h =
+    rw e (ap (λ w. found_at w s) is ∙ told_found 0 q s ∙ sym h, found_within m at own w s b)
 
 -- ---- a row and n surplus groups, after its first g groups
 
@@ -147,7 +147,7 @@ module _ (p m : List ℕ) (v depth n : ℕ) (gs : Groups) (id since : ℕ) (s : 
   sought = rowed (groups_by p m v gs depth n at) (first_spot p m v e inside gs depth at)
 
   pub group_absent : v < since → sought ≡ rowed (groups_by p m v rest depth n at) nowhere
-  unfolding first_spot if◌then◌else◌
+  unfolding first_spot when◌then◌else◌
   group_absent h =
       let spot : first_spot p m v e inside gs depth at ≡ nowhere = rw (is, lt-leb since v h) refl in
       rw spot (passes 0 _ _ _ nowhere (row_absent p m v 0 depth n gs id since s inner rest is at h))
@@ -179,7 +179,7 @@ module _ (p m : List ℕ) (v depth n : ℕ) (gs : Groups) (id since : ℕ) (s : 
 
       pub entries_passed : (y : ℕ) (f : Spot) → To y f ≡ rowed (read_entries k.count block start) spot
           → sought ≡ rowed (groups_by p m v rest depth n y) f
-      unfolding first_spot opened_spot if◌then◌else◌
+      unfolding first_spot opened_spot when◌then◌else◌
       entries_passed y f r =
           let q = inv_sought _ _ y f r in
           let same : first_spot p m v e inside gs depth at ≡ f =
@@ -225,11 +225,11 @@ module _ (p m : List ℕ) (v : ℕ) (s : Shape) (gs : Groups) (depth g d l : ℕ
               denies 0 _ _ q (entry_datas (is_big p) m v s reader d l 0 n at h fit x _ there.walks q r)
 
           spots_step : (n : ℕ) → 0 < n → entries_spot entry_is inside turn z n at
-              ≡ entries_spot entry_is inside turn (if eqb n turn then inside at else z) (n - 1) (end_of_entry (entry_is at))
+              ≡ entries_spot entry_is inside turn (when eqb n turn then inside at else z) (n - 1) (end_of_entry (entry_is at))
           unfolding entries_spot
           spots_step n h = rw (some_left h, one_less) refl
 
-          pub entry_next_on : y ≡ (if eqb n turn then inside at else z) → (w j : ℕ)
+          pub entry_next_on : y ≡ (when eqb n turn then inside at else z) → (w j : ℕ)
               → Walked.TheVariants.To w j ≡ walked (datas_end 0) (read_datas (is_big p) m v s.datas d x)
               → left ≡ rowed (read_entries (n - 1) entry_is w) (entries_spot entry_is inside turn f (n - 1) w)
           unfolding end_of_entry
@@ -256,7 +256,7 @@ module _ (p m : List ℕ) (v : ℕ) (s : Shape) (gs : Groups) (depth l : ℕ) (n
   -- The entry whose turn it is.
   plain_turn : (inside : ℕ → Spot) (turn : ℕ) (z : Spot) (n at : ℕ) → 0 < turn → turn ≤ n → at + l * n ≤ length m
       → entries_spot plain_is inside turn z n at ≡ inside (at + l * (n - turn))
-  unfolding entries_spot if◌then◌else◌
+  unfolding entries_spot when◌then◌else◌
   plain_turn inside turn z zero at some few fit = absurd (omega arith)
   plain_turn inside turn z (suc n) at some few fit =
       let fits : at + l + l * n ≤ length m = omega arith in
@@ -277,8 +277,8 @@ module _ (p m : List ℕ) (v : ℕ) (s : Shape) (gs : Groups) (depth l : ℕ) (n
 
   -- No step leads on in an entry without groups.
   plain_inside : (path : List ℕ) (i : ℕ) → Path path i → (x : Spot)
-      → spot_in p m v (steps_from path i) gs depth x ≡ (if eqb (length path) i then x else nowhere)
-  unfolding spot_in first_spot if◌then◌else◌
+      → spot_in p m v (steps_from path i) gs depth x ≡ (when eqb (length path) i then x else nowhere)
+  unfolding spot_in first_spot when◌then◌else◌
   plain_inside path i q x =
       each_way (eqb (length path) i)
       (λ e. rw (e, steps_done path i (omega (arith, eqb-true (length path) i e))) refl)
@@ -288,7 +288,7 @@ module _ (p m : List ℕ) (v : ℕ) (s : Shape) (gs : Groups) (depth l : ℕ) (n
   pub plain_spot_lem : (path : List ℕ) (i : ℕ) → Path path i → (k e at : ℕ) → at + l * k ≤ length m
       → entries_spot plain_is (λ x. spot_in p m v (steps_from path i) gs depth (spot_of 0 l x)) (k - e) nowhere k at
       ≡ plain_spot l k at e (eqb (length path) i)
-  unfolding if◌then◌else◌
+  unfolding when◌then◌else◌
   plain_spot_lem path i q k e at fit =
       let inside : ℕ → Spot = λ x. spot_in p m v (steps_from path i) gs depth (spot_of 0 l x) in
       each_way (ltb e k)
@@ -308,15 +308,15 @@ module _ (p : List ℕ) (depth a : ℕ) (m : List ℕ) (v : ℕ) (path : List �
     pub inner_on : on ≡ true → i + 2 ≤ length path
         → inner_sought p depth a m v path i e on z
         ≡ row_sought p depth a m v path i e.groups (e.start + e.length)
-    unfolding spot_in if◌then◌else◌
+    unfolding spot_in when◌then◌else◌
     inner_on h some = rw (h, steps_next path i some) refl
 
     pub inner_last : on ≡ true → length path ≤ i → inner_sought p depth a m v path i e on z ≡ entry_row e
-    unfolding spot_in if◌then◌else◌
+    unfolding spot_in when◌then◌else◌
     inner_last h last = rw (h, steps_done path i last) refl
 
     pub inner_off : on ≡ false → inner_sought p depth a m v path i e on z ≡ entry_row z
-    unfolding if◌then◌else◌
+    unfolding when◌then◌else◌
     inner_off h = rw h refl
 
 -- ---- the row of a block

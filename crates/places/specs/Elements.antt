@@ -1,6 +1,6 @@
 -- The element that a place ends with: whether the template has it, and what it is in an entry that was accepted.
 use Rattle.std.specs.Prelude.{◌≡◌, List, [], ◌∷◌, ℕ, ◌≤◌, get_or, length}
-use Rattle.layout.specs.Result.{Result, ◌>>=◌, done, if◌then◌else◌, refused}
+use Rattle.layout.specs.Result.{Result, ◌>>=◌, done, when◌then◌else◌, refused}
 use Rattle.layout.specs.Book.{need}
 use Rattle.layout.specs.Message.{Entry, read_datas}
 use Rattle.layout.specs.Reading.{has_place}
@@ -37,7 +37,7 @@ block_after p (s ∷ ps) a = block_after p ps (row_after p s.group (groups_from 
 -- That block, if the block at a has the place.
 abbrev pub block_for : List ℕ → ℕ → ℕ → List Step → Element → Located
 block_for p depth a ps x =
-    if has_place ps x (shape_at p a) (inner_at p depth a) then At (block_after p ps a) else Unknown
+    when has_place ps x (shape_at p a) (inner_at p depth a) then At (block_after p ps a) else Unknown
 
 -- ---- what it is
 

@@ -1,6 +1,6 @@
 -- What the walk along a path comes to, at places of the prepared numbers p.
 use Rattle.std.specs.Prelude.{◌≡◌, Bool, List, ℕ, zero, suc, ◌+◌, ◌-◌, ◌*◌, ◌%◌, ◌≤◌, ltb, drop, length}
-use Rattle.layout.specs.Result.{Result, done, refused, if◌then◌else◌}
+use Rattle.layout.specs.Result.{Result, done, refused, when◌then◌else◌}
 use Rattle.layout.specs.Reading.{steps_of}
 use Rattle.layout.specs.BookRules.{word}
 use Rattle.layout.specs.Operations.{refusal}
@@ -86,9 +86,9 @@ module _ (p : List ℕ) (depth a : ℕ) (m : List ℕ) (v : ℕ) (path : List �
   abbrev pub inner_sought : Spot → Bool → Spot → Row
   inner_sought e on z =
       rowed (row_at p depth (many_groups p a) (groups_from p a) m v e.groups (e.start + e.length))
-      (if on then spot_in p m v (steps_from path i) (inner_at p depth a) depth e else z)
+      (when on then spot_in p m v (steps_from path i) (inner_at p depth a) depth e else z)
 
 -- k entries of l octets that nothing follows, from `start` on: entry e, if it is the last step that leads to it.
 abbrev pub plain_spot : ℕ → ℕ → ℕ → ℕ → Bool → Spot
 plain_spot l k start e last =
-    if ltb e k then (if last then spot_of 0 l (start + l * e) else nowhere) else nowhere
+    when ltb e k then (when last then spot_of 0 l (start + l * e) else nowhere) else nowhere

@@ -1,7 +1,7 @@
 -- Where the entry stands that steps lead to: a spot is where it starts, how many octets its block has on the wire and
 -- how many surplus groups follow its own; or all zeros where there is no such entry.
 use Rattle.std.specs.Prelude.{List, [], ◌∷◌, ℕ, zero, suc, ◌+◌, ◌-◌, eqb, leb}
-use Rattle.layout.specs.Result.{Result, done, refused, if◌then◌else◌}
+use Rattle.layout.specs.Result.{Result, done, refused, when◌then◌else◌}
 use Rattle.layout.specs.Book.{Groups, Shape, group_sinces, more, none}
 use Rattle.layout.specs.Message.{Entry, dimension_size}
 use Rattle.layout.specs.Values.{Step, Values}
@@ -61,7 +61,7 @@ end_of_entry (refused n p) = 0
 unfoldable pub entries_spot : (ℕ → Result Entry) → (ℕ → Spot) → ℕ → Spot → ℕ → ℕ → Spot
 entries_spot f inside turn z zero at = z
 entries_spot f inside turn z (suc n) at =
-    entries_spot f inside turn (if eqb (suc n) turn then inside at else z) n (end_of_entry (f at))
+    entries_spot f inside turn (when eqb (suc n) turn then inside at else z) n (end_of_entry (f at))
 
 -- By the prepared numbers p.
 module _ (p m : List ℕ) (v : ℕ) where
@@ -77,7 +77,7 @@ module _ (p m : List ℕ) (v : ℕ) where
   unfoldable pub first_spot : ℕ → (Groups → ℕ → Spot → Spot) → Groups → ℕ → ℕ → Spot
   first_spot e inside none depth at = nowhere
   first_spot e inside (more i since s inner rest) depth at =
-      if leb since v then opened_spot e (inside inner (depth - 1)) s inner (depth - 1) (at + dimension_size (is_counted p))
+      when leb since v then opened_spot e (inside inner (depth - 1)) s inner (depth - 1) (at + dimension_size (is_counted p))
       (open_by (is_counted p) (version_at p) (is_big p) m v s (group_sinces inner) at) else nowhere
 
   -- The entry that a step leads to in a row at `at`, and what is inside of it.

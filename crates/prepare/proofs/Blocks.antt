@@ -4,7 +4,7 @@ use native.Mathlib.Numerals.{towards_suc}
 use lib.Seq.{sets}
 use Rattle.octets.proofs.Joined.{sets_append}
 use Rattle.layout.specs.Octets.{words_of}
-use Rattle.layout.specs.Result.{if◌then◌else◌}
+use Rattle.layout.specs.Result.{when◌then◌else◌}
 use Rattle.layout.specs.Types.{type_at}
 use Rattle.layout.specs.Lists.{NameList}
 use Rattle.layout.specs.Book.{need as need_of, need_after}
@@ -95,7 +95,7 @@ module _ (ls : List NameList) (b : List ℕ) (f left t : ℕ) (some_left : 0 < l
   -- With the end e, of length n and offset o, since v.
   pub need_step : (e n o version need v : ℕ) → e ≡ o + (type_at t).width * n → n ≡ word b (f + 2) → o ≡ word b (f + 3)
       → v ≡ word b (f + 5) → need_after version need (parse_fields ls b left f)
-      ≡ need_after version (if leb v version then e else need) (parse_fields ls b (left - 1) (f + 7))
+      ≡ need_after version (when leb v version then e else need) (parse_fields ls b (left - 1) (f + 7))
   unfolding need_after
   need_step e n o version need v is is-n is-o is-v =
       rw (fields_step ls b left f some_left, is, is-t, is-n, is-o, is-v) refl

@@ -2,7 +2,7 @@
 use Rattle.std.proofs.Common.{◌≡◌, ℕ, zero, suc, ◌+◌, ◌-◌, ◌*◌, ◌/◌, ◌<◌, ◌≤◌, Bool, true, false, eqb, List, [], ◌∷◌, map, length, take, drop, set, refl, ap, ◌∙◌, arith, leb-true}
 use native.Mathlib.Numerals.{towards_suc}
 use lib.Seq.{sets}
-use Rattle.layout.specs.Result.{Each, if◌then◌else◌}
+use Rattle.layout.specs.Result.{Each, when◌then◌else◌}
 use Rattle.layout.specs.Octets.{words_of}
 use Rattle.layout.specs.Lists.{NameList}
 use Rattle.layout.specs.BookRules.{climbing, head_size, list_good, name_list_of, parse_contents, word}
@@ -108,12 +108,12 @@ module _ (b : List ℕ) (e : ℕ) where
   module _ (id : ℕ) where
     place_here : (l : NameList) (ls : List NameList) (at : ℕ) → eqb l.id id ≡ true
         → place_of (suc id) (l ∷ ls) at ≡ at
-    unfolding place_of if◌then◌else◌
+    unfolding place_of when◌then◌else◌
     place_here l ls at t = rw t refl
 
     place_next : (l : NameList) (ls : List NameList) (at : ℕ) → eqb l.id id ≡ false
         → place_of (suc id) (l ∷ ls) at ≡ place_of (suc id) ls (at + list_size l)
-    unfolding place_of if◌then◌else◌
+    unfolding place_of when◌then◌else◌
     place_next l ls at t = rw t refl
 
     -- Where the list with the number stands, the first of these standing at `at`.
@@ -134,7 +134,7 @@ module _ (b : List ℕ) (e : ℕ) where
             → (t : Bool) → eqb (word b w) id ≡ t
             → (j : ℕ) × (i ≡ k + j) × Placed (suc n) w at j
         go others true t =
-            let here : k ≡ i = unfold if◌then◌else◌ in let f = rw t at q in cc in
+            let here : k ≡ i = unfold when◌then◌else◌ in let f = rw t at q in cc in
             let o : w + 3 * 0 ≡ w = omega arith in (
               0,
               omega arith,
@@ -145,7 +145,7 @@ module _ (b : List ℕ) (e : ℕ) where
               },
             )
         go others false t =
-            let f = others (unfold if◌then◌else◌ in rw t at q) in
+            let f = others (unfold when◌then◌else◌ in rw t at q) in
             let o : w + 3 * suc f.0 ≡ w + 3 + 3 * f.0 = omega arith in
             let next = laid_next n w (omega (arith, f.2.below)) l in
             let size = laid_size n w l in (
@@ -166,7 +166,7 @@ module _ (b : List ℕ) (e : ℕ) where
 
     missing_among : (n w k at : ℕ) → listed_among id (parse_contents b n w) k ≡ Missing
         → place_of (suc id) (lists n w) at ≡ 0
-    unfolding listed_among parse_contents place_of if◌then◌else◌
+    unfolding listed_among parse_contents place_of when◌then◌else◌
     missing_among zero w k at q = refl
     missing_among (suc n) w k at q =
         go (missing_among n (w + 3) (suc k) (at + list_size (list_at b w))) (eqb (word b w) id) refl

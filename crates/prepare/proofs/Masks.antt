@@ -1,6 +1,6 @@
 -- The mask of rising numbers: each of them adds a bit of its own.
 use Rattle.std.proofs.Common.{◌≡◌, ℕ, zero, suc, ◌+◌, ◌-◌, ◌^◌, ◌<◌, ◌≤◌, Bool, true, false, ltb, List, [], ◌∷◌, length, take, drop, refl, pow-suc, arith, pow_mono, ltb-false, ltb-true, le-ltb, leb-true}
-use Rattle.layout.specs.Result.{if◌then◌else◌}
+use Rattle.layout.specs.Result.{when◌then◌else◌}
 use Rattle.layout.specs.BookRules.{climbing, word}
 use Rattle.layout.proofs.Results.{and_left, and_right}
 use Rattle.book.proofs.NameLists.{numbers_step}
@@ -8,7 +8,7 @@ use Rattle.prepared.specs.Numbers.{bit_of, mask_of}
 
 -- Numbers from 64 on are no bits.
 high_none : (low : ℕ) (ns : List ℕ) → 64 ≤ low → climbing low ns ≡ true → mask_of ns ≡ 0
-unfolding climbing mask_of if◌then◌else◌
+unfolding climbing mask_of when◌then◌else◌
 high_none low [] h g = refl
 high_none low (n ∷ ns) h g =
     let l = leb-true low n (and_left _ _ g) in
@@ -16,12 +16,12 @@ high_none low (n ∷ ns) h g =
 
 -- Bits from `low` on leave room for those below.
 mask_above : (low : ℕ) (ns : List ℕ) → low ≤ 64 → climbing low ns ≡ true → mask_of ns + 2 ^ low ≤ 2 ^ 64
-unfolding climbing mask_of if◌then◌else◌
+unfolding climbing mask_of when◌then◌else◌
 mask_above low [] h g = omega (arith, pow_mono h)
 mask_above low (n ∷ ns) h g = go (λ below. mask_above (suc n) ns below (and_right _ _ g)) (ltb n 64) refl
   where
     go : (suc n ≤ 64 → mask_of ns + 2 ^ suc n ≤ 2 ^ 64) → (t : Bool) → ltb n 64 ≡ t
-        → (if t then 2 ^ n else 0) + mask_of ns + 2 ^ low ≤ 2 ^ 64
+        → (when t then 2 ^ n else 0) + mask_of ns + 2 ^ low ≤ 2 ^ 64
     go others true e =
         let least = leb-true low n (and_left _ _ g) in
         omega (arith, others (ltb-true n 64 e), pow-suc 2 n, pow_mono least)

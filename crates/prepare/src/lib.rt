@@ -3,7 +3,7 @@
 
 ghost use Rattle.std.specs.Prelude.{◌≡◌, ◌+◌, ◌*◌, ◌/◌, ◌<◌, ◌≤◌, true, [], ◌∷◌, length, take, drop, replicate, nat_le};
 ghost use Rattle.std.proofs.lemmas.List.Edits.{sets};
-ghost use Rattle.layout.specs.Result.{if◌then◌else◌};
+ghost use Rattle.layout.specs.Result.{when◌then◌else◌};
 ghost use Rattle.layout.specs.Octets.{words_of};
 ghost use Rattle.layout.specs.Book.{need as need_of, need_after};
 ghost use Rattle.layout.specs.BookRules.{climbing, head_size, word};
@@ -117,7 +117,7 @@ fn place_of(book: &[u8], list: usize) -> usize
 
 // The need after a field with this end: its own, if it is present.
 fn need_after(since: usize, version: usize, end: usize, need: usize) -> usize
-    ensures { result ≡ (if nat_le since version then end else need) }
+    ensures { result ≡ (when nat_le since version then end else need) }
 {
     if since <= version { end } else { need }
 }

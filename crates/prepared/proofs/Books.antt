@@ -6,7 +6,7 @@ use Prim.Native.Nat.{ℕ, zero, suc, ◌+◌, ◌*◌, ◌%◌, ◌≤◌, ◌<�
 use native.Mathlib.Omega.{arith}
 use lib.Dec.{eqb}
 use lib.ListN.{get_or, length, replicate, set}
-use Rattle.layout.specs.Result.{if◌then◌else◌}
+use Rattle.layout.specs.Result.{when◌then◌else◌}
 use Rattle.layout.specs.Octets.{null16}
 use Rattle.layout.specs.Lists.{NameList}
 use Rattle.layout.specs.Book.{Book, Template, group_sinces}
@@ -139,7 +139,7 @@ pub record Held (p : List ℕ) (b : Book) : Type 0 where
   pub back : book_at p ≡ b
 
 order_back : (big : Bool) → eqb (order_of big) 1 ≡ big
-unfolding if◌then◌else◌
+unfolding when◌then◌else◌
 order_back false = refl
 order_back true = refl
 

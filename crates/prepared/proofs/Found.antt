@@ -8,7 +8,7 @@ use native.Mathlib.Omega.{arith}
 use lib.Dec.{eqb}
 use lib.ListN.{length}
 use borrow.Author.Tests.{eqb-true}
-use Rattle.layout.specs.Result.{if◌then◌else◌}
+use Rattle.layout.specs.Result.{when◌then◌else◌}
 use Rattle.layout.specs.Book.{Template, find_template}
 use Rattle.layout.specs.BookRules.{word}
 use Rattle.prepared.specs.Positions.{BlockAt}
@@ -48,18 +48,18 @@ Says p id ts Unknown = find_template id ts ≡ no
 -- One row more.
 next_says : (p : List ℕ) (id w : ℕ) (ts : List Template) (r : Located) → BlockAt p 4 (word p (w + 1))
     → word p (word p (w + 1)) ≡ word p w → Says p id ts r
-    → Says p id (template_at p (word p (w + 1)) ∷ ts) (if eqb (word p w) id then At (word p (w + 1)) else r)
+    → Says p id (template_at p (word p (w + 1)) ∷ ts) (when eqb (word p w) id then At (word p (w + 1)) else r)
 next_says p id w ts r block named s = go (eqb (word p w) id) refl r s
   where
     go : (t : Bool) → eqb (word p w) id ≡ t → (r : Located) → Says p id ts r
-        → Says p id (template_at p (word p (w + 1)) ∷ ts) (if t then At (word p (w + 1)) else r)
+        → Says p id (template_at p (word p (w + 1)) ∷ ts) (when t then At (word p (w + 1)) else r)
     go true e r s =
-        unfold Says find_template if◌then◌else◌ in
+        unfold Says find_template when◌then◌else◌ in
         record { block = block; named = named ∙ eqb-true _ id e; template = rw (named, e) refl }
     go false e (At a) s =
-        unfold Says find_template if◌then◌else◌ in
+        unfold Says find_template when◌then◌else◌ in
         record { block = s.block; named = s.named; template = rw (named, e) s.template }
-    go false e Unknown s = unfold Says find_template if◌then◌else◌ in rw (named, e) s
+    go false e Unknown s = unfold Says find_template when◌then◌else◌ in rw (named, e) s
 
 rows_say : (p : List ℕ) (id n w : ℕ)
     → ((i : ℕ) → i < n → BlockAt p 4 (word p (w + 2 * i + 1)) × (word p (word p (w + 2 * i + 1)) ≡ word p (w + 2 * i)))

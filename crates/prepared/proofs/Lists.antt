@@ -8,7 +8,7 @@ use native.Mathlib.Omega.{arith}
 use lib.Dec.{eqb}
 use lib.ListN.{drop, length, take}
 use borrow.Author.Tests.{ne_eqb}
-use Rattle.layout.specs.Result.{Each, if◌then◌else◌}
+use Rattle.layout.specs.Result.{Each, when◌then◌else◌}
 use Rattle.layout.specs.Lists.{NameList, find_names, names_of}
 use Rattle.layout.specs.Book.{Field}
 use Rattle.layout.specs.BookRules.{climbing, kind_good, list_good, word}
@@ -58,7 +58,7 @@ module _ (p : List ℕ) where
       rw (o.0.is, o.0.long, q, lists_stand ls _ to o.1) refl
 
   first_leads : (l : NameList) (x : ℕ) → 0 < x → list_good l ≡ true → IsRead x l → HasNames p x (names_of l)
-  unfolding names_at if◌then◌else◌
+  unfolding names_at when◌then◌else◌
   first_leads l x after good r =
       record {
         list = λ h. r.list (and_right _ _ (and_right _ _ (and_right _ _ good)));
@@ -66,7 +66,7 @@ module _ (p : List ℕ) where
       }
 
   none_leads : (ls : List NameList) (x : ℕ) → HasNames p (place_of 0 ls x) (find_names 0 ls)
-  unfolding find_names names_at place_of if◌then◌else◌
+  unfolding find_names names_at place_of when◌then◌else◌
   none_leads ls x = record { list = λ h. absurd (omega arith); names = refl }
 
   -- A field whose word is w keeps rule 5 with the names that its list has.
@@ -84,11 +84,11 @@ module _ (p : List ℕ) where
       go : (b : Bool) → HasNames p x (names_of l)
           → (kind_good (find_names (suc id) ls).kind f ≡ true
           → HasNames p (place_of (suc id) ls (x + list_size l)) (find_names (suc id) ls))
-          → kind_good (if b then names_of l else find_names (suc id) ls).kind f ≡ true
-          → HasNames p (if b then x else place_of (suc id) ls (x + list_size l))
-          (if b then names_of l else find_names (suc id) ls)
-      go true first rest g = unfold if◌then◌else◌ in first
-      go false first rest g = unfold if◌then◌else◌ in rest g
+          → kind_good (when b then names_of l else find_names (suc id) ls).kind f ≡ true
+          → HasNames p (when b then x else place_of (suc id) ls (x + list_size l))
+          (when b then names_of l else find_names (suc id) ls)
+      go true first rest g = unfold when◌then◌else◌ in first
+      go false first rest g = unfold when◌then◌else◌ in rest g
 
   pub lists_back : (n : ℕ) (ls : List NameList) (to : ℕ) → word p 2 ≡ n → word p 3 ≡ length ls
       → Stands p (lists_from n) (lists_numbers ls) to → lists_at p ≡ ls

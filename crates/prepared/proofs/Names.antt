@@ -6,7 +6,7 @@ use Prim.Native.Nat.{ℕ, zero, suc, ◌+◌}
 use native.Mathlib.Omega.{arith}
 use lib.Dec.{eqb}
 use borrow.Author.Tests.{eq-eqb, ltb-false, ne_eqb}
-use Rattle.layout.specs.Result.{if◌then◌else◌}
+use Rattle.layout.specs.Result.{when◌then◌else◌}
 use Rattle.layout.specs.Lists.{Kind, Names, enumeration, find_names, free, missing, names_of, no_names, set}
 use Rattle.layout.specs.BookRules.{word}
 use Rattle.layout.proofs.Results.{either}
@@ -15,11 +15,11 @@ use Rattle.prepared.specs.Positions.{IsField, field_at}
 
 module _ {p : List ℕ} {x : ℕ} {l : Names} (h : HasNames p x l) where
   pub names_free : x ≡ 0 → l ≡ no_names
-  unfolding names_at if◌then◌else◌
+  unfolding names_at when◌then◌else◌
   names_free e = sym h.names ∙ rw (eq-eqb x 0 e) refl
 
   pub names_here : (x ≡ 0 → ⊥) → l ≡ names_of (list_at p x)
-  unfolding names_at if◌then◌else◌
+  unfolding names_at when◌then◌else◌
   names_here n = sym h.names ∙ rw (ne_eqb x 0 n) refl
 
 -- A place leads to no list that is missing.

@@ -5,7 +5,7 @@ use Prim.Native.Nat.{ℕ, zero, suc, ◌+◌, ◌-◌, ◌*◌, ◌<◌, ◌≤�
 use native.Mathlib.Omega.{arith}
 use lib.Dec.{leb}
 use borrow.Author.Tests.{le-leb, lt-leb}
-use Rattle.layout.specs.Result.{if◌then◌else◌}
+use Rattle.layout.specs.Result.{when◌then◌else◌}
 use Rattle.layout.specs.Lists.{NameList}
 use Rattle.layout.specs.Book.{end, need_after}
 use Rattle.layout.specs.BookRules.{field_at, parse_fields, word}
@@ -14,24 +14,24 @@ module _ (ls : List NameList) (b : List ℕ) where
   -- The last of n + 1 fields decides if it is present, and leaves it to those before it if not.
   need_last : (v n e w : ℕ)
       → need_after v e (parse_fields ls b (suc n) w)
-      ≡ (if leb (word b (w + 7 * n + 5)) v then end (field_at ls b (w + 7 * n))
+      ≡ (when leb (word b (w + 7 * n + 5)) v then end (field_at ls b (w + 7 * n))
       else need_after v e (parse_fields ls b n w))
   unfolding need_after parse_fields
   need_last v zero e w = let q : w + 7 * 0 ≡ w = omega arith in rw q refl
   need_last v (suc n) e w =
       let q : w + 7 * suc n ≡ w + 7 + 7 * n = omega arith in
-      rw q (need_last v n (if leb (word b (w + 5)) v then end (field_at ls b w) else e) (w + 7))
+      rw q (need_last v n (when leb (word b (w + 5)) v then end (field_at ls b w) else e) (w + 7))
 
   pub need_here : (v n e w : ℕ) → 0 < n → word b (w + 7 * (n - 1) + 5) ≤ v
       → need_after v e (parse_fields ls b n w) ≡ end (field_at ls b (w + 7 * (n - 1)))
   need_here v n e w some-are s =
       let q : suc (n - 1) ≡ n = omega arith in
       subst (λ k. need_after v e (parse_fields ls b k w) ≡ end (field_at ls b (w + 7 * (n - 1)))) q
-      (rw (need_last v (n - 1) e w, le-leb _ v s) (unfold if◌then◌else◌ in refl))
+      (rw (need_last v (n - 1) e w, le-leb _ v s) (unfold when◌then◌else◌ in refl))
 
   need_later : (v n e w : ℕ) → v < word b (w + 7 * n + 5)
       → need_after v e (parse_fields ls b (suc n) w) ≡ need_after v e (parse_fields ls b n w)
-  need_later v n e w s = rw (need_last v n e w, lt-leb _ v s) (unfold if◌then◌else◌ in refl)
+  need_later v n e w s = rw (need_last v n e w, lt-leb _ v s) (unfold when◌then◌else◌ in refl)
 
   -- Fields that are absent after the first n change nothing.
   pub need_cut : (v n k e w : ℕ) → ((i : ℕ) → n ≤ i → i < n + k → v < word b (w + 7 * i + 5))

@@ -6,7 +6,7 @@ use Prim.Native.Nat.{ℕ, zero, suc, ◌+◌, ◌-◌, ◌*◌, ◌^◌, ◌≤�
 use native.Mathlib.Omega.{arith}
 use lib.ListN.{length}
 use borrow.Author.Tests.{le-leb}
-use Rattle.layout.specs.Result.{if◌then◌else◌}
+use Rattle.layout.specs.Result.{when◌then◌else◌}
 use Rattle.layout.specs.Book.{group_sinces, none, present}
 use Rattle.layout.specs.BookRules.{parse_datas, word}
 use Rattle.number_types.specs.Value.{order_of}
@@ -22,7 +22,7 @@ head_there b = omega (arith, b.fields_fit)
 -- The counts of a block are 0 only if nothing follows it.
 counts_bound : (big : Bool) (g d : ℕ) → g ≤ 16 → d ≤ 16
     → (g + d ≤ own_counts (order_of big) g d) × (own_counts (order_of big) g d < 2 ^ 32)
-unfolding if◌then◌else◌
+unfolding when◌then◌else◌
 counts_bound false g d h k = (omega arith, omega arith)
 counts_bound true g d h k = (omega arith, omega arith)
 
@@ -67,7 +67,7 @@ length_row p (suc depth) (suc n) a row = rw (length_row p (suc depth) n _ row.2)
 -- At the book's version and later all groups are present.
 pub groups_here : (p : List ℕ) (v depth n a : ℕ) → version_at p ≤ v → IsRow p depth n a
     → present v (group_sinces (groups_at p depth n a)) ≡ n
-unfolding IsRow groups_at group_sinces present if◌then◌else◌
+unfolding IsRow groups_at group_sinces present when◌then◌else◌
 groups_here p v zero zero a h row = refl
 groups_here p v (suc depth) zero a h row = refl
 groups_here p v zero (suc n) a h row = absurd row

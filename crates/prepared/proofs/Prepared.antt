@@ -8,7 +8,7 @@ use native.Mathlib.Omega.{arith}
 use lib.ListN.{get_or, length, length-append, length-map, length-set}
 use lib.Seq.{get_or-drop, get_or-take}
 use borrow.Author.Tests.{le-leb, leb-true}
-use Rattle.layout.specs.Result.{Each, if◌then◌else◌}
+use Rattle.layout.specs.Result.{Each, when◌then◌else◌}
 use Rattle.layout.specs.Lists.{NameList}
 use Rattle.layout.specs.Book.{Book, Data, Field, Groups, Shape, data_sinces, end, field_sinces, group_sinces, more, need}
 use Rattle.layout.specs.Book.{Template, need_after, none, present}
@@ -222,7 +222,7 @@ sinces_next ls b high (suc n) low w g (suc i) h =
 -- At the book's version and later the need is one.
 need_up : (version v e : ℕ) (fs : List Field) → Each (λ since. since ≤ version) (field_sinces fs) → version ≤ v
     → need_after version e fs ≡ need_after v e fs
-unfolding need_after Each if◌then◌else◌
+unfolding need_after Each when◌then◌else◌
 need_up version v e [] u h = refl
 need_up version v e (f ∷ fs) u h =
     rw (le-leb f.since version u.0, le-leb f.since v (omega (arith, u.0)))

@@ -6,7 +6,7 @@ use Prim.Native.Nat.{◌%◌, ◌+◌, ◌<◌, ◌^◌, ◌≤◌, ℕ}
 use native.Mathlib.Omega.{arith}
 use lib.Dec.{leb}
 use borrow.Author.Tests.{le-leb, leb-false, leb-true, lt-leb}
-use Rattle.layout.specs.Result.{◌and◌, ◌or◌, if◌then◌else◌}
+use Rattle.layout.specs.Result.{◌and◌, ◌or◌, when◌then◌else◌}
 use Rattle.layout.specs.Types.{classify, in_range, type_at}
 use Rattle.layout.specs.declared.Answer.TheVariants.{Number}
 use Rattle.layout.proofs.Results.{each_way}
@@ -35,7 +35,7 @@ module _ (l g x d s : ℕ) (e : (d + l) % 2 ^ 64 ≡ x) (f : (s + l) % 2 ^ 64 �
 -- So a value is in range where it is no farther than the greatest.
 in_span : (t x d s : ℕ) → (d + (type_at t).least) % 2 ^ 64 ≡ x → (s + (type_at t).least) % 2 ^ 64 ≡ (type_at t).greatest
     → d < 2 ^ 64 → s < 2 ^ 64 → in_range (type_at t) x ≡ leb d s
-unfolding in_range if◌then◌else◌
+unfolding in_range when◌then◌else◌
 in_span t x d s =
     each_type
     (λ k. (d + k.least) % 2 ^ 64 ≡ x → (s + k.least) % 2 ^ 64 ≡ k.greatest → d < 2 ^ 64 → s < 2 ^ 64
@@ -62,6 +62,6 @@ in_range_lem t x d least far small e p q =
 -- What is in range is a number, null or not being asked.
 pub in_range_number : (t : ℕ) (optional : Bool) (x : ℕ) → in_range (type_at t) x ≡ true
     → classify (type_at t) optional x ≡ Number x
-unfolding classify if◌then◌else◌ ◌and◌
+unfolding classify when◌then◌else◌ ◌and◌
 in_range_number t false x e = rw e refl
 in_range_number t true x e = rw (inside_not_null t x e, e) refl

@@ -4,7 +4,7 @@ use mathlib.Core.List.{List}
 use Prim.Native.Nat.{◌*◌, ◌+◌, ◌<◌, ◌≤◌, suc, zero, ℕ}
 use native.Mathlib.Omega.{arith}
 use borrow.Author.Tests.{eq-eqb, ne_eqb}
-use Rattle.layout.specs.Result.{if◌then◌else◌}
+use Rattle.layout.specs.Result.{when◌then◌else◌}
 use Rattle.layout.specs.BookRules.{word}
 use Rattle.prepared.specs.Numbers.{contents_from}
 use Rattle.prepared.specs.Books.{HoldsBook, block_of, id_of, location_among, location_of}
@@ -24,7 +24,7 @@ module _ (p : List ℕ) (id : ℕ) where
 
   place_here : (n w i : ℕ) → i < n → ((j : ℕ) → j < i → Other w j) → word p (w + 2 * i) ≡ id
       → location_among p id n w ≡ At (word p (w + 2 * i + 1))
-  unfolding location_among if◌then◌else◌
+  unfolding location_among when◌then◌else◌
   place_here zero w i h others is = absurd (omega arith)
   place_here (suc n) w zero h others is = rw (unshifted w, eq-eqb (word p w) id (rw (unshifted w) at is)) refl
   place_here (suc n) w (suc i) h others is =
@@ -33,7 +33,7 @@ module _ (p : List ℕ) (id : ℕ) where
       (rw (shifted w i) at is))
 
   no_place_lem : (n w : ℕ) → ((j : ℕ) → j < n → Other w j) → location_among p id n w ≡ Unknown
-  unfolding location_among if◌then◌else◌
+  unfolding location_among when◌then◌else◌
   no_place_lem zero w others = refl
   no_place_lem (suc n) w others =
       rw (ne_eqb (word p w) id (rw (unshifted w) at (others 0 (omega arith))))

@@ -1,6 +1,6 @@
 -- The book that prepared numbers p hold, read back, and what every call that is lent them requires.
 use Rattle.std.specs.Prelude.{◌≡◌, List, [], ◌∷◌, ℕ, zero, suc, ◌+◌, ◌*◌, ◌≤◌, ◌<◌, eqb, length}
-use Rattle.layout.specs.Result.{done, if◌then◌else◌}
+use Rattle.layout.specs.Result.{done, when◌then◌else◌}
 use Rattle.layout.specs.Book.{Book, Template}
 use Rattle.layout.specs.BookRules.{book_of, word}
 use Rattle.prepared.specs.Numbers.{contents_from, prepared_of, slots, slots_from}
@@ -41,7 +41,7 @@ book_at p =
 unfoldable pub location_among : List ℕ → ℕ → ℕ → ℕ → Located
 location_among p id zero w = Located.TheVariants.Unknown
 location_among p id (suc n) w =
-    if eqb (word p w) id then Located.TheVariants.At (word p (w + 1)) else location_among p id n (w + 2)
+    when eqb (word p w) id then Located.TheVariants.At (word p (w + 1)) else location_among p id n (w + 2)
 
 abbrev pub location_of : List ℕ → ℕ → Located
 location_of p id = location_among p id (word p 2) contents_from

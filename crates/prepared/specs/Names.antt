@@ -1,6 +1,6 @@
 -- The lists among prepared numbers p, read back by position, and what is worked out of them.
 use Rattle.std.specs.Prelude.{◌≡◌, Bool, true, List, [], ◌∷◌, ℕ, zero, suc, ◌+◌, ◌≤◌, ◌<◌, eqb, ltb, drop, length, take}
-use Rattle.layout.specs.Result.{if◌then◌else◌}
+use Rattle.layout.specs.Result.{when◌then◌else◌}
 use Rattle.layout.specs.Lists.{NameList, Names, names_of, no_names}
 use Rattle.layout.specs.BookRules.{climbing, word}
 use Rattle.prepared.specs.Numbers.{lists_from, mask_of}
@@ -23,7 +23,7 @@ has_lists p = ltb 0 (word p 3)
 
 -- The names that the place x leads to: 0 leads to none.
 unfoldable pub names_at : List ℕ → ℕ → Names
-names_at p x = if eqb x 0 then no_names else names_of (list_at p x)
+names_at p x = when eqb x 0 then no_names else names_of (list_at p x)
 
 -- A list of an accepted book stands at x, with its mask.
 pub record IsList (p : List ℕ) (x : ℕ) : Type 0 where

@@ -2,7 +2,7 @@
 -- numbers as in the book; what is worked out of them stands in a block's head, and of each field in a table behind
 -- them.
 use Rattle.std.specs.Prelude.{Bool, List, [], ◌∷◌, ◌++◌, ℕ, zero, suc, ◌+◌, ◌-◌, ◌*◌, ◌%◌, ◌^◌, eqb, ltb, length, replicate, set}
-use Rattle.layout.specs.Result.{if◌then◌else◌}
+use Rattle.layout.specs.Result.{when◌then◌else◌}
 use Rattle.layout.specs.Types.{TypeRow, type_at}
 use Rattle.layout.specs.Lists.{NameList}
 use Rattle.layout.specs.Book.{Field, Data, Shape, Groups, none, more, Template, Book, group_sinces, need}
@@ -26,7 +26,7 @@ spread k = (2 ^ 64 + k.greatest - k.least) % 2 ^ 64
 
 -- The number whose bits are these, of which 64-bit numbers have those below 64.
 abbrev pub bit_of : ℕ → ℕ
-bit_of n = if ltb n 64 then 2 ^ n else 0
+bit_of n = when ltb n 64 then 2 ^ n else 0
 
 unfoldable pub mask_of : List ℕ → ℕ
 mask_of [] = 0
@@ -51,7 +51,7 @@ lists_size (l ∷ ls) = list_size l + lists_size ls
 unfoldable pub place_of : ℕ → List NameList → ℕ → ℕ
 place_of zero ls at = 0
 place_of (suc id) [] at = 0
-place_of (suc id) (l ∷ ls) at = if eqb l.id id then at else place_of (suc id) ls (at + list_size l)
+place_of (suc id) (l ∷ ls) at = when eqb l.id id then at else place_of (suc id) ls (at + list_size l)
 
 -- ---- blocks: ls are the book's lists, of which the first stands at `from`, and `big` is the order of its messages
 

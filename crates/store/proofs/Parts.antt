@@ -6,7 +6,7 @@ use Prim.Native.Nat.{ℕ, ◌+◌, ◌-◌, ◌≤◌, ◌<◌}
 use native.Mathlib.Omega.{arith}
 use lib.ListN.{length}
 use borrow.Author.Tests.{le-leb, lt-leb, leb-true}
-use Rattle.layout.specs.Result.{Result, done, refused, if◌then◌else◌, ◌>>=◌}
+use Rattle.layout.specs.Result.{Result, done, refused, when◌then◌else◌, ◌>>=◌}
 use Rattle.layout.specs.Octets.{number16}
 use Rattle.layout.specs.Book.{Data, Groups, group_sinces, more, none}
 use Rattle.layout.specs.BookRules.{parse_datas, parse_fields, word}
@@ -113,14 +113,14 @@ module _ (big : Bool) (m : List ℕ) (v : ℕ) (p : List ℕ) (surplus n d at : 
     all_datas = was_done _ _ _ r
 
     pub data_absent : v < word p (d + 1) → datas_print big m v (parse_datas p n d) surplus at ≡ data_then Absent at
-    unfolding datas_print printed and_then prepend records_of if◌then◌else◌
+    unfolding datas_print printed and_then prepend records_of when◌then◌else◌
     data_absent a =
         let absent = lt-leb (word p (d + 1)) v a in
         step _ _ _ (rw (datas_step big m v p surplus n d at h, absent, bind_done) at all_datas.is) λ z rest e.
         rw (all_datas.is ∙ sym e, rest) refl
 
     pub data_open : word p (d + 1) ≤ v → DataOpen
-    unfolding datas_print read_data printed and_then prepend records_of if◌then◌else◌
+    unfolding datas_print read_data printed and_then prepend records_of when◌then◌else◌
     data_open here =
         let present = le-leb (word p (d + 1)) v here in
         step _ _ _ (rw (datas_step big m v p surplus n d at h, present) at all_datas.is) λ x one next.
@@ -160,7 +160,7 @@ module _ (p : List ℕ) (depth a : ℕ) (m : List ℕ) (v : ℕ) (gs rest : Grou
 
     pub group_absent : v < since → groups_print p depth m v gs surplus at
         ≡ and_then (got at (record_of Absent)) (groups_print p depth m v rest surplus)
-    unfolding groups_print printed listing and_then prepend if◌then◌else◌
+    unfolding groups_print printed listing and_then prepend when◌then◌else◌
     group_absent h =
         let absent = lt-leb since v h in
         step _ _ _ (rw (row_step p m v depth surplus at gs _ _ _ _ _ is, absent, bind_done) at all_groups.is)
@@ -168,7 +168,7 @@ module _ (p : List ℕ) (depth a : ℕ) (m : List ℕ) (v : ℕ) (gs rest : Grou
 
     module _ (here : since ≤ v) where
       opens : (e : Entries) × GroupOpen e
-      unfolding groups_print entries_print printed listing and_then prepend if◌then◌else◌
+      unfolding groups_print entries_print printed listing and_then prepend when◌then◌else◌
       opens =
           let present = le-leb since v here in
           step _ _ _ (rw (row_step p m v depth surplus at gs _ _ _ _ _ is, present, group_read_lem) at all_groups.is)

@@ -7,7 +7,7 @@ use native.Mathlib.Nat.{add-zero}
 use native.Mathlib.Omega.{arith}
 use lib.ListN.{get_or, length, length-set, set}
 use lib.Seq.{get_or-set_other, get_or-set_same, set-set, sets}
-use Rattle.layout.specs.Result.{if◌then◌else◌}
+use Rattle.layout.specs.Result.{when◌then◌else◌}
 use Rattle.layout.specs.Lists.{Names, beside, has}
 use Rattle.layout.specs.Values.{record_of}
 use Rattle.layout.specs.declared.Answer.{Answer}
@@ -96,11 +96,11 @@ module _ {d : List ℕ} {n : ℕ} {a : Answer} {room : List ℕ} (s : Holds d n 
         go (Unlisted x) e = absurd (omega (arith, e))
 
     pub is_listed_lem : (l : Names) → has l (get_or room (n + 1) 0) ≡ true → a ≡ beside l a
-    unfolding beside if◌then◌else◌
+    unfolding beside when◌then◌else◌
     is_listed_lem l h = is_number_lem ∙ sym (ap (beside l) is_number_lem ∙ rw h refl)
 
     pub is_unlisted : (l : Names) → has l (get_or room (n + 1) 0) ≡ false → Unlisted (get_or room (n + 1) 0) ≡ beside l a
-    unfolding beside if◌then◌else◌
+    unfolding beside when◌then◌else◌
     is_unlisted l h = sym (ap (beside l) is_number_lem ∙ rw h refl)
 
   -- Another is stored over it.

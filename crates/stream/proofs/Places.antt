@@ -7,7 +7,7 @@ use native.Mathlib.Omega.{arith}
 use lib.Dec.{leb}
 use lib.ListN.{length}
 use borrow.Author.Tests.{le-leb, lt-leb}
-use Rattle.layout.specs.Result.{Result, ◌>>=◌, ◌and◌, done, if◌then◌else◌, must, refused}
+use Rattle.layout.specs.Result.{Result, ◌>>=◌, ◌and◌, done, when◌then◌else◌, must, refused}
 use Rattle.layout.specs.Book.{Book, Template}
 use Rattle.layout.specs.Operations.{checked, found, refusal}
 use Rattle.layout.specs.Message.{read_message, template_of}
@@ -63,13 +63,13 @@ module _ (b : Book) (m steps : List ℕ) (x : Element) where
 -- ---- whether the template has it
 
 -- A place that is unknown is not had.
-unknown_lacks : (t : Bool) (a : ℕ) → Located.Unknown ≡ (if t then Located.At a else Located.Unknown) → t ≡ false
-unfolding if◌then◌else◌
+unknown_lacks : (t : Bool) (a : ℕ) → Located.Unknown ≡ (when t then Located.At a else Located.Unknown) → t ≡ false
+unfolding when◌then◌else◌
 unknown_lacks true a e = absurd (let z : ◌≡◌ {A = ℕ} 0 1 = cc in omega arith)
 unknown_lacks false a e = refl
 
-known_has : (t : Bool) (a b : ℕ) → Located.At b ≡ (if t then Located.At a else Located.Unknown) → (t ≡ true) × (b ≡ a)
-unfolding if◌then◌else◌
+known_has : (t : Bool) (a b : ℕ) → Located.At b ≡ (when t then Located.At a else Located.Unknown) → (t ≡ true) × (b ≡ a)
+unfolding when◌then◌else◌
 known_has true a b e = (refl, cc)
 known_has false a b e = absurd (let z : ◌≡◌ {A = ℕ} 0 1 = cc in omega arith)
 

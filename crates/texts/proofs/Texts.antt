@@ -7,7 +7,7 @@ use lib.Dec.{eqb, ltb}
 use lib.ListN.{drop, get_or, length, take}
 use lib.Seq.{drop-cons}
 use borrow.Author.Tests.{eq-eqb, eqb-false, eqb-true, ltb-false, ltb-true, ne_eqb}
-use Rattle.layout.specs.Result.{if◌then◌else◌}
+use Rattle.layout.specs.Result.{when◌then◌else◌}
 use Rattle.layout.specs.Octets.{text_length}
 use Rattle.layout.proofs.Results.{each_way}
 use Rattle.texts.specs.Least.{least1, least16, least2, least32, least4, least8}
@@ -27,7 +27,7 @@ module _ (s : List ℕ) where
           rw (q, drop-cons s (start + i) 0 inside, r) refl
 
       pub text_here : get_or s (start + i) 0 ≡ 0 → left ≡ 0
-      unfolding text_length if◌then◌else◌
+      unfolding text_length when◌then◌else◌
       text_here e = rw (opened, e) refl
 
     pub text_end : n ≤ i → left ≡ 0
@@ -36,7 +36,7 @@ module _ (s : List ℕ) where
 
   pub text_next : (start n i : ℕ) → i < n → start + i < length s → (get_or s (start + i) 0 ≡ 0 → ⊥)
       → i + left start n i ≡ (i + 1) + left start n (i + 1)
-  unfolding text_length if◌then◌else◌
+  unfolding text_length when◌then◌else◌
   text_next start n i h inside e = rw (opened start n i h inside, ne_eqb (get_or s (start + i) 0) 0 e) (omega arith)
 
   -- All of them answer as what is left does.

@@ -6,7 +6,7 @@ use Prim.Native.Nat.{ℕ, ◌+◌, ◌-◌, ◌≤◌, ◌<◌}
 use native.Mathlib.Omega.{arith}
 use lib.Dec.{leb, ltb}
 use borrow.Author.Tests.{ltb-false, ltb-true}
-use Rattle.layout.specs.Result.{Result, done, if◌then◌else◌, ◌>>=◌}
+use Rattle.layout.specs.Result.{Result, done, when◌then◌else◌, ◌>>=◌}
 use Rattle.layout.specs.Book.{Data}
 use Rattle.layout.specs.BookRules.{parse_datas}
 use Rattle.layout.specs.Message.{in_row, read_data, read_datas, skip_datas}
@@ -90,7 +90,7 @@ module _ (big : Bool) (m : List ℕ) (v : ℕ) (p : List ℕ) (s : ℕ) where
       pub datas_over_refused : (own : Bool) → ltb s left ≡ own → (z : Refusal)
           → Refused z ≡ walked data_end (data_or own p a big m v at)
           → walked (datas_end seen) (datas_left left a at) ≡ Refused z
-      unfolding if◌then◌else◌
+      unfolding when◌then◌else◌
       datas_over_refused true t z e =
           let some-own : s < left = ltb-true s left t in
           datas_refused big m v p _ seen (left - s) a at (omega arith) z e
@@ -103,7 +103,7 @@ module _ (big : Bool) (m : List ℕ) (v : ℕ) (p : List ℕ) (s : ℕ) where
           → To x k ≡ walked data_end (data_or own p a big m v at)
           → walked (datas_end seen) (datas_left left a at)
           ≡ walked (datas_end (seen + (left - s - (left - 1 - s)))) (datas_left (left - 1) (a + 2) x)
-      unfolding if◌then◌else◌
+      unfolding when◌then◌else◌
       datas_over_next true t x k e =
           let some-own : s < left = ltb-true s left t in
           let one = one_own left s some-own in
@@ -125,5 +125,5 @@ module _ (big : Bool) (m : List ℕ) (n : ℕ) where
   unfolding read_datas in_row ◌>>=◌
   datas_surplus v [] at = refl
   datas_surplus v (d ∷ ds) at =
-      skip_first (skip_datas big m n) (if leb d.since v then read_data big m at else done (Absent, at)) (λ a. a.1)
+      skip_first (skip_datas big m n) (when leb d.since v then read_data big m at else done (Absent, at)) (λ a. a.1)
       (λ a rest. a.0 ∷ rest) (read_datas big m v ds n) (read_datas big m v ds 0) (λ x. datas_surplus v ds x)

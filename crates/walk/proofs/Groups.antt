@@ -4,7 +4,7 @@ use mathlib.Core.List.{List}
 use Prim.Native.Nat.{ℕ, ◌-◌, suc, zero}
 use native.Mathlib.Omega.{arith}
 use lib.Dec.{leb}
-use Rattle.layout.specs.Result.{Result, ◌>>=◌, done, if◌then◌else◌}
+use Rattle.layout.specs.Result.{Result, ◌>>=◌, done, when◌then◌else◌}
 use Rattle.layout.specs.Book.{Groups, Shape, group_sinces, more}
 use Rattle.layout.specs.Values.{Values, group, nil}
 use Rattle.layout.specs.Message.{inside, read_group, read_groups}
@@ -21,7 +21,7 @@ inside_less (suc depth) = omega arith
 module _ (p m : List ℕ) (v : ℕ) (s : Shape) (inner : Groups) (depth at since : ℕ) where
   abbrev pub group_is : Result (Answer × Values × ℕ)
   group_is =
-      if leb since v then read_group (is_counted p) (version_at p) (is_big p) m v s (group_sinces inner)
+      when leb since v then read_group (is_counted p) (version_at p) (is_big p) m v s (group_sinces inner)
       (groups_by p m v inner (depth - 1)) at else done (Absent, nil, at)
 
 pub row_step : (p m : List ℕ) (v depth n at : ℕ) (gs : Groups) (id since : ℕ) (s : Shape) (inner rest : Groups)

@@ -4,7 +4,7 @@ use mathlib.Core.List.{List}
 use Prim.Native.Nat.{ℕ, ◌+◌, ◌-◌, ◌≤◌, ◌<◌}
 use native.Mathlib.Omega.{arith}
 use borrow.Author.Tests.{le-leb, lt-leb}
-use Rattle.layout.specs.Result.{Result, done, if◌then◌else◌, ◌>>=◌}
+use Rattle.layout.specs.Result.{Result, done, when◌then◌else◌, ◌>>=◌}
 use Rattle.layout.specs.Book.{Groups, Shape, group_sinces, more, none}
 use Rattle.layout.specs.Values.{Values, group, measure}
 use Rattle.layout.specs.Message.{dimension_size, in_row, read_entries, read_groups, skip_group}
@@ -49,7 +49,7 @@ module _ (p m : List ℕ) (v seen depth surplus : ℕ) where
     pub row_absent : v < since
         → walked (values_end seen) (groups_by p m v gs depth surplus at)
         ≡ walked (values_end (seen + 1)) (groups_by p m v rest depth surplus at)
-    unfolding measure if◌then◌else◌ ◌>>=◌
+    unfolding measure when◌then◌else◌ ◌>>=◌
     row_absent h =
         rw (row_step p m v depth surplus at gs id since s inner rest is, lt-leb since v h)
         (told _ _ _ _ λ r. ap (λ (i : ℕ). (r.1, i)) (omega arith))
@@ -66,7 +66,7 @@ module _ (p m : List ℕ) (v seen depth surplus : ℕ) where
       row_is_lem : groups_by p m v gs depth surplus at
           ≡ (group_opens >>= λ e. entries_is e >>= λ r. groups_by p m v rest depth surplus r.1
           >>= λ q. done (group (Group e.count) r.0 q.0, q.1))
-      unfolding if◌then◌else◌
+      unfolding when◌then◌else◌
       row_is_lem =
           rw (
             row_step p m v depth surplus at gs id since s inner rest is,

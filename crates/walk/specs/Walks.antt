@@ -1,7 +1,7 @@
 -- What walking a part of a message by a prepared book comes to: the definition's answer at places of the book, and how
 -- far and how many it can be.
 use Rattle.std.specs.Prelude.{Bool, List, ℕ, ◌+◌, ◌*◌, ◌<◌, ◌≤◌, leb, length}
-use Rattle.layout.specs.Result.{Result, done, if◌then◌else◌}
+use Rattle.layout.specs.Result.{Result, done, when◌then◌else◌}
 use Rattle.layout.specs.BookRules.{word}
 use Rattle.layout.specs.Values.{Values, measure}
 use Rattle.layout.specs.Message.{Entry, read_block, read_data, read_entries, read_groups}
@@ -41,11 +41,11 @@ pub record Small (e : Entries) : Type 0 where
 
 -- The data whose numbers stand at a.
 abbrev pub data_at : List ℕ → ℕ → Bool → List ℕ → ℕ → ℕ → Result (Answer × ℕ)
-data_at p a big m v at = if leb (word p (a + 1)) v then read_data big m at else done (Absent, at)
+data_at p a big m v at = when leb (word p (a + 1)) v then read_data big m at else done (Absent, at)
 
 -- It, if it is the book's own, or a surplus one.
 abbrev pub data_or : Bool → List ℕ → ℕ → Bool → List ℕ → ℕ → ℕ → Result (Answer × ℕ)
-data_or own p a big m v at = if own then data_at p a big m v at else read_data big m at
+data_or own p a big m v at = when own then data_at p a big m v at else read_data big m at
 
 -- The n groups in a row at a, and then surplus ones.
 abbrev pub row_at : List ℕ → ℕ → ℕ → ℕ → List ℕ → ℕ → ℕ → ℕ → Result (Values × ℕ)

@@ -8,7 +8,7 @@ use native.Mathlib.Numerals.{add-one}
 use native.Mathlib.Omega.{arith}
 use lib.ListN.{length}
 use lib.Seq.{length-sets, sets}
-use Rattle.layout.specs.Result.{Result, done, if◌then◌else◌, ◌and◌, ◌>>=◌}
+use Rattle.layout.specs.Result.{Result, done, when◌then◌else◌, ◌and◌, ◌>>=◌}
 use Rattle.layout.specs.Octets.{octets_of}
 use Rattle.layout.specs.Book.{Book, Data, Field, Groups, Shape, Template, end, more, none}
 use Rattle.layout.specs.Values.{Values, entry, nil}
@@ -92,7 +92,7 @@ module _ (counted big : Bool) (l pool : List ℕ) where
 
   groups_are : (s : Shape) (gs : Groups) (i : ℕ) (r : Values × ℕ) → judge_groups l pool gs i ≡ done r
       → groups_part counted big l pool gs i ≡ got r.1 (row_octets counted big pool s gs r.0)
-  unfolding judge_groups groups_part and_then prepend row_octets entries_in if◌then◌else◌ ◌and◌
+  unfolding judge_groups groups_part and_then prepend row_octets entries_in when◌then◌else◌ ◌and◌
   groups_are s none i r is = rw (← (done_inj is)) refl
   groups_are s (more id since sh inner rest) i r is =
       passed _ _ _ _ _ is λ a one. passed _ _ _ _ _ one λ b two.

@@ -11,7 +11,7 @@ use lib.ListN.{drop, length, length-append, replicate, take}
 use lib.Seq.{length-sets, sets}
 use borrow.Rule.Slice.PartMut.{put_mid}
 use borrow.Author.Tests.{eqb-false, eqb-true, le-ltb, leb-true, lt-ltb, ne_eqb}
-use Rattle.layout.specs.Result.{done, if◌then◌else◌, ◌and◌}
+use Rattle.layout.specs.Result.{done, when◌then◌else◌, ◌and◌}
 use Rattle.layout.specs.Octets.{null16, octets_of}
 use Rattle.layout.specs.Types.{type_at}
 use Rattle.layout.specs.Book.{Field, Groups, Shape, end, is_array, more, size}
@@ -59,7 +59,7 @@ module _ (l pool : List ℕ) (i : ℕ) where
   octets_are s = record { there = there_is l i _ s.kind; within = s.within; octets = λ big. rw (← s.is) refl }
 
   array_is : (f : Field) (a : Answer) → is_array f ≡ true → ArraySaid l pool f i a → ArrayIs f a
-  unfolding field_octets if◌then◌else◌
+  unfolding field_octets when◌then◌else◌
   array_is f a y (null c n o e) =
       let unused = and_right _ _ (and_right _ _ n) in
       let start = eqb-true (second l i) 0 (and_left _ _ unused) in
@@ -122,7 +122,7 @@ module _ (big : Bool) (l pool : List ℕ) (f : Field) (i k : ℕ) (r : Room (val
   -- A number, or the type's null x.
   pub number_open : f.length ≤ 1 → (n x : ℕ) → n ≡ (type_at f.type).width → x ≡ (type_at f.type).null
       → ValueOpen (octets_of big n (number_or l i x)) n
-  unfolding if◌then◌else◌ field_octets
+  unfolding when◌then◌else◌ field_octets
   number_open h n x is e =
       let single = le-ltb 1 f.length h in
       let said = number_said l pool f i _ single value_done.is in
@@ -292,10 +292,10 @@ module _ (counted big : Bool) (l pool : List ℕ) where
 
     pub group_open : {id since : ℕ} → gs ≡ more id since s inner rest → Accepted (groups_part counted big l pool gs i)
         → GroupOpen
-    unfolding groups_part if◌then◌else◌ end_of numbers_of
+    unfolding groups_part when◌then◌else◌ end_of numbers_of
     group_open is r = go (is_group l i and ltb (second l i) null16) refl (rw is at r)
       where
-        go : (b : Bool) → (is_group l i and ltb (second l i) null16) ≡ b → Accepted (if b then group_then else not)
+        go : (b : Bool) → (is_group l i and ltb (second l i) null16) ≡ b → Accepted (when b then group_then else not)
             → GroupOpen
         go true q h = record { there = there_is l i _ (and_left _ _ q); same = rw (is, q) refl }
         go false q h = absurd (let z : ◌≡◌ {A = ℕ} 0 1 = cc h in omega arith)

@@ -1,7 +1,7 @@
 -- What each part of a listing that was judged good writes: its octets, and the record after it. l is the listing, and
 -- `big` the order of the message's numbers.
 use Rattle.std.specs.Prelude.{Bool, List, [], ◌++◌, ◌∷◌, ℕ, zero, suc, ◌+◌, ◌-◌, eqb, ltb, length, replicate}
-use Rattle.layout.specs.Result.{◌and◌, if◌then◌else◌}
+use Rattle.layout.specs.Result.{◌and◌, when◌then◌else◌}
 use Rattle.layout.specs.Octets.{null16, octets_of}
 use Rattle.layout.specs.Book.{Book, Field, Groups, Shape, Template, end, more, none}
 use Rattle.layout.specs.Writing.{dimension_of, field_octets, first, is_group, judge_data, judge_field, judge_listing}
@@ -11,7 +11,7 @@ use Rattle.prints.specs.Prints.{Printed, and_then, got, not, prepend, printed}
 
 -- The number of record i, or x where it is null.
 abbrev pub number_or : List ℕ → ℕ → ℕ → ℕ
-number_or l i x = if eqb (first l i) 0 then second l i else x
+number_or l i x = when eqb (first l i) 0 then second l i else x
 
 module _ (big : Bool) (l pool : List ℕ) where
   -- A field from record i.
@@ -44,7 +44,7 @@ module _ (counted big : Bool) (l pool : List ℕ) where
   unfoldable pub groups_part : Groups → ℕ → Printed
   groups_part none i = got i []
   groups_part (more id since s inner rest) i =
-      if is_group l i and ltb (second l i) null16
+      when is_group l i and ltb (second l i) null16
       then and_then (got (i + 1) (numbers16 big (dimension_of counted s inner (second l i))))
       (λ j. and_then (entries_part big l pool s (groups_part inner) (second l i) j) (groups_part rest)) else not
 

@@ -2,7 +2,6 @@
 -- left.
 use mathlib.Core.Path.{◌≡◌}
 use Prim.Native.Nat.{◌≤◌, ◌/◌}
-use borrow.Author.Rules.{rules}
 use lib.ListN.{length}
 use Rattle.layout.specs.Octets.{words_of}
 use Rattle.layout.specs.BookRules.{lists_of, parse_groups}
@@ -14,8 +13,8 @@ use Rattle.book.proofs.+check_groups.Given as goal
 abbrev pub decreases-check_groups : goal.decreases-check_groups
 decreases-check_groups l = l.depth
 
-abbrev pub invariant-check_groups-loop-left : goal.invariant-check_groups-loop-left
-invariant-check_groups-loop-left l =
+abbrev pub invariant-loop-left : goal.invariant-loop-left
+invariant-loop-left l =
     let ls = lists_of (words_of l.book) in
     let b = words_of l.body in
     let rowFrom = row_of (counted_in l.book) l.version in
@@ -23,6 +22,6 @@ invariant-check_groups-loop-left l =
     × (rowFrom l.low l.high (parse_groups ls b l.depth l.n l.from)
     ≡ after l.rules (rowFrom l.least l.high (parse_groups ls b l.depth l.left l.w)))
 
-abbrev pub decreases-check_groups-loop-left : goal.decreases-check_groups-loop-left
-decreases-check_groups-loop-left l =
+abbrev pub decreases-loop-left : goal.decreases-loop-left
+decreases-loop-left l =
     l.left

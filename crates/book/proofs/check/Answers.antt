@@ -17,7 +17,7 @@ check_contents-requires c =
 pub check_bodies-requires : goal.check_bodies-requires
 check_bodies-requires c =
     record {
-      (goal.at.check_bodies-requires c).Then-head_good = record { good = sym c.head_good.ensures ∙ c.if-head_good.true };
+      head = record { good = sym c.head_good.ensures ∙ c.if-head_good.true };
       kept = contents_kept _ (sym c.in_default.is ∙ c.check_contents.ensures);
     }
 

@@ -17,17 +17,12 @@ there : (c : After-counts_good) → let a = c.args in
 there c =
     omega (arith, length_words c.args.body.now)
 
-counts : (c : tie.After-counts-good) (t : Bool) → c.counts-good.result ≡ t
-    → let a = c.before.before.before.before.before.before.before.args in
+counts : (c : After-counts_good) (t : Bool) → c.counts_good.result ≡ t → let a = c.args in
     counts_good (lists_of (words_of a.book.now)) (words_of a.body.now) a.few a.w a.version a.low
     a.high a.top ≡ t
 counts c t e =
-    rw (
-      c.before.word3.ensures.value,
-      c.before.before.word2.ensures.value,
-      c.before.before.before.word.ensures.value,
-    )
-    at (sym c.counts-good.ensures ∙ e)
+    rw (c.word-d.ensures.value, c.word-g.ensures.value, c.word-f.ensures.value)
+    at (sym c.counts_good.ensures ∙ e)
 
 pub returns-then-size-w : goal.returns-then-size-w
 returns-then-size-w c =

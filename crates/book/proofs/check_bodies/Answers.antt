@@ -35,11 +35,11 @@ says c =
 
 pub word-version-requires : goal.word-version-requires
 word-version-requires c =
-    omega (arith, ((head_says _ c.requires.head)).fits)
+    omega (arith, (head_says _ c.requires.head).fits)
 
 pub word-left-requires : goal.word-left-requires
 word-left-requires c =
-    omega (arith, ((head_says _ c.requires.head)).fits)
+    omega (arith, (head_says _ c.requires.head).fits)
 
 pub loop-left-init : goal.loop-left-init
 loop-left-init c =
@@ -47,7 +47,7 @@ loop-left-init c =
 
 pub word-start-requires : goal.word-start-requires
 word-start-requires c =
-    omega (arith, ((head_says _ c.requires.head)).fits)
+    omega (arith, (head_says _ c.requires.head).fits)
 
 pub overflow_mul-start : goal.overflow_mul-start
 overflow_mul-start c =
@@ -55,7 +55,7 @@ overflow_mul-start c =
 
 pub word-requires : goal.word-requires
 word-requires c =
-    omega (arith, ((head_says _ c.requires.head)).fits)
+    omega (arith, (head_says _ c.requires.head).fits)
 
 pub overflow_mul-end : goal.overflow_mul-end
 overflow_mul-end c =
@@ -87,7 +87,7 @@ loop-left-preserved c =
       omega arith,
       omega arith,
       inv.2 ∙ ap (λ (x : Result (Unit {0})). checked x)
-          (bodies_next _ _ _ _ _ _ _ _ _ _ _ c.loop-left-test.true (omega (arith, ((head_says _ c.requires.head)).few)) _ _
+          (bodies_next _ _ _ _ _ _ _ _ _ _ _ c.loop-left-test.true (omega (arith, (head_says _ c.requires.head).few)) _ _
           (sym c.in-Whole.is ∙ says (goal.at.loop-left-preserved c).After-check_body-body))
           ∙ rw (c.first_of-seven.ensures, c.first_of-six.ensures, c.first_of-five.ensures) refl,
     )

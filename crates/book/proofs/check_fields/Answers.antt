@@ -9,12 +9,11 @@ loop-left-init c =
     (c.requires.1, sym (rules_start _))
 
 pub loop-left-preserved : goal.loop-left-preserved
-loop-left-preserved c =
-    (
-      omega arith,
-      c.loop-left.invariant.1 ∙ fields_more _ _ _ _ _ _ _ _ _ _ c.loop-left-test.true
-          ∙ rw (c.all_rules-rules.ensures, c.check_field-field.ensures) refl,
-    )
+loop-left-preserved c = (
+  omega arith,
+  c.loop-left.invariant.1 ∙ fields_more _ _ _ _ _ _ _ _ _ _ c.loop-left-test.true
+      ∙ rw (c.all_rules-rules.ensures, c.check_field-field.ensures) refl,
+)
 
 pub returns : goal.returns
 returns c =

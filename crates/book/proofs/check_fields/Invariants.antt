@@ -1,7 +1,6 @@
 -- What is left of the fields answers, with the rules so far, as all of them do.
 use mathlib.Core.Path.{◌≡◌}
 use Prim.Native.Nat.{◌+◌, ◌*◌, ◌/◌, ◌≤◌}
-use borrow.Author.Rules.{rules}
 use lib.ListN.{length}
 use Rattle.layout.specs.Octets.{words_of}
 use Rattle.layout.specs.BookRules.{lists_of, parse_fields}

@@ -3,7 +3,7 @@ use mathlib.Core.Path.{◌≡◌, sym, ◌∙◌, refl}
 use Prim.Native.Nat.{◌+◌, ◌-◌, ◌*◌}
 use native.Mathlib.Omega.{arith}
 use Rattle.layout.specs.Octets.{words_of}
-use Rattle.layout.specs.BookRules.{head_size, list_good, word}
+use Rattle.layout.specs.BookRules.{head_size, word}
 use Rattle.layout.specs.Operations.{checked}
 use Rattle.book.proofs.Rows.{head_says, list_lies}
 use Rattle.book.proofs.NameLists.{lists_bad, lists_end, lists_next}
@@ -11,11 +11,11 @@ use Rattle.book.proofs.check_lists.Goals as goal
 
 pub word-place-requires : goal.word-place-requires
 word-place-requires c =
-    omega (arith, ((head_says _ c.requires.head)).fits)
+    omega (arith, (head_says _ c.requires.head).fits)
 
 pub word-left-requires : goal.word-left-requires
 word-left-requires c =
-    omega (arith, ((head_says _ c.requires.head)).fits)
+    omega (arith, (head_says _ c.requires.head).fits)
 
 pub loop-left-init : goal.loop-left-init
 loop-left-init c =
@@ -29,7 +29,7 @@ list_good-requires c =
 
 pub overflow_add-w-then-list_good : goal.overflow_add-w-then-list_good
 overflow_add-w-then-list_good c =
-    omega (arith, ((head_says _ c.requires.head)).fits)
+    omega (arith, (head_says _ c.requires.head).fits)
 
 pub loop-left-preserved : goal.loop-left-preserved
 loop-left-preserved c =

@@ -1,7 +1,7 @@
 -- What is left of the lists answers as all of them do.
 use mathlib.Core.Path.{◌≡◌}
 use mathlib.Core.List.{map}
-use Prim.Native.Nat.{◌+◌, ◌-◌, ◌*◌, ◌≤◌}
+use Prim.Native.Nat.{◌+◌, ◌*◌, ◌≤◌}
 use Rattle.layout.specs.Octets.{words_of}
 use Rattle.layout.specs.BookRules.{each_must, head_size, list_good, lists_of, name_list_of, parse_contents, word}
 use Rattle.book.proofs.check_lists.Given as goal

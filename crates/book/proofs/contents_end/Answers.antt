@@ -32,9 +32,9 @@ unfolding end_of EndsLow
 returns-else-row_good c =
     let e = rw (c.word.ensures.value, c.word-id.ensures.value) at
     (sym c.row_good.ensures ∙ c.if-row_good.false) in
-    record { value = rw (c.loop-left.invariant.2 ∙ contents_bad _ _ _ _ _ c.loop-left-test.true e) refl;  ends_low = tt }
+    record { value = rw (c.loop-left.invariant.2 ∙ contents_bad _ _ _ _ _ c.loop-left-test.true e) refl; ends_low = tt }
 
 pub returns : goal.returns
 unfolding end_of EndsLow
 returns c =
-    record { value = rw (c.loop-left.invariant.2 ∙ contents_stop _ _ _ _ _ (omega arith)) refl;  ends_low = c.loop-left.invariant.1 }
+    record { value = rw (c.loop-left.invariant.2 ∙ contents_stop _ _ _ _ _ (omega arith)) refl; ends_low = c.loop-left.invariant.1 }

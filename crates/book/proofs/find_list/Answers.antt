@@ -1,6 +1,6 @@
 -- A row that has the number lies from `low` up to `high`: numbers rise along the rows.
 use mathlib.Core.Path.{◌≡◌, sym, ◌∙◌, ap}
-use Prim.Native.Nat.{◌+◌, ◌-◌, ◌/◌}
+use Prim.Native.Nat.{◌+◌, ◌/◌}
 use native.Mathlib.Omega.{arith}
 use Rattle.layout.specs.Octets.{words_of}
 use Rattle.layout.specs.BookRules.{word}
@@ -18,11 +18,11 @@ here c =
 
 pub word-requires : goal.word-requires
 word-requires c =
-    omega (arith, ((head_says _ c.requires.head)).fits)
+    omega (arith, (head_says _ c.requires.head).fits)
 
 pub word-high-requires : goal.word-high-requires
 word-high-requires c =
-    omega (arith, ((head_says _ c.requires.head)).fits)
+    omega (arith, (head_says _ c.requires.head).fits)
 
 pub loop-low-init : goal.loop-low-init
 loop-low-init c =
@@ -30,7 +30,7 @@ loop-low-init c =
 
 pub word-here-requires : goal.word-here-requires
 word-here-requires c =
-    omega (arith, ((head_says _ c.requires.head)).fits)
+    omega (arith, (head_says _ c.requires.head).fits)
 
 pub returns-then-here-id : goal.returns-then-here-id
 returns-then-here-id c =

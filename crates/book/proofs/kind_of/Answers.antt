@@ -1,7 +1,6 @@
 -- The first word of the body, or 0 where it has none.
 use mathlib.Core.Path.{sym, ◌∙◌}
 use Rattle.layout.specs.Octets.{words_of}
-use Rattle.layout.specs.BookRules.{word}
 use Rattle.book.proofs.NameLists.{kind_is, no_kind}
 use Rattle.book.proofs.kind_of.Goals as goal
 

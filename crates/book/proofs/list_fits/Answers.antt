@@ -3,13 +3,13 @@ use mathlib.Core.Path.{sym, ◌∙◌, refl}
 use Prim.Native.Nat.{◌≤◌}
 use native.Mathlib.Omega.{arith}
 use borrow.Author.Tests.{eq-eqb, ne_eqb}
-use Rattle.layout.specs.Result.{if◌then◌else◌}
+use Rattle.layout.specs.Result.{when◌then◌else◌}
 use Rattle.layout.proofs.TypeLaws.{width_few}
 use Rattle.book.specs.Rows.{list_fits}
 use Rattle.book.proofs.list_fits.Goals as goal
 
 pub returns-then-kind_of-eq0 : goal.returns-then-kind_of-eq0
-unfolding list_fits if◌then◌else◌
+unfolding list_fits when◌then◌else◌
 returns-then-kind_of-eq0 c =
     let kind = sym c.kind_of.ensures ∙ c.if-kind_of-eq0.true in
     c.takes_values.ensures ∙ rw (eq-eqb _ _ kind) refl
@@ -20,7 +20,7 @@ overflow_mul-width_of c =
     omega arith
 
 pub returns : goal.returns
-unfolding list_fits if◌then◌else◌
+unfolding list_fits when◌then◌else◌
 returns c =
     let kind = rw c.kind_of.ensures at c.if-kind_of-eq0.false in
     rw (

@@ -1,6 +1,6 @@
 -- The last word of the field leads to no list, to a missing one, or to the list whose row is found.
 use mathlib.Core.Path.{◌≡◌, sym, ◌∙◌, refl}
-use Prim.Native.Nat.{suc, ◌*◌, ◌+◌, ◌-◌, ◌/◌, ◌≤◌}
+use Prim.Native.Nat.{suc, ◌*◌, ◌+◌, ◌-◌, ◌/◌, ◌≤◌, ℕ}
 use native.Mathlib.Omega.{arith}
 use lib.ListN.{length}
 use Rattle.layout.specs.Lists.{find_names, names_of}
@@ -10,13 +10,11 @@ use Rattle.book.specs.Rows.{list_at}
 use Rattle.book.proofs.Rows.{Listed, head_says, list_lies, list_row, listed_at, not_listed}
 use Rattle.book.proofs.NameLists.{names_array, names_fit, names_free, names_missing}
 use Rattle.book.proofs.names_good.Goals as goal
-use Rattle.book.proofs.names_good.Goals.{After-find_list, After-word, After-word-2}
+use Rattle.book.proofs.names_good.Goals.{After-word, After-word-2}
 
 -- What the search found is what the field's last word leads to.
-list_is : (c : After-find_list) → let a = c.args in
-    suc (c.word-list.result - 1) ≡ word (words_of a.body.now) (a.w + 6)
-list_is c =
-    omega (arith, c.word-list.ensures.value)
+list_is : (r x : ℕ) → (r ≡ 0 → ⊥) → r ≡ x → suc (r - 1) ≡ x
+list_is r x h e = omega arith
 
 found : (c : After-word) → let a = c.args in
     Listed (words_of a.book.now) (c.word-list.result - 1) c.in-At.i
@@ -29,7 +27,7 @@ names_are : (c : After-word) → let a = c.args in
     find_names (word (words_of a.body.now) (a.w + 6)) (lists_of b)
     ≡ names_of (list_at b (list_row b c.in-At.i))
 names_are c =
-    rw ((let it : let a = c.args in suc (c.word-list.result - 1) ≡ word (words_of a.body.now) (a.w + 6) = omega (arith, c.word-list.ensures.value) in it)) at ((listed_at _ _ _ (sym c.find_list.ensures ∙ c.in-At.is))).names
+    rw (list_is _ _ c.if-list-eq0.false c.word-list.ensures.value) at (found c).names
 
 -- The row lies in the book.
 small : (c : After-word-2) → let a = c.args in
@@ -37,8 +35,8 @@ small : (c : After-word-2) → let a = c.args in
 small c =
     omega (
       arith,
-      ((listed_at _ _ _ (sym c.find_list.ensures ∙ c.in-At.is))).below,
-      ((head_says _ c.requires.0.head)).fits,
+      (listed_at _ _ _ (sym c.find_list.ensures ∙ c.in-At.is)).below,
+      (head_says _ c.requires.0.head).fits,
     )
 
 pub returns-then-list-eq0 : goal.returns-then-list-eq0
@@ -53,7 +51,7 @@ returns-in_default c =
     let a = c.args in
     let e = not_listed (words_of a.book.now) _ (sym c.find_list.ensures ∙ c.in_default.is) in
     sym (names_missing (field_at (lists_of (words_of a.book.now)) (words_of a.body.now) a.w)
-    (rw (list_is (goal.at.returns-in_default c).After-find_list) at e))
+    (rw (list_is _ _ c.if-list-eq0.false c.word-list.ensures.value) at e))
 
 pub returns-then-word-gt1 : goal.returns-then-word-gt1
 returns-then-word-gt1 c =
@@ -65,7 +63,7 @@ returns-then-word-gt1 c =
 
 pub word-requires-2 : goal.word-requires-2
 word-requires-2 c =
-    omega (arith, ((head_says _ c.requires.0.head)).fits)
+    omega (arith, (head_says _ c.requires.0.head).fits)
 
 pub overflow_add-word : goal.overflow_add-word
 overflow_add-word c =

@@ -1,5 +1,6 @@
 -- The keys are the numbers that the definition names.
 use mathlib.Core.Path.{sym}
+use borrow.Author.Rules.{rules}
 use Rattle.book.proofs.NameLists.{key_is, key_is_not}
 use Rattle.book.proofs.takes_bits.Goals as goal
 
@@ -9,4 +10,4 @@ returns-in-2 c =
 
 pub returns-in_default : goal.returns-in_default
 returns-in_default c =
-    sym (key_is_not _ _ _ c.in_default.rest.1)
+    sym (key_is_not _ _ _ (search rules))

@@ -1,43 +1,27 @@
 -- Each return is the definition's case by the tests that led there.
-use borrow.Author.Rules.{rules}
 use borrow.Author.Tests.{lt-ltb, le-ltb}
-use Rattle.layout.specs.Result.{◌>>=◌, if◌then◌else◌}
+use Rattle.layout.specs.Result.{◌>>=◌, when◌then◌else◌}
 use Rattle.layout.specs.Operations.{checked}
 use Rattle.book.specs.Answers.{seen_or, verdict_of}
 use Rattle.book.proofs.verdict.Goals as goal
 
-pub refuse-requires : goal.refuse-requires
-unfolding verdict_of seen_or if◌then◌else◌ checked ◌>>=◌
-refuse-requires c =
-    search rules
-
 pub returns-then-five-lt-NO_TEMPLATE : goal.returns-then-five-lt-NO_TEMPLATE
-unfolding verdict_of seen_or if◌then◌else◌ checked ◌>>=◌
+unfolding verdict_of seen_or when◌then◌else◌ checked ◌>>=◌
 returns-then-five-lt-NO_TEMPLATE c =
     simp (lt-ltb _ _ c.if-five-lt-NO_TEMPLATE.true) c.refuse.ensures
 
-pub refuse-requires-then-six-lt-NO_TEMPLATE : goal.refuse-requires-then-six-lt-NO_TEMPLATE
-unfolding verdict_of seen_or if◌then◌else◌ checked ◌>>=◌
-refuse-requires-then-six-lt-NO_TEMPLATE c =
-    search rules
-
 pub returns-then-six-lt-NO_TEMPLATE : goal.returns-then-six-lt-NO_TEMPLATE
-unfolding verdict_of seen_or if◌then◌else◌ checked ◌>>=◌
+unfolding verdict_of seen_or when◌then◌else◌ checked ◌>>=◌
 returns-then-six-lt-NO_TEMPLATE c =
     simp (le-ltb _ _ c.if-five-lt-NO_TEMPLATE.false, lt-ltb _ _ c.if-six-lt-NO_TEMPLATE.true) c.refuse-then-six-lt-NO_TEMPLATE.ensures
 
-pub refuse-requires-then-seven-lt-NO_TEMPLATE : goal.refuse-requires-then-seven-lt-NO_TEMPLATE
-unfolding verdict_of seen_or if◌then◌else◌ checked ◌>>=◌
-refuse-requires-then-seven-lt-NO_TEMPLATE c =
-    search rules
-
 pub returns-then-seven-lt-NO_TEMPLATE : goal.returns-then-seven-lt-NO_TEMPLATE
-unfolding verdict_of seen_or if◌then◌else◌ checked ◌>>=◌
+unfolding verdict_of seen_or when◌then◌else◌ checked ◌>>=◌
 returns-then-seven-lt-NO_TEMPLATE c =
     simp (le-ltb _ _ c.if-five-lt-NO_TEMPLATE.false, le-ltb _ _ c.if-six-lt-NO_TEMPLATE.false, lt-ltb _ _ c.if-seven-lt-NO_TEMPLATE.true)
     c.refuse-then-seven-lt-NO_TEMPLATE.ensures
 
 pub returns : goal.returns
-unfolding verdict_of seen_or if◌then◌else◌ checked ◌>>=◌
+unfolding verdict_of seen_or when◌then◌else◌ checked ◌>>=◌
 returns c =
     simp (le-ltb _ _ c.if-five-lt-NO_TEMPLATE.false, le-ltb _ _ c.if-six-lt-NO_TEMPLATE.false, le-ltb _ _ c.if-seven-lt-NO_TEMPLATE.false)

@@ -1,8 +1,7 @@
 -- It was accepted, so that the tests would find nothing.
 use mathlib.Core.Path.{◌∙◌, refl, sym}
 use native.Mathlib.Omega.{arith}
-use borrow.Author.Tests.{not-false}
-use Rattle.layout.specs.Result.{if◌then◌else◌}
+use Rattle.layout.specs.Result.{when◌then◌else◌}
 use Rattle.counts.proofs.Groups.{counts_own, group_good, still_open}
 use Rattle.counts.proofs.entries_of.Goals as goal
 
@@ -24,7 +23,7 @@ surplus_at-surplus-requires c =
     (pre.0, pre.1, rw counted at (group_good _ _ _ _ _ _ _ _ _ pre.2.is).fits)
 
 pub returns-then-not-has_own : goal.returns-then-not-has_own
-unfolding if◌then◌else◌
+unfolding when◌then◌else◌
 returns-then-not-has_own c =
     let big = c.is_big.ensures in
     let pre = c.requires in
@@ -33,17 +32,17 @@ returns-then-not-has_own c =
     (rw big at c.sizes_at-sizes.ensures.1.value) (rw counted c.surplus_at-surplus.ensures)
 
 pub returns-else-not-has_own : goal.returns-else-not-has_own
-unfolding if◌then◌else◌
+unfolding when◌then◌else◌
 returns-else-not-has_own c =
     let big = c.is_big.ensures in
     let pre = c.requires in
     let counted = sym c.is_counted.ensures ∙ c.if-is_counted.true in
     still_open _ _ _ _ _ _ _ _ _ pre.2.is _ _ _ (rw big at c.sizes_at-sizes.ensures.0.value)
     (rw big at c.sizes_at-sizes.ensures.1.value)
-    (rw counted (sym (counts_own pre.0 (c.has_own.ensures (not-false _ c.if-not-has_own.false)))))
+    (rw counted (sym (counts_own pre.0 (c.has_own.ensures c.if-not-has_own.false))))
 
 pub returns-else-is_counted : goal.returns-else-is_counted
-unfolding if◌then◌else◌
+unfolding when◌then◌else◌
 returns-else-is_counted c =
     let big = c.is_big.ensures in
     let pre = c.requires in

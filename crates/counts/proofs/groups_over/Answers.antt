@@ -3,7 +3,7 @@ use mathlib.Core.Path.{◌∙◌, sym}
 use native.Mathlib.Nat.{le_of_lt}
 use native.Mathlib.Omega.{arith}
 use borrow.Author.Tests.{eqb-true}
-use Rattle.prepared.proofs.Open.{groups_here as groups-present, length_row}
+use Rattle.prepared.proofs.Open.{groups_here as groups_present, length_row}
 use Rattle.counts.proofs.Counts.{over_known, over_newer}
 use Rattle.counts.proofs.groups_over.Goals as goal
 
@@ -11,7 +11,7 @@ pub returns-then-number-v : goal.returns-then-number-v
 returns-then-number-v c =
     let newer = rw c.number.ensures at c.if-number-v.true in
     let row = c.requires.row in
-    let all = groups-present _ _ _ _ _ (le_of_lt newer) row in
+    let all = groups_present _ _ _ _ _ (le_of_lt newer) row in
     c.over.ensures
     ∙ sym (over_newer _ _ _ _ _ newer (c.groups_here-here.ensures ∙ all ∙ sym (length_row _ _ _ _ row))
     (sym c.groups_here-here.ensures))

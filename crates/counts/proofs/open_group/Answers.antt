@@ -1,7 +1,6 @@
 -- What each test finds is the definition's answer.
 use mathlib.Core.Path.{◌∙◌, sym}
 use native.Mathlib.Omega.{arith}
-use borrow.Author.Tests.{not-false, not-true}
 use Rattle.counts.proofs.Groups.{is_open, is_refused, no_room, not_whole}
 use Rattle.counts.proofs.open_group.Goals as goal
 
@@ -16,7 +15,7 @@ returns-then-not-are_whole c =
     c.refuse-then-not-are_whole.ensures
     ∙ sym (not_whole _ _ _ _ _ _ _ _ (omega (arith, c.dimension_size.ensures, c.if-t-at.false)) _ _
     (rw big at c.sizes_at-sizes.ensures.0.value) (rw big at c.sizes_at-sizes.ensures.1.value)
-    (sym c.are_whole.ensures ∙ not-true _ c.if-not-are_whole.true))
+    (sym c.are_whole.ensures ∙ c.if-not-are_whole.true))
 
 pub returns-then-fault-gt0 : goal.returns-then-fault-gt0
 returns-then-fault-gt0 c =
@@ -24,7 +23,7 @@ returns-then-fault-gt0 c =
     c.refuse-then-fault-gt0.ensures
     ∙ sym (is_refused _ _ _ _ _ _ _ _ (omega (arith, c.dimension_size.ensures, c.if-t-at.false)) _ _
     (rw big at c.sizes_at-sizes.ensures.0.value) (rw big at c.sizes_at-sizes.ensures.1.value)
-    (sym c.are_whole.ensures ∙ not-false _ c.if-not-are_whole.false) _ c.surplus_in-surplus.ensures _
+    (sym c.are_whole.ensures ∙ c.if-not-are_whole.false) _ c.surplus_in-surplus.ensures _
     (rw c.requires.3 at c.fault_in-fault.ensures) c.if-fault-gt0.true)
 
 pub returns : goal.returns
@@ -32,5 +31,5 @@ returns c =
     let big = c.is_big.ensures in
     sym (is_open _ _ _ _ _ _ _ _ (omega (arith, c.dimension_size.ensures, c.if-t-at.false)) _ _
     (rw big at c.sizes_at-sizes.ensures.0.value) (rw big at c.sizes_at-sizes.ensures.1.value)
-    (sym c.are_whole.ensures ∙ not-false _ c.if-not-are_whole.false) _ c.surplus_in-surplus.ensures _
+    (sym c.are_whole.ensures ∙ c.if-not-are_whole.false) _ c.surplus_in-surplus.ensures _
     (rw c.requires.3 at c.fault_in-fault.ensures) c.if-fault-gt0.false)

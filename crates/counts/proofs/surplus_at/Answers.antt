@@ -3,7 +3,6 @@ use mathlib.Core.Path.{◌∙◌, sym, refl}
 use mathlib.Core.Bool.{false, true}
 use Prim.Native.Nat.{◌<◌}
 use native.Mathlib.Omega.{arith}
-use borrow.Author.Tests.{not-false, not-true}
 use Rattle.counts.specs.declared.Surplus.TheVariants.{Is, Wrong}
 use Rattle.counts.proofs.Counts.{over_most}
 use Rattle.counts.proofs.Groups.{code_by, counts_told}
@@ -14,8 +13,8 @@ use Rattle.counts.proofs.surplus_at.Goals.{In-Is-datas_over}
 few : (c : In-Is-datas_over) → (c.in-Is.groups < 65536) × (c.in-Is-datas_over.datas < 65536)
 few c =
     let sizes = c.sizes_at-counts.ensures in
-    let x = over_most _ _ _ _ _ (sym c.in-Is.is ∙ c.groups_over.ensures) in
-    let y = over_most _ _ _ _ _ (sym c.in-Is-datas_over.is ∙ c.datas_over.ensures) in
+    let x = over_most _ _ _ _ _ c.in-Is.ensures in
+    let y = over_most _ _ _ _ _ c.in-Is-datas_over.ensures in
     (omega (arith, sizes.0.small, x), omega (arith, sizes.1.small, y))
 
 pub returns-then-not-are_whole : goal.returns-then-not-are_whole
@@ -24,7 +23,7 @@ returns-then-not-are_whole c =
     let sizes = c.sizes_at-counts.ensures in
     let big = c.is_big.ensures in
     sym (counts_told _ _ _ _ _ _ _ _ _ _ (rw big at sizes.0.value) (rw big at sizes.1.value) false _ _
-    (sym c.are_whole.ensures ∙ not-true _ c.if-not-are_whole.true) refl refl)
+    (sym c.are_whole.ensures ∙ c.if-not-are_whole.true) refl refl)
 
 pub returns-in_default : goal.returns-in_default
 unfolding code_by
@@ -32,8 +31,8 @@ returns-in_default c =
     let sizes = c.sizes_at-counts.ensures in
     let big = c.is_big.ensures in
     sym (counts_told _ _ _ _ _ _ _ _ _ _ (rw big at sizes.0.value) (rw big at sizes.1.value) true Wrong _
-    (sym c.are_whole.ensures ∙ not-false _ c.if-not-are_whole.false)
-    (sym c.in_default.is ∙ c.groups_over.ensures) refl)
+    (sym c.are_whole.ensures ∙ c.if-not-are_whole.false)
+    c.in_default.ensures refl)
 
 pub returns-in_default-datas_over : goal.returns-in_default-datas_over
 unfolding code_by
@@ -41,9 +40,9 @@ returns-in_default-datas_over c =
     let sizes = c.sizes_at-counts.ensures in
     let big = c.is_big.ensures in
     sym (counts_told _ _ _ _ _ _ _ _ _ _ (rw big at sizes.0.value) (rw big at sizes.1.value) true (Is _) Wrong
-    (sym c.are_whole.ensures ∙ not-false _ c.if-not-are_whole.false)
-    (sym c.in-Is.is ∙ c.groups_over.ensures)
-    (sym c.in_default-datas_over.is ∙ c.datas_over.ensures))
+    (sym c.are_whole.ensures ∙ c.if-not-are_whole.false)
+    c.in-Is.ensures
+    c.in_default-datas_over.ensures)
 
 pub overflow_mul-result : goal.overflow_mul-result
 overflow_mul-result c =
@@ -59,6 +58,6 @@ returns c =
     let sizes = c.sizes_at-counts.ensures in
     let big = c.is_big.ensures in
     sym (counts_told _ _ _ _ _ _ _ _ _ _ (rw big at sizes.0.value) (rw big at sizes.1.value) true (Is _) (Is _)
-    (sym c.are_whole.ensures ∙ not-false _ c.if-not-are_whole.false)
-    (sym c.in-Is.is ∙ c.groups_over.ensures)
-    (sym c.in-Is-datas_over.is ∙ c.datas_over.ensures))
+    (sym c.are_whole.ensures ∙ c.if-not-are_whole.false)
+    c.in-Is.ensures
+    c.in-Is-datas_over.ensures)

@@ -1,6 +1,5 @@
 -- The field's numbers and the tests on them are the definition's case.
 use Rattle.std.proofs.Common.{◌≡◌, ◌≤◌, sym, ◌∙◌, rules}
-use Rattle.layout.specs.Book.{Field}
 use Rattle.number_types.specs.Value.{coded}
 use Rattle.number_types.proofs.Types.{is_big_in_lem, type_in_lem}
 use Rattle.prepared.specs.Positions.{field_at, is_big}
@@ -8,21 +7,18 @@ use Rattle.fields.proofs.Fields.{array_inside, field_absent, field_array, field_
 use Rattle.fields.proofs.read_plain.Goals as goal
 use Rattle.fields.proofs.read_plain.Goals.{After-number-then-len-le1, Else-v-number, Then-len-le1}
 
-field : tie.Start → Field
-field c = field_at c.args.p.now c.args.f
-
 -- After the first test the field is present, and by the second it is one number.
-present : (c : Else-v-number) → (field c.Start).since ≤ c.args.v
+present : (c : Else-v-number) → (field_at c.args.p.now c.args.f).since ≤ c.args.v
 present c =
     rw c.number.ensures at c.if-v-number.false
 
-single : (c : Then-len-le1) → (field c.Start).length ≤ 1
+single : (c : Then-len-le1) → (field_at c.args.p.now c.args.f).length ≤ 1
 single c =
     rw c.number-len.ensures at c.if-len-le1.true
 
 -- The code is that of the field's type and the book's order.
 coded_is : (c : After-number-then-len-le1) → let p = c.args.p.now in
-    c.number-then-len-le1.result ≡ coded (is_big p) (field c.Start).type
+    c.number-then-len-le1.result ≡ coded (is_big p) (field_at c.args.p.now c.args.f).type
 coded_is c =
     c.number-then-len-le1.ensures ∙ c.requires.field.derived.code
 
@@ -49,7 +45,7 @@ returns-then-len-le1 c =
       is_big_in_lem (is_big _),
       c.number-2.ensures,
     )
-    (sym (field_number _ _ _ _ (field (goal.at.returns-then-len-le1 c).Start)
+    (sym (field_number _ _ _ _ (field_at c.args.p.now c.args.f)
     (present (goal.at.returns-then-len-le1 c).Else-v-number) (single (goal.at.returns-then-len-le1 c).Then-len-le1)))
 
 pub read_array-requires : goal.read_array-requires

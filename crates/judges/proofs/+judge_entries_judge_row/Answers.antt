@@ -1,7 +1,6 @@
 -- The judging pass calls itself: an entry's row of groups, a group's entries. What is left of a row or of entries
 -- answers as all of it does; the measure of a call is the depth left, and within a depth the order of the calls.
 use Rattle.std.proofs.Common.{sym, refl, ◌∙◌, arith}
-use borrow.Author.Tests.{not-false, not-true}
 use Rattle.prepared.proofs.Open.{head_there, no_groups_at}
 use Rattle.judges.proofs.Judging.{blocks_fit, entries_all, entries_end, entry_datas, entry_fields, entry_next}
 use Rattle.judges.proofs.Judging.{entry_row_lem, plain_next, row_end_lem, row_entries, row_many, row_next}
@@ -93,18 +92,18 @@ judge_row-returns-then-not-is_group t c =
     let opened = c.open_row.ensures in
     c.refuse.ensures ∙ sym (c.loop-left.invariant.2
     ∙ row_other _ _ _ _ _ _ _ _ _ _ _ opened.tree _
-    (sym c.is_group.ensures ∙ not-true _ c.if-not-is_group.true))
+    (sym c.is_group.ensures ∙ c.if-not-is_group.true))
 
 pub judge_row-entries_in-k-requires : goal.judge_row-entries_in-k-requires
 judge_row-entries_in-k-requires t c =
-    sym c.is_group.ensures ∙ not-false _ c.if-not-is_group.false
+    sym c.is_group.ensures ∙ c.if-not-is_group.false
 
 pub judge_row-returns-then-k-ge65535 : goal.judge_row-returns-then-k-ge65535
 judge_row-returns-then-k-ge65535 t c =
     let opened = c.open_row.ensures in
     c.refuse-then-k-ge65535.ensures ∙ sym (c.loop-left.invariant.2
     ∙ row_many _ _ _ _ _ _ _ _ _ _ _ opened.tree _
-    (sym c.is_group.ensures ∙ not-false _ c.if-not-is_group.false) _ c.entries_in-k.ensures.0
+    (sym c.is_group.ensures ∙ c.if-not-is_group.false) _ c.entries_in-k.ensures.0
     c.if-k-ge65535.true)
 
 pub judge_row-judge_entries-entries-requires : goal.judge_row-judge_entries-entries-requires
@@ -118,7 +117,7 @@ judge_row-returns-in_default t c =
     let e = c.in_default.is in
     e ∙ sym (c.loop-left.invariant.2
     ∙ row_entries _ _ _ _ _ _ _ _ _ _ _ opened.tree _
-    (sym c.is_group.ensures ∙ not-false _ c.if-not-is_group.false) _ c.entries_in-k.ensures.0
+    (sym c.is_group.ensures ∙ c.if-not-is_group.false) _ c.entries_in-k.ensures.0
     c.if-k-ge65535.false _ (sym e ∙ c.judge_entries-entries.ensures))
 
 pub judge_row-dimension_size-requires : goal.judge_row-dimension_size-requires
@@ -134,7 +133,7 @@ judge_row-loop-left-preserved t c =
       omega arith,
       c.loop-left.invariant.2
           ∙ row_next _ _ _ _ _ _ _ _ _ _ _ opened.tree _
-          (sym c.is_group.ensures ∙ not-false _ c.if-not-is_group.false) _ c.entries_in-k.ensures.0
+          (sym c.is_group.ensures ∙ c.if-not-is_group.false) _ c.entries_in-k.ensures.0
           c.if-k-ge65535.false _ _ (sym c.in-To.is ∙ c.judge_entries-entries.ensures),
     )
 

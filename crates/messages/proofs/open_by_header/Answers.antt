@@ -1,6 +1,5 @@
 -- Where the header is the template's own nothing is to refuse; any other goes test by test.
 use mathlib.Core.Path.{◌∙◌, sym}
-use borrow.Author.Tests.{not-false}
 use Rattle.messages.proofs.Stages.{opens_own, own_block}
 use Rattle.messages.proofs.open_by_header.Goals as goal
 
@@ -18,4 +17,4 @@ returns c =
     let own = c.is_own in
     sym (opens_own _ c.requires.0 _ c.requires.1 _ c.requires.2 _
     (sym c.find-place.ensures ∙ c.in-At.is)
-    (sym own.ensures ∙ not-false _ c.if-not-is_own.false))
+    (sym own.ensures ∙ c.if-not-is_own.false))

@@ -1,5 +1,4 @@
 -- A number that is x stands from `low` up to `high`.
-use Prim.Native.Nat.{◌-◌}
 use native.Mathlib.Omega.{arith}
 use mathlib.Core.Path.{sym, ◌∙◌}
 use Rattle.book.proofs.Search.{not_within, within_above, within_below}

@@ -1,6 +1,6 @@
 -- From 1 to 8 a type is the integer of its width, a power of two, and its sign.
 use mathlib.Core.Path.{◌∙◌, ◌≡◌, refl}
-use Prim.Native.Nat.{◌%◌, ◌*◌, ◌-◌, ◌/◌, ◌<◌, ◌^◌, ℕ}
+use Prim.Native.Nat.{◌%◌, ◌*◌, ◌-◌, ◌/◌, ◌<◌, ◌^◌, ◌≤◌, ℕ}
 use native.Mathlib.Nat.{one-mul}
 use native.Mathlib.Omega.{arith}
 use lib.Dec.{lit<}
@@ -16,18 +16,19 @@ doubled t h = shl_exact {a = 1} 1 ((t - 1) / 2) 64 (lit< tt) (omega arith) ∙ o
 
 pub integer-requires : goal.integer-requires
 integer-requires c =
-    rw (doubled _ c.if-t-lt9.true) (width_at _ c.if-t-lt9.true).listed
+    let below : c.args.t < 9 = omega arith in
+    rw (doubled _ below) (width_at _ below).listed
 
 pub returns-in-1-to-8 : goal.returns-in-1-to-8
 returns-in-1-to-8 c =
-    let from = c.if-t-lt1.false in
-    let below = c.if-t-lt9.true in
+    let from : 1 ≤ c.args.t = omega arith in
+    let below : c.args.t < 9 = omega arith in
     rw (c.integer.ensures, doubled _ below, integer_at _ from below) refl
 
 pub returns-in_default : goal.returns-in_default
 returns-in_default c =
-    rw (char_at c.args.t (λ h. omega (arith, c.if-t-lt1.true))) refl
+    rw (char_at c.args.t (λ h. omega arith)) refl
 
 pub returns-in_default-2 : goal.returns-in_default-2
 returns-in_default-2 c =
-    rw (char_at _ (λ h. c.if-t-lt9.false)) refl
+    rw (char_at c.args.t (λ h. omega arith)) refl

@@ -8,7 +8,7 @@ use Rattle.number_types.proofs.store.Goals.{In_default}
 
 eight : (c : In_default) → c.args.w ≡ 8
 eight c =
-    let r = c.in_default.rest in width_eight _ c.requires.0 r.0.0.1 r.0.1 r.1
+    width_eight _ c.requires.0 (λ e. omega arith) (λ e. omega arith) (λ e. omega arith)
 
 pub put8-requires : goal.put8-requires
 put8-requires c =

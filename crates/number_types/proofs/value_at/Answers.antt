@@ -1,6 +1,5 @@
 -- Each arm reads the type and the order that its code is; the last one's is char.
 use mathlib.Core.Path.{◌∙◌, ◌≡◌, sym}
-use Prim.Native.Nat.{◌≤◌}
 use native.Mathlib.Omega.{arith}
 use Rattle.layout.specs.Types.{type_at}
 use Rattle.number_types.specs.Value.{type_in}
@@ -11,16 +10,7 @@ use Rattle.number_types.proofs.value_at.Goals.{In_default}
 -- What is none of the codes is no integer's.
 other : (c : In_default) → type_at (type_in c.args.c) ≡ type_at 0
 other c =
-    let x = c.args.c in
-    let late = c.in_default.rest in
-    let mid = late.0.0.0.0 in
-    let early = mid.0.0.0.0 in
-    let first = early.0.0.0.0 in
-    let a : 2 ≤ x → 6 ≤ x = λ h. omega (arith, first.0.0.0.1, first.0.0.1, first.0.1, first.1) in
-    let b : 2 ≤ x → 10 ≤ x = λ h. omega (arith, a h, early.0.0.0.1, early.0.0.1, early.0.1, early.1) in
-    let d : 2 ≤ x → 14 ≤ x = λ h. omega (arith, b h, mid.0.0.0.1, mid.0.0.1, mid.0.1, mid.1) in
-    let e : 2 ≤ x → 18 ≤ x = λ h. omega (arith, d h, late.0.0.0.1, late.0.0.1, late.0.1, late.1) in
-    char_at (type_in x) (λ h. omega (arith, e (omega arith))) ∙ sym (char_at 0 (λ h. omega arith))
+    char_at (type_in c.args.c) (λ h. omega arith) ∙ sym (char_at 0 (λ h. omega arith))
 
 pub value_as-requires : goal.value_as-requires
 value_as-requires c =

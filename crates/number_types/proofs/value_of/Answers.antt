@@ -1,7 +1,7 @@
 -- Of a signed type, the numbers above the greatest are its negatives.
 use mathlib.Core.Bool.{true}
 use mathlib.Core.Path.{◌≡◌, sym}
-use Rattle.layout.specs.Result.{◌and◌, if◌then◌else◌}
+use Rattle.layout.specs.Result.{◌and◌, when◌then◌else◌}
 use Rattle.layout.specs.Types.{type_at, value_of}
 use Rattle.number_types.proofs.Types.{value_fits, value_high, value_low}
 use Rattle.number_types.proofs.value_of.Goals as goal
@@ -28,4 +28,4 @@ returns-else-k-x c =
 
 pub returns-else-k : goal.returns-else-k
 returns-else-k c =
-    unfold value_of if◌then◌else◌ ◌and◌ in simp (rw c.number_type-k.ensures at c.if-k.false)
+    unfold value_of when◌then◌else◌ ◌and◌ in simp (rw c.number_type-k.ensures at c.if-k.false)

@@ -1,4 +1,3 @@
-
 use Rattle.number_types.proofs.width_of.Goals as goal
 
 pub returns : goal.returns

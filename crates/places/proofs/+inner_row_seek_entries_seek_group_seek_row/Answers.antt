@@ -1,12 +1,7 @@
 -- The walk along a path calls itself: a row, the group that a step leads to, its entries, the row of an entry. The
 -- measure of a call is the depth left, and within a depth the order of the calls.
--- ---- the row of an entry
--- ---- the row of a block
--- ---- the group that a step leads to
--- ---- the entries of the group
 use mathlib.Core.Path.{sym, ◌∙◌, refl}
-use Prim.Native.Nat.{◌+◌, ◌-◌, ◌*◌, ◌≤◌}
-use native.Mathlib.Nat.{mul-le-mul_right}
+use Prim.Native.Nat.{◌+◌, ◌*◌, ◌≤◌}
 use native.Mathlib.Omega.{arith}
 use lib.ListN.{length}
 use Rattle.prepared.proofs.Open.{head_there, some_follow}
@@ -20,75 +15,38 @@ use Rattle.places.proofs.Seeks.{plain_sought, within_to}
 use Rattle.places.proofs.Seeks.{row_lacks, row_onward, row_refused}
 use Rattle.places.proofs.+inner_row_seek_entries_seek_group_seek_row.Goals as goal
 
-pub inner_row-seek_row-requires : goal.inner_row-seek_row-requires
-inner_row-seek_row-requires t c =
-    let pre = c.requires in
-    (omega arith, (pre.0, pre.1, pre.2, pre.3, c.if-i-steps.true))
+-- ---- the row of an entry
 
 pub inner_row-returns-then-i-steps : goal.inner_row-returns-then-i-steps
 inner_row-returns-then-i-steps t c =
     let on =
     inner_on c.args.p.now.now _ _ _ _ _ _ _ _ _ c.if-on.true
     (path_next c.requires.3 c.if-i-steps.true).inside in
-    record { value = c.seek_row.ensures.value ∙ sym on;  within = c.seek_row.ensures.within }
-
-pub inner_row-pass_row-requires : goal.inner_row-pass_row-requires
-inner_row-pass_row-requires t c =
-    let pre = c.requires in (
-      rw (c.number-first.ensures, c.number-n.ensures) pre.0.row,
-      pre.1,
-      omega arith,
-      pre.2,
-      head_there pre.0.block,
-    )
-
-pub inner_row-found_at-requires : goal.inner_row-found_at-requires
-inner_row-found_at-requires t c =
-    tt
+    record { value = c.seek_row.ensures.value ∙ sym on; within = c.seek_row.ensures.within }
 
 pub inner_row-returns-then-on : goal.inner_row-returns-then-on
 inner_row-returns-then-on t c =
     let p = c.args.p.now.now in
     let both = ends_walked _ _ _ _ _ c.found_at.ensures
-    (rw (c.number-first.ensures, c.number-n.ensures) at c.pass_row.ensures)
+    (rw (c.number-first.ensures, c.number-n.ensures) at c.pass_row.ensures.value) c.pass_row.ensures.bounded
     (inner_last p _ _ _ _ _ _ _ _ _ c.if-on.true c.if-i-steps.false) in
-    record { value = both.0;  within = both.1 }
-
-pub inner_row-pass_row-requires-2 : goal.inner_row-pass_row-requires-2
-inner_row-pass_row-requires-2 t c =
-    let pre = c.requires in (
-      rw (c.number-first.ensures, c.number-n.ensures) pre.0.row,
-      pre.1,
-      omega arith,
-      pre.2,
-      head_there pre.0.block,
-    )
-
-pub inner_row-found_at-requires-2 : goal.inner_row-found_at-requires-2
-inner_row-found_at-requires-2 t c =
-    tt
+    record { value = both.0; within = both.1 }
 
 pub inner_row-returns : goal.inner_row-returns
 inner_row-returns t c =
     let args = c.args in
     let both = ends_walked _ _ _ _ _ c.found_at-2.ensures
-    (rw (c.number-first.ensures, c.number-n.ensures) at c.pass_row-2.ensures)
+    (rw (c.number-first.ensures, c.number-n.ensures) at c.pass_row-2.ensures.value) c.pass_row-2.ensures.bounded
     (inner_off args.p.now.now _ _ _ _ args.path.now.now args.i _ _ _ c.if-on.false) in
-    record { value = both.0;  within = both.1 }
+    record { value = both.0; within = both.1 }
 
-pub seek_entries-number-e-requires : goal.seek_entries-number-e-requires
-seek_entries-number-e-requires t c =
-    let pre = c.requires in omega (arith, (path_next pre.3 pre.4).inside)
+-- ---- the entries of the group
 
 -- Few groups and data follow.
 pub seek_entries-overflow_add-number : goal.seek_entries-overflow_add-number
 seek_entries-overflow_add-number t c =
     let block = c.requires.0.block in
     omega (arith, c.number.ensures, some_follow block, c.requires.2.less)
-
-pub seek_entries-overflow_mul-l : goal.seek_entries-overflow_mul-l
-seek_entries-overflow_mul-l t c =
-    omega (arith, mul-le-mul_right c.args.entries.count c.requires.2.short, c.requires.2.few)
 
 pub seek_entries-returns-then-l-k : goal.seek_entries-returns-then-l-k
 seek_entries-returns-then-l-k t c =
@@ -99,65 +57,23 @@ seek_entries-returns-then-l-k t c =
     let all =
     plain_sought _ _ _ _ _ args.path.now.now args.i _ _ _ pre.0.block c.number.ensures
     c.if-number-entries-eq0.true fit (path_next pre.3 pre.4) in
-    record { value = rw c.number-e.ensures at c.plain_row.ensures ∙ sym all;  within = within_to _ c.plain_row.ensures fit }
-
-pub seek_entries-is_big-big-requires : goal.seek_entries-is_big-big-requires
-seek_entries-is_big-big-requires t c =
-    omega (arith, head_there c.requires.0.block)
-
-pub seek_entries-groups_in-groups-requires : goal.seek_entries-groups_in-groups-requires
-seek_entries-groups_in-groups-requires t c =
-    tt
-
-pub seek_entries-datas_in-datas-requires : goal.seek_entries-datas_in-datas-requires
-seek_entries-datas_in-datas-requires t c =
-    tt
-
-pub seek_entries-turn_of-turn-requires : goal.seek_entries-turn_of-turn-requires
-seek_entries-turn_of-turn-requires t c =
-    tt
-
-pub seek_entries-no_spot-spot-requires : goal.seek_entries-no_spot-spot-requires
-seek_entries-no_spot-spot-requires t c =
-    tt
-
-pub seek_entries-loop-due-init : goal.seek_entries-loop-due-init
-seek_entries-loop-due-init t c =
-    let pre = c.requires in (
-      pre.0,
-      pre.1.short,
-      pre.1.inside,
-      path_next pre.3 pre.4,
-      c.is_big-big.ensures,
-      omega (arith, c.groups_in-groups.ensures, pre.2.less),
-      omega (arith, c.datas_in-datas.ensures),
-      rw (c.no_spot-spot.ensures, c.turn_of-turn.ensures, c.number-e.ensures) refl,
-    )
-
-pub seek_entries-refuse_row-requires : goal.seek_entries-refuse_row-requires
-seek_entries-refuse_row-requires t c =
-    tt
+    record { value = rw c.number-e.ensures at c.plain_row.ensures ∙ sym all; within = within_to _ c.plain_row.ensures fit }
 
 pub seek_entries-returns-then-t-at : goal.seek_entries-returns-then-t-at
 seek_entries-returns-then-t-at t c =
     let both = ends_refused _ _ c.refuse_row.ensures
     (rw (c.groups_in-groups.ensures, c.datas_in-datas.ensures) at
-    (c.loop-due.invariant.7 ∙ entry_short_on ((c.args.p.now.now)) _ _ _ _ _ _ _ _ _ _ _ _ _ c.loop-due-test.true
+    (c.loop-due.invariant.7 ∙ entry_short_on c.args.p.now.now _ _ _ _ _ _ _ _ _ _ _ _ _ c.loop-due-test.true
     (omega arith))) in
-    record { value = both.0;  within = both.1 }
-
-pub seek_entries-inner_row-inside-requires : goal.seek_entries-inner_row-inside-requires
-seek_entries-inner_row-inside-requires t c =
-    let inv = c.loop-due.invariant in
-    (omega arith, (inv.0, record { short = inv.1; inside = omega arith }, inv.5, inv.3))
+    record { value = both.0; within = both.1 }
 
 pub seek_entries-returns-in_default : goal.seek_entries-returns-in_default
 seek_entries-returns-in_default t c =
     let both = ends_refused _ _ c.in_default.is
     (rw (c.groups_in-groups.ensures, c.datas_in-datas.ensures) at
-    (c.loop-due.invariant.7 ∙ entry_row_on ((c.args.p.now.now)) _ _ _ _ _ _ _ _ _ _ _ _ _ c.loop-due-test.true
+    (c.loop-due.invariant.7 ∙ entry_row_on c.args.p.now.now _ _ _ _ _ _ _ _ _ _ _ _ _ c.loop-due-test.true
     (omega arith) _ _ (sym c.in_default.is ∙ c.inner_row-inside.ensures.value))) in
-    record { value = both.0;  within = both.1 }
+    record { value = both.0; within = both.1 }
 
 pub seek_entries-walk_datas-rest-requires : goal.seek_entries-walk_datas-rest-requires
 seek_entries-walk_datas-rest-requires t c =
@@ -171,14 +87,6 @@ seek_entries-walk_datas-rest-requires t c =
       record { short = inv.1; inside = inside },
     )
 
-pub seek_entries-no_spot-requires : goal.seek_entries-no_spot-requires
-seek_entries-no_spot-requires t c =
-    tt
-
-pub seek_entries-found_at-requires : goal.seek_entries-found_at-requires
-seek_entries-found_at-requires t c =
-    tt
-
 pub seek_entries-returns-in_default-rest : goal.seek_entries-returns-in_default-rest
 seek_entries-returns-in_default-rest t c =
     let inv = c.loop-due.invariant in
@@ -186,9 +94,9 @@ seek_entries-returns-in_default-rest t c =
     let datas = rw inv.4 at there in
     let both = ends_refused _ _ (c.found_at.ensures ∙ found_refused _ _ _ c.in_default-rest.is)
     (rw (c.groups_in-groups.ensures, c.datas_in-datas.ensures) at
-    (inv.7 ∙ entry_datas_on ((c.args.p.now.now)) _ _ _ _ _ _ _ _ _ _ _ _ _ c.loop-due-test.true (omega arith) _
+    (inv.7 ∙ entry_datas_on c.args.p.now.now _ _ _ _ _ _ _ _ _ _ _ _ _ c.loop-due-test.true (omega arith) _
     _ _ (sym c.in-To.is ∙ c.inner_row-inside.ensures.value) _ (sym c.in_default-rest.is ∙ datas))) in
-    record { value = both.0;  within = both.1 }
+    record { value = both.0; within = both.1 }
 
 pub seek_entries-loop-due-preserved : goal.seek_entries-loop-due-preserved
 seek_entries-loop-due-preserved t c =
@@ -203,7 +111,7 @@ seek_entries-loop-due-preserved t c =
       inv.4,
       inv.5,
       inv.6,
-      inv.7 ∙ entry_next_on ((c.args.p.now.now)) _ _ _ _ _ _ _ _ _ _ _ _ _ c.loop-due-test.true (omega arith) _
+      inv.7 ∙ entry_next_on c.args.p.now.now _ _ _ _ _ _ _ _ _ _ _ _ _ c.loop-due-test.true (omega arith) _
           _ _ (sym c.in-To.is ∙ c.inner_row-inside.ensures.value) refl _ _
           (sym c.in-To-rest.is ∙ datas),
     )
@@ -211,51 +119,19 @@ seek_entries-loop-due-preserved t c =
 pub seek_entries-returns : goal.seek_entries-returns
 seek_entries-returns t c =
     let inv = c.loop-due.invariant in
-    let ends = entries_done ((c.args.p.now.now)) _ _ _ _ _ _ _ _ _ _ _ _ _ c.loop-due-test.false in
+    let ends = entries_done c.args.p.now.now _ _ _ _ _ _ _ _ _ _ _ _ _ c.loop-due-test.false in
     let all = rw (c.groups_in-groups.ensures, c.datas_in-datas.ensures) at (inv.7 ∙ ends) in
-    record { value = sym all;  within = within_to _ refl inv.2 }
+    record { value = sym all; within = within_to _ refl inv.2 }
 
-pub seek_group-pass_row-requires : goal.seek_group-pass_row-requires
-seek_group-pass_row-requires t c =
-    let opened = c.open_row.ensures in
-    let pre = c.requires in
-    (rw c.number-after.ensures opened.rest, pre.3, omega arith, pre.4, head_there opened.first.block)
-
-pub seek_group-no_spot-requires : goal.seek_group-no_spot-requires
-seek_group-no_spot-requires t c =
-    tt
-
-pub seek_group-found_at-requires : goal.seek_group-found_at-requires
-seek_group-found_at-requires t c =
-    tt
+-- ---- the group that a step leads to
 
 pub seek_group-returns-then-v-number : goal.seek_group-returns-then-v-number
 seek_group-returns-then-v-number t c =
     let both = ends_walked _ _ _ _ _ (rw c.no_spot.ensures at c.found_at.ensures)
-    (rw c.number-after.ensures at c.pass_row.ensures)
-    (group_absent ((c.args.p.now.now)) _ _ _ _ _ _ _ _ _ _ (c.open_row.ensures.tree) _ _ _
+    (rw c.number-after.ensures at c.pass_row.ensures.value) c.pass_row.ensures.bounded
+    (group_absent c.args.p.now.now _ _ _ _ _ _ _ _ _ _ c.open_row.ensures.tree _ _ _
     (rw c.number.ensures at c.if-v-number.true)) in
-    record { value = both.0;  within = both.1 }
-
-pub seek_group-overflow_sub-depth : goal.seek_group-overflow_sub-depth
-seek_group-overflow_sub-depth t c =
-    omega (arith, c.open_row.ensures.deep)
-
-pub seek_group-open_group-requires : goal.seek_group-open_group-requires
-seek_group-open_group-requires t c =
-    let pre = c.requires in
-    (c.open_row.ensures.first, pre.3.short, pre.3.inside, c.need.ensures)
-
-pub seek_group-dimension_size-requires : goal.seek_group-dimension_size-requires
-seek_group-dimension_size-requires t c =
-    let block = c.open_row.ensures.first.block in
-    (head_there block, block.sized)
-
-pub seek_group-overflow_add-start : goal.seek_group-overflow_add-start
-seek_group-overflow_add-start t c =
-    let good = group_good _ _ _ _ _ _ _ _ _
-    (inv_open _ _ (sym c.in-Of.is ∙ c.open_group.ensures)) in
-    omega (arith, good.fits, c.dimension_size.ensures, c.requires.3.short)
+    record { value = both.0; within = both.1 }
 
 pub seek_group-seek_entries-inside-requires : goal.seek_group-seek_entries-inside-requires
 seek_group-seek_entries-inside-requires t c =
@@ -275,15 +151,11 @@ seek_group-seek_entries-inside-requires t c =
 pub seek_group-returns-in_default : goal.seek_group-returns-in_default
 seek_group-returns-in_default t c =
     let both = ends_refused _ _ c.in_default.is
-    (entries_refused ((c.args.p.now.now)) _ _ _ _ _ _ _ _ _ _ (c.open_row.ensures.tree) _ _ _
+    (entries_refused c.args.p.now.now _ _ _ _ _ _ _ _ _ _ c.open_row.ensures.tree _ _ _
     (rw c.number.ensures at c.if-v-number.false) _
     (sym c.in-Of.is ∙ c.open_group.ensures) _
     (sym c.in_default.is ∙ rw c.dimension_size.ensures at c.seek_entries-inside.ensures.value)) in
-    record { value = both.0;  within = both.1 }
-
-pub seek_group-overflow_sub-n-in-Of : goal.seek_group-overflow_sub-n-in-Of
-seek_group-overflow_sub-n-in-Of t c =
-    omega (arith, c.requires.1)
+    record { value = both.0; within = both.1 }
 
 pub seek_group-pass_row-requires-in-Of : goal.seek_group-pass_row-requires-in-Of
 seek_group-pass_row-requires-in-Of t c =
@@ -297,52 +169,33 @@ seek_group-pass_row-requires-in-Of t c =
       head_there opened.first.block,
     )
 
-pub seek_group-found_at-requires-in-Of : goal.seek_group-found_at-requires-in-Of
-seek_group-found_at-requires-in-Of t c =
-    tt
-
 pub seek_group-returns-in-Refused : goal.seek_group-returns-in-Refused
 seek_group-returns-in-Refused t c =
     let both = ends_refused _ _ refl
-    (group_refused ((c.args.p.now.now)) _ _ _ _ _ _ _ _ _ _ (c.open_row.ensures.tree) _ _ _
+    (group_refused c.args.p.now.now _ _ _ _ _ _ _ _ _ _ c.open_row.ensures.tree _ _ _
     (rw c.number.ensures at c.if-v-number.false) _
     (sym c.in-Refused.is ∙ c.open_group.ensures)) in
-    record { value = both.0;  within = both.1 }
+    record { value = both.0; within = both.1 }
 
 pub seek_group-returns-in-To : goal.seek_group-returns-in-To
 seek_group-returns-in-To t c =
-    let both = ends_walked _ _ _ _ _ c.found_at-in-Of.ensures (rw c.number-after.ensures at c.pass_row-in-Of.ensures)
-    (entries_passed ((c.args.p.now.now)) _ _ _ _ _ _ _ _ _ _ (c.open_row.ensures.tree) _ _ _
+    let both = ends_walked _ _ _ _ _ c.found_at-in-Of.ensures (rw c.number-after.ensures at c.pass_row-in-Of.ensures.value)
+    c.pass_row-in-Of.ensures.bounded
+    (entries_passed c.args.p.now.now _ _ _ _ _ _ _ _ _ _ c.open_row.ensures.tree _ _ _
     (rw c.number.ensures at c.if-v-number.false) _
     (sym c.in-Of.is ∙ c.open_group.ensures) _ _
     (sym c.in-To.is ∙ rw c.dimension_size.ensures at c.seek_entries-inside.ensures.value)) in
-    record { value = both.0;  within = both.1 }
+    record { value = both.0; within = both.1 }
 
-pub seek_row-walk_row-requires : goal.seek_row-walk_row-requires
-seek_row-walk_row-requires t c =
-    let pre = c.requires in (
-      rw (c.number-first.ensures, c.number-n.ensures) pre.0.row,
-      pre.1,
-      omega arith,
-      pre.2,
-      head_there pre.0.block,
-    )
-
-pub seek_row-no_spot-requires : goal.seek_row-no_spot-requires
-seek_row-no_spot-requires t c =
-    tt
-
-pub seek_row-found_at-requires : goal.seek_row-found_at-requires
-seek_row-found_at-requires t c =
-    tt
+-- ---- the row of a block
 
 pub seek_row-returns-then-n-g : goal.seek_row-returns-then-n-g
 seek_row-returns-then-n-g t c =
     let both = ends_walked _ _ _ _ _ (rw c.no_spot.ensures at c.found_at.ensures)
-    (rw (c.number-first.ensures, c.number-n.ensures) at c.walk_row.ensures)
+    (rw (c.number-first.ensures, c.number-n.ensures) at c.walk_row.ensures.value) c.walk_row.ensures.bounded
     (row_lacks _ _ _ c.requires.0 _ _ c.args.path.now.now c.args.i _ _
     (rw (c.number-n.ensures, c.number-g.ensures) at c.if-n-g.true)) in
-    record { value = both.0;  within = both.1 }
+    record { value = both.0; within = both.1 }
 
 pub seek_row-pass_row-passed-requires : goal.seek_row-pass_row-passed-requires
 seek_row-pass_row-passed-requires t c =
@@ -356,14 +209,6 @@ seek_row-pass_row-passed-requires t c =
       head_there pre.0.block,
     )
 
-pub seek_row-no_spot-requires-in_default : goal.seek_row-no_spot-requires-in_default
-seek_row-no_spot-requires-in_default t c =
-    tt
-
-pub seek_row-found_at-requires-in_default : goal.seek_row-found_at-requires-in_default
-seek_row-found_at-requires-in_default t c =
-    tt
-
 pub seek_row-returns-in_default : goal.seek_row-returns-in_default
 seek_row-returns-in_default t c =
     let less = rw (c.number-n.ensures, c.number-g.ensures) at c.if-n-g.false in
@@ -372,7 +217,7 @@ seek_row-returns-in_default t c =
     let both = ends_refused _ _ (c.found_at-in_default.ensures ∙ found_refused _ _ _ c.in_default.is)
     (row_refused _ _ _ c.requires.0 _ _ c.args.path.now.now c.args.i _ _ less _
     (sym c.in_default.is ∙ walks)) in
-    record { value = both.0;  within = both.1 }
+    record { value = both.0; within = both.1 }
 
 pub seek_row-skip_row-group-requires : goal.seek_row-skip_row-group-requires
 seek_row-skip_row-group-requires t c =
@@ -419,4 +264,4 @@ seek_row-returns t c =
     let on =
     row_onward _ _ _ c.requires.0 _ _ c.args.path.now.now c.args.i _ _ less _ _
     (sym c.in-To.is ∙ walks) in
-    record { value = all ∙ sym on;  within = c.seek_group.ensures.within }
+    record { value = all ∙ sym on; within = c.seek_group.ensures.within }

@@ -1,9 +1,5 @@
 -- The walk along a path calls itself: a row, the group that a step leads to, its entries, the row of an entry. The
 -- measure of a call is the depth left, and within a depth the order of the calls.
--- ---- the row of an entry
--- ---- the row of a block
--- ---- the group that a step leads to
--- ---- the entries of the group
 use mathlib.Core.Path.{◌≡◌}
 use Prim.Native.Nat.{◌+◌, ◌-◌, ◌*◌, ◌≤◌}
 use lib.ListN.{length}

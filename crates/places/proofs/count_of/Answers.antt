@@ -1,22 +1,6 @@
 -- The count of each kind of element stands in the block's head.
-use native.Mathlib.Omega.{arith}
 use Rattle.places.specs.Elements.{count_of}
 use Rattle.places.proofs.count_of.Goals as goal
-
-pub number-requires : goal.number-requires
-unfolding count_of
-number-requires c =
-    omega arith
-
-pub number-requires-in-Group : goal.number-requires-in-Group
-unfolding count_of
-number-requires-in-Group c =
-    omega arith
-
-pub number-requires-in-Data : goal.number-requires-in-Data
-unfolding count_of
-number-requires-in-Data c =
-    omega arith
 
 pub returns-in-Field : goal.returns-in-Field
 unfolding count_of

@@ -1,7 +1,5 @@
 -- The groups and the surplus ones were read, so the walk past them ends where the data start.
 use mathlib.Core.Path.{ap, sym, ◌∙◌}
-use native.Mathlib.Omega.{arith}
-use Rattle.prepared.proofs.Open.{head_there}
 use Rattle.walk.proofs.Ways.{leads}
 use Rattle.places.specs.Elements.{data_read}
 use Rattle.places.proofs.Elements.{DatasAfter, datas_after, not_refused, row_to}
@@ -13,20 +11,6 @@ after : (c : After-number-2) → let s = c.args in
     DatasAfter s.p.now.now s.depth s.a s.m.now.now s.v s.surplus s.start
 after c =
     datas_after _ _ _ _ _ _ _ c.requires.4
-
-pub is_big-big-requires : goal.is_big-big-requires
-is_big-big-requires c =
-    omega (arith, head_there c.requires.0.block)
-
-pub pass_row-row-requires : goal.pass_row-row-requires
-pass_row-row-requires c =
-    let pre = c.requires in (
-      rw (c.number.ensures, c.number-2.ensures) pre.0.row,
-      pre.1,
-      omega arith,
-      pre.2,
-      head_there pre.0.block,
-    )
 
 pub returns-in_default : goal.returns-in_default
 returns-in_default c =

@@ -1,19 +1,10 @@
 -- One law for each kind of element.
 use mathlib.Core.Path.{sym, ◌∙◌}
-use Prim.Native.Nat.{◌<◌}
 use native.Mathlib.Omega.{arith}
-use Rattle.prepared.specs.Positions.{many_fields}
 use Rattle.places.proofs.Elements.{data_less, element_data, element_field, element_group, entry_datas}
 use Rattle.places.proofs.Elements.{entry_fits}
 use Rattle.places.proofs.Elements.{entry_row_lem, field_less, field_readable, group_less}
 use Rattle.places.proofs.element_at.Goals as goal
-use Rattle.places.proofs.element_at.Goals.{In-Field-2}
-
--- A field that the block has.
-less : (c : In-Field-2) → c.in-Field.k < many_fields c.args.p.now.now
-    c.args.a
-less c =
-    let pre = c.requires in field_less pre.0 _ pre.1 _ c.in-Field.is
 
 pub overflow_add-start : goal.overflow_add-start
 overflow_add-start c =
@@ -21,25 +12,25 @@ overflow_add-start c =
 
 pub overflow_mul-table : goal.overflow_mul-table
 overflow_mul-table c =
-    omega (arith, less (goal.at.overflow_mul-table c).In-Field-2)
+    omega (arith, field_less c.requires.0 _ c.requires.1 _ c.in-Field.is)
 
 pub overflow_add-table : goal.overflow_add-table
 overflow_add-table c =
-    omega (arith, less (goal.at.overflow_add-table c).In-Field-2)
+    omega (arith, field_less c.requires.0 _ c.requires.1 _ c.in-Field.is)
 
 pub overflow_mul-k : goal.overflow_mul-k
 overflow_mul-k c =
-    omega (arith, less (goal.at.overflow_mul-k c).In-Field-2)
+    omega (arith, field_less c.requires.0 _ c.requires.1 _ c.in-Field.is)
 
 pub overflow_add-a-in-Field-2 : goal.overflow_add-a-in-Field-2
 overflow_add-a-in-Field-2 c =
-    omega (arith, less (goal.at.overflow_add-a-in-Field-2 c).In-Field-2)
+    omega (arith, field_less c.requires.0 _ c.requires.1 _ c.in-Field.is)
 
 pub read_field-requires : goal.read_field-requires
 read_field-requires c =
     let pre = c.requires.0 in
     rw c.number.ensures
-    (field_readable _ _ _ _ _ _ _ _ pre.stands pre.enough (entry_fits pre) (less (goal.at.read_field-requires c).In-Field-2))
+    (field_readable _ _ _ _ _ _ _ _ pre.stands pre.enough (entry_fits pre) (field_less c.requires.0 _ c.requires.1 _ c.in-Field.is))
 
 pub group_at-requires : goal.group_at-requires
 group_at-requires c =
@@ -63,7 +54,7 @@ data_after-requires c =
 pub returns-in-Field : goal.returns-in-Field
 returns-in-Field c =
     let pre = c.requires in
-    rw c.in-Field.is (c.read_field.ensures ∙ sym (element_field pre.0 _ (less (goal.at.returns-in-Field c).In-Field-2)))
+    rw c.in-Field.is (c.read_field.ensures ∙ sym (element_field pre.0 _ (field_less c.requires.0 _ c.requires.1 _ c.in-Field.is)))
 
 pub returns-in-Group : goal.returns-in-Group
 returns-in-Group c =

@@ -1,16 +1,11 @@
 -- From the block that is reached what is left of the steps finds the same place.
 use mathlib.Core.Path.{refl, sym, ◌∙◌}
-use Prim.Native.Nat.{◌-◌}
 use native.Mathlib.Omega.{arith}
 use borrow.Author.Tests.{le-ltb, lt-ltb}
-use Rattle.layout.specs.Result.{if◌then◌else◌}
+use Rattle.layout.specs.Result.{when◌then◌else◌}
 use Rattle.places.proofs.Blocks.{place_ends, place_lacks, place_on}
 use Rattle.places.proofs.Places.{group_halves, opens, path_next}
 use Rattle.places.proofs.find_place.Goals as goal
-
-pub loop-i-init : goal.loop-i-init
-loop-i-init c =
-    (c.requires.0, c.requires.1, refl)
 
 pub returns-then-number-g : goal.returns-then-number-g
 returns-then-number-g c =
@@ -41,23 +36,15 @@ loop-i-preserved c =
       inv.2 ∙ place_on _ _ _ inv.0 _ _ _ on.inside less,
     )
 
-pub number_of-requires : goal.number_of-requires
-number_of-requires c =
-    tt
-
-pub count_of-requires : goal.count_of-requires
-count_of-requires c =
-    c.loop-i.invariant.0.block
-
 pub returns-then-number_of-count_of : goal.returns-then-number_of-count_of
-unfolding if◌then◌else◌
+unfolding when◌then◌else◌
 returns-then-number_of-count_of c =
     let inv = c.loop-i.invariant in
     let has = rw (c.number_of.ensures, c.count_of.ensures) at c.if-number_of-count_of.true in
     sym (inv.2 ∙ place_ends _ _ _ inv.0 _ _ _ c.loop-i-test.false ∙ rw (lt-ltb _ _ has) refl)
 
 pub returns : goal.returns
-unfolding if◌then◌else◌
+unfolding when◌then◌else◌
 returns c =
     let inv = c.loop-i.invariant in
     let lacks = rw (c.number_of.ensures, c.count_of.ensures) at c.if-number_of-count_of.false in

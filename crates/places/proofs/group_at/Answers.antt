@@ -59,13 +59,6 @@ pub returns-then-v-number : goal.returns-then-v-number
 returns-then-v-number c =
     sym ((here (goal.at.returns-then-v-number c).After-number).absent c.if-v-number.true)
 
-pub is_big-requires : goal.is_big-requires
-is_big-requires c =
-    omega (
-      arith,
-      head_there c.requires.0.block,
-    )
-
 pub sizes_at-sizes-requires : goal.sizes_at-sizes-requires
 sizes_at-sizes-requires c =
     omega (arith, (here (goal.at.sizes_at-sizes-requires c).After-number).fits c.if-v-number.false)

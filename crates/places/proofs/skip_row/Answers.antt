@@ -1,12 +1,7 @@
 -- From the group that is reached what is left leads to the same place.
-use mathlib.Core.Path.{refl, sym, ◌∙◌}
-use borrow.Author.Rules.{rules}
+use mathlib.Core.Path.{sym, ◌∙◌}
 use Rattle.places.proofs.Places.{row_after_next, row_after_none}
 use Rattle.places.proofs.skip_row.Goals as goal
-
-pub loop-left-init : goal.loop-left-init
-loop-left-init c =
-    (search rules, refl)
 
 pub loop-left-preserved : goal.loop-left-preserved
 loop-left-preserved c =

@@ -7,34 +7,6 @@ use Rattle.prepare.proofs.Rows.{end_is, first_fits, group_stored, groups_stored,
 use Rattle.prepare.proofs.Rows.{storing_starts}
 use Rattle.prepare.proofs.+put_group.Goals as goal
 
-pub put_elements-need-requires : goal.put_elements-need-requires
-put_elements-need-requires t c =
-    let pre = c.requires in (pre.0, pre.1.fits, omega (arith, pre.2))
-
-pub size_block-requires : goal.size_block-requires
-size_block-requires t c =
-    c.requires.1.fits
-
-pub overflow_add-to : goal.overflow_add-to
-overflow_add-to t c =
-    omega (
-      arith,
-      c.size_block.ensures,
-      c.requires.2,
-    )
-
-pub groups_from-x-requires : goal.groups_from-x-requires
-groups_from-x-requires t c =
-    c.requires.1.fits
-
-pub overflow_add-w : goal.overflow_add-w
-overflow_add-w t c =
-    omega (arith, c.requires.1.fits)
-
-pub word-left-requires : goal.word-left-requires
-word-left-requires t c =
-    omega (arith, c.requires.1.fits)
-
 pub loop-left-init : goal.loop-left-init
 loop-left-init t c =
     let long = rw length-sets at (ap length c.put_elements-need.ensures.room_after) in (
@@ -44,30 +16,6 @@ loop-left-init t c =
           c.word-left.ensures.value c.groups_from-x.ensures (omega (arith, c.size_block.ensures)),
       c.requires.0,
     )
-
-pub open_row-requires : goal.open_row-requires
-open_row-requires t c =
-    (c.loop-left.invariant.2.row, c.loop-left-test.true)
-
-pub word-i-requires : goal.word-i-requires
-word-i-requires t c =
-    omega (arith, c.open_row.ensures.block.fits)
-
-pub overflow_add-x : goal.overflow_add-x
-overflow_add-x t c =
-    omega (arith, c.open_row.ensures.block.fits)
-
-pub word-s-requires : goal.word-s-requires
-word-s-requires t c =
-    omega (arith, c.open_row.ensures.block.fits)
-
-pub overflow_add-x-in-loop-left : goal.overflow_add-x-in-loop-left
-overflow_add-x-in-loop-left t c =
-    omega (arith, c.open_row.ensures.block.fits)
-
-pub overflow_sub-depth : goal.overflow_sub-depth
-overflow_sub-depth t c =
-    c.open_row.ensures.deep
 
 pub put_group-r-requires : goal.put_group-r-requires
 put_group-r-requires t c =
@@ -86,10 +34,6 @@ loop-left-preserved t c =
       inv.3,
     )
 
-pub order_of-requires : goal.order_of-requires
-order_of-requires t c =
-    c.loop-left.invariant.3
-
 pub put_head-requires : goal.put_head-requires
 put_head-requires t c =
     let inv = c.loop-left.invariant in (
@@ -98,14 +42,13 @@ put_head-requires t c =
       omega (arith, inv.2.fits, inv.2.filling.long),
     )
 
-pub shape_of-room : goal.shape_of-room
-shape_of-room t c =
-    rw length-sets at (ap length (returns c.After-slice_known-3-1).1)
-
 pub returns : goal.returns
 returns t c =
     let inv = c.loop-left.invariant in
     let next = next_is _ _ _ _ inv.2 c.loop-left-test.false in
-    record { word_value = (end_is _ _ _ _ inv.2 c.loop-left-test.false, next);  room_after = group_stored _ _ _ _ _ _ _ inv.0 _ _ _ _ _ c.args.room.now _ _ _ inv.1 next
+    record {
+      word_value = (end_is _ _ _ _ inv.2 c.loop-left-test.false, next);
+      room_after = group_stored _ _ _ _ _ _ _ inv.0 _ _ _ _ _ c.args.room.now _ _ _ inv.1 next
           c.put_elements-need.ensures.room_after (groups_stored _ _ _ _ inv.2 c.loop-left-test.false)
-          (rw c.order_of.ensures at c.put_head.ensures) }
+          (rw c.order_of.ensures at c.put_head.ensures);
+    }

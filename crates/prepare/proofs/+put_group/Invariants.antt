@@ -10,12 +10,12 @@ use Rattle.prepare.proofs.+put_group.Given as goal
 abbrev pub decreases-put_group : goal.decreases-put_group
 decreases-put_group l = l.depth
 
-abbrev pub invariant-put_group-loop-left : goal.invariant-put_group-loop-left
-invariant-put_group-loop-left l =
+abbrev pub invariant-loop-left : goal.invariant-loop-left
+invariant-loop-left l =
     BlockAt l.body l.depth l.w × (l.need ≡ need_of (version_of l.book) (shape_at (lists_in l.book) l.body l.w))
     × Storing (lists_in l.book) (from_in l.book) (big_in l.book) (version_of l.book) l.body l.depth l.w l.at l.initial.room l.room l.left l.x l.to
     × GoodLists l.book
 
-abbrev pub decreases-put_group-loop-left : goal.decreases-put_group-loop-left
-decreases-put_group-loop-left l =
+abbrev pub decreases-loop-left : goal.decreases-loop-left
+decreases-loop-left l =
     l.left

@@ -8,10 +8,6 @@ pub loop-left-init : goal.loop-left-init
 loop-left-init c =
     (omega arith, omega arith, filling_starts _ _ _)
 
-pub bounds-room-at : goal.bounds-room-at
-bounds-room-at c =
-    omega (arith, c.loop-left.invariant.2.long)
-
 pub loop-left-preserved : goal.loop-left-preserved
 loop-left-preserved c =
     let inv = c.loop-left.invariant in (
@@ -19,10 +15,6 @@ loop-left-preserved c =
       omega arith,
       filling_one inv.2 _ (words_step _ _ _ c.loop-left-test.true) c.word.ensures.value,
     )
-
-pub shape_of-room : goal.shape_of-room
-shape_of-room c =
-    c.loop-left.invariant.2.long
 
 pub returns : goal.returns
 returns c =

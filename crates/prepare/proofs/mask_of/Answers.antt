@@ -20,10 +20,6 @@ pub loop-left-init : goal.loop-left-init
 loop-left-init c =
     (omega arith, mask_small _ c.requires.1, omega arith)
 
-pub bit_of-mask-requires : goal.bit_of-mask-requires
-bit_of-mask-requires c =
-    tt
-
 pub overflow_add-mask : goal.overflow_add-mask
 overflow_add-mask c =
     let inv = c.loop-left.invariant in omega (arith, left_is (goal.at.overflow_add-mask c).After-bit_of-mask, inv.1, inv.2)

@@ -1,5 +1,5 @@
 -- What was added and the mask of the numbers that are left are the mask of all, which has 64 bits at most.
-use Rattle.std.proofs.Common.{◌≡◌, ◌+◌, ◌-◌, ◌/◌, ◌^◌, ◌<◌, ◌≤◌, length, take, drop}
+use Rattle.std.proofs.Common.{◌≡◌, ◌+◌, ◌/◌, ◌^◌, ◌<◌, ◌≤◌, length, take, drop}
 use Rattle.layout.specs.Octets.{words_of}
 use Rattle.prepared.specs.Numbers.{mask_of}
 use Rattle.prepare.proofs.mask_of.Given as goal

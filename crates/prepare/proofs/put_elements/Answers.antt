@@ -15,5 +15,8 @@ put_table-requires c =
 pub returns : goal.returns
 returns c =
     let is_f = c.word-f.ensures.value in
-    record { value = c.put_table.ensures.value ∙ rw is_f refl;  room_after = elements_stored _ _ _ _ _ _ _ _ c.args.room.now _ _ is_f
-          (omega (arith, c.word.ensures.value)) c.copy_words.ensures c.put_table.ensures.room_after }
+    record {
+      value = c.put_table.ensures.value ∙ rw is_f refl;
+      room_after = elements_stored _ _ _ _ _ _ _ _ c.args.room.now _ _ is_f
+          (omega (arith, c.word.ensures.value)) c.copy_words.ensures c.put_table.ensures.room_after;
+    }

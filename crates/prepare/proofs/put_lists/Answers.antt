@@ -12,14 +12,6 @@ pub word-requires : goal.word-requires
 word-requires c =
     omega (arith, (head_says _ c.requires.0.has.head).fits)
 
-pub overflow_mul-w : goal.overflow_mul-w
-overflow_mul-w c =
-    omega (arith, c.word.ensures.small)
-
-pub overflow_add-w : goal.overflow_add-w
-overflow_add-w c =
-    omega (arith, c.word.ensures.small)
-
 pub loop-left-init : goal.loop-left-init
 loop-left-init c =
     listing_starts _ c.requires.0 _ _ _ _ c.word-left.ensures.value (omega (arith, c.word.ensures.value))
@@ -30,19 +22,11 @@ put_list-at-requires c =
     let inv = c.loop-left.invariant in
     (first_list inv c.loop-left-test.true, first_fits inv c.loop-left-test.true)
 
-pub overflow_add-w-in-loop-left : goal.overflow_add-w-in-loop-left
-overflow_add-w-in-loop-left c =
-    omega (arith, c.loop-left.invariant.whole)
-
 pub loop-left-preserved : goal.loop-left-preserved
 loop-left-preserved c =
     listing_on c.loop-left.invariant c.loop-left-test.true _ _ c.put_list-at.ensures.value c.put_list-at.ensures.room_after
 
-pub shape_of-room : goal.shape_of-room
-shape_of-room c =
-    c.loop-left.invariant.filling.long
-
 pub returns : goal.returns
 returns c =
     let inv = c.loop-left.invariant in
-    record { value = end_is inv c.loop-left-test.false;  room_after = all_listed inv c.loop-left-test.false }
+    record { value = end_is inv c.loop-left-test.false; room_after = all_listed inv c.loop-left-test.false }

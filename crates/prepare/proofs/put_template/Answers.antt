@@ -1,17 +1,8 @@
 -- A slot, a row of the contents, and the block of the body that is lent.
-use Rattle.std.proofs.Common.{ℕ, ◌+◌, List, length, sym, refl, ap, ◌∙◌, subst, add-one, arith, length-set, rules}
-use lib.Seq.{length-sets}
+use Rattle.std.proofs.Common.{ℕ, ◌+◌, List, sym, refl, ap, ◌∙◌, subst, add-one, arith, length-set}
 use Rattle.prepare.specs.Positions.{BlockAt, group_size}
 use Rattle.prepare.proofs.Templates.{part_is}
 use Rattle.prepare.proofs.put_template.Goals as goal
-
-pub bounds-room-c : goal.bounds-room-c
-bounds-room-c c =
-    simp length-set (search rules)
-
-pub bounds-room-c-2 : goal.bounds-room-c-2
-bounds-room-c-2 c =
-    simp length-set (search rules)
 
 pub put_group-r-requires : goal.put_group-r-requires
 put_group-r-requires c =
@@ -22,12 +13,8 @@ put_group-r-requires c =
       simp length-set (omega (arith, c.requires, ap (λ (x : List ℕ). group_size x 4 0) part)),
     )
 
-pub shape_of-room : goal.shape_of-room
-shape_of-room c =
-    simp (length-sets, length-set) at (ap length (returns (goal.at.shape_of-room c).After-slice_known-2-1).1)
-
 pub returns : goal.returns
 returns c =
     let part = part_is c.args.book.now c.args.w _ _ c.word-start.ensures.value
     c.word.ensures.value in
-    record { value = c.put_group-r.ensures.word_value.1 ∙ ap (λ (x : List ℕ). c.args.at + group_size x 4 0) part;  room_after = c.put_group-r.ensures.room_after ∙ rw (part, c.word-id.ensures.value, add-one c.args.c) refl }
+    record { value = c.put_group-r.ensures.word_value.1 ∙ ap (λ (x : List ℕ). c.args.at + group_size x 4 0) part; room_after = c.put_group-r.ensures.room_after ∙ rw (part, c.word-id.ensures.value, add-one c.args.c) refl }

@@ -1,5 +1,5 @@
 -- Zeros are stored, and those that are left are to come.
-use Rattle.std.proofs.Common.{◌≡◌, ℕ, ◌+◌, ◌-◌, ◌<◌, ◌≤◌, ◌∷◌, ◌++◌, replicate, refl, arith}
+use Rattle.std.proofs.Common.{◌≡◌, ℕ, ◌-◌, ◌<◌, ◌≤◌, [], ◌∷◌, ◌++◌, replicate, refl, arith}
 use Rattle.prepare.proofs.Filling.{filling_ends, filling_one, filling_starts}
 use Rattle.layout.proofs.Results.{none_left, one_less, some_left}
 use Rattle.prepare.proofs.put_zeros.Goals as goal
@@ -14,18 +14,10 @@ pub loop-left-init : goal.loop-left-init
 loop-left-init c =
     (omega arith, filling_starts _ _ _)
 
-pub bounds-room-at : goal.bounds-room-at
-bounds-room-at c =
-    omega (arith, c.loop-left.invariant.1.long)
-
 pub loop-left-preserved : goal.loop-left-preserved
 loop-left-preserved c =
     let inv = c.loop-left.invariant in
     (omega arith, filling_one inv.1 _ (zeros-step _ c.loop-left-test.true) refl)
-
-pub shape_of-room : goal.shape_of-room
-shape_of-room c =
-    c.loop-left.invariant.1.long
 
 pub returns : goal.returns
 returns c =

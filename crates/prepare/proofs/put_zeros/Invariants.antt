@@ -1,5 +1,5 @@
 -- Zeros are stored, and those that are left are to come.
-use Rattle.std.proofs.Common.{◌+◌, ◌-◌, ◌≤◌, length, replicate}
+use Rattle.std.proofs.Common.{◌+◌, ◌≤◌, length, replicate}
 use Rattle.prepare.proofs.Filling.{Filling}
 use Rattle.prepare.proofs.put_zeros.Given as goal
 

@@ -1,5 +1,5 @@
 -- Blocks were seen, and those that are left lie one after the other.
-use Rattle.std.proofs.Common.{◌-◌, refl, arith}
+use Rattle.std.proofs.Common.{refl, arith}
 use Rattle.prepare.proofs.Sizes.{Next, all_seen, next_seen, seeing_starts}
 use Rattle.prepare.proofs.size_body.Goals as goal
 use Rattle.prepare.proofs.size_body.Goals.{In-loop-w}
@@ -9,14 +9,6 @@ next : (c : In-loop-w) → let l = c.loop-w in
 next c =
     next_seen c.loop-w.invariant.2 c.loop-w-test.true
 
-pub groups_from-w-requires : goal.groups_from-w-requires
-groups_from-w-requires c =
-    c.requires.0.block.fits
-
-pub size_block-seen-requires : goal.size_block-seen-requires
-size_block-seen-requires c =
-    c.requires.0.block.fits
-
 pub loop-w-init : goal.loop-w-init
 loop-w-init c =
     let pre = c.requires in
@@ -24,11 +16,11 @@ loop-w-init c =
 
 pub overflow_add-w : goal.overflow_add-w
 overflow_add-w c =
-    omega (arith, (next (goal.at.overflow_add-w c).In-loop-w).ranges)
+    omega (arith, (next (goal.at.overflow_add-w c).In-loop-w).fits)
 
 pub size_block-seen-requires-in-loop-w : goal.size_block-seen-requires-in-loop-w
 size_block-seen-requires-in-loop-w c =
-    (next (goal.at.size_block-seen-requires-in-loop-w c).In-loop-w).ranges
+    (next (goal.at.size_block-seen-requires-in-loop-w c).In-loop-w).fits
 
 pub overflow_add-seen : goal.overflow_add-seen
 overflow_add-seen c =
@@ -41,10 +33,6 @@ overflow_add-w-in-loop-w c =
 pub groups_from-w-requires-in-loop-w : goal.groups_from-w-requires-in-loop-w
 groups_from-w-requires-in-loop-w c =
     (next (goal.at.groups_from-w-requires-in-loop-w c).In-loop-w).fits
-
-pub loop-w-smaller : goal.loop-w-smaller
-loop-w-smaller c =
-    omega (arith, c.groups_from-w-in-loop-w.ensures)
 
 pub loop-w-preserved : goal.loop-w-preserved
 loop-w-preserved c =

@@ -1,16 +1,11 @@
 -- Where there are lists, they lie from the first one's first word to the book's end.
-use Rattle.std.proofs.Common.{◌≡◌, ◌+◌, ◌*◌, ◌/◌, ◌<◌, ◌≤◌, length, sym, refl, ◌∙◌, arith}
+use Rattle.std.proofs.Common.{◌≡◌, ◌+◌, ◌*◌, ◌<◌, sym, refl, ◌∙◌, arith}
 use Rattle.layout.specs.Octets.{words_of}
-use Rattle.layout.specs.BookRules.{contents_size, head_size, word}
+use Rattle.layout.specs.BookRules.{head_size, word}
 use Rattle.book.proofs.Rows.{head_says}
 use Rattle.prepare.proofs.Lists.{all_lists, first_lies, no_lists}
 use Rattle.prepare.proofs.size_lists.Goals as goal
-use Rattle.prepare.proofs.size_lists.Goals.{After-shared_slice_known-1, After-word-2}
-
-fits : (c : After-shared_slice_known-1) → let s = c.args.book.now in
-    head_size + contents_size (words_of s) ≤ length s / 2
-fits c =
-    (head_says _ c.requires.has.head).fits
+use Rattle.prepare.proofs.size_lists.Goals.{After-word-2}
 
 -- Rows that have numbers are within the book.
 some_are : (c : After-word-2) → 0 < word (words_of c.args.book.now) 4
@@ -24,7 +19,7 @@ first_is c =
 
 pub word-k-requires : goal.word-k-requires
 word-k-requires c =
-    omega (arith, fits (goal.at.word-k-requires c).After-shared_slice_known-1)
+    omega (arith, (head_says _ c.requires.has.head).fits)
 
 pub returns-then-k-eq0 : goal.returns-then-k-eq0
 returns-then-k-eq0 c =
@@ -32,13 +27,13 @@ returns-then-k-eq0 c =
 
 pub word-requires : goal.word-requires
 word-requires c =
-    omega (arith, fits (goal.at.word-requires c).After-shared_slice_known-1)
+    omega (arith, (head_says _ c.requires.has.head).fits)
 
 pub word-requires-2 : goal.word-requires-2
 word-requires-2 c =
     omega (
       arith,
-      fits (goal.at.word-requires-2 c).After-shared_slice_known-1,
+      (head_says _ c.requires.has.head).fits,
       c.word.ensures.value,
       c.word-k.ensures.value,
       c.if-k-eq0.false,

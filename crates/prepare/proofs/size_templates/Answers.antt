@@ -25,17 +25,13 @@ seen c =
     c.size_body-seen.ensures ∙ ap (λ (x : List ℕ). group_size x 4 0) ((part_is c.args.book.now c.loop-left.w _ _ c.word-start.ensures.value
     c.word.ensures.value))
 
-pub loop-left-init : goal.loop-left-init
-loop-left-init c =
-    (c.requires.0, c.requires.1, omega arith)
-
 pub overflow_add-w : goal.overflow_add-w
 overflow_add-w c =
-    omega (arith, (first (goal.at.overflow_add-w c).In-loop-left).template.ranges)
+    omega (arith, (first (goal.at.overflow_add-w c).In-loop-left).template.fits)
 
 pub word-start-requires : goal.word-start-requires
 word-start-requires c =
-    omega (arith, (first (goal.at.word-start-requires c).In-loop-left).template.ranges)
+    omega (arith, (first (goal.at.word-start-requires c).In-loop-left).template.fits)
 
 pub overflow_add-w-in-loop-left : goal.overflow_add-w-in-loop-left
 overflow_add-w-in-loop-left c =

@@ -1,5 +1,5 @@
 -- What is left of the templates and what was seen are all of them.
-use Rattle.std.proofs.Common.{◌≡◌, ◌+◌, ◌-◌, ◌≤◌}
+use Rattle.std.proofs.Common.{◌≡◌, ◌+◌, ◌≤◌}
 use Rattle.layout.specs.BookRules.{head_size}
 use Rattle.prepared.specs.Numbers.{sizes_of}
 use Rattle.prepare.specs.Templates.{AreTemplates, templates_at}

@@ -2,7 +2,6 @@
 use mathlib.Core.Path.{◌≡◌, ◌∙◌, refl}
 use Prim.Native.Nat.{◌+◌, ◌-◌, ◌/◌}
 use native.Mathlib.Omega.{arith}
-use Rattle.layout.specs.Book.{need}
 use Rattle.prepared.proofs.Needs.{need_cut}
 use Rattle.prepared.proofs.older_fields.Goals as goal
 

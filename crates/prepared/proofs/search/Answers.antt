@@ -1,6 +1,5 @@
 -- A row that has the id lies from `low` up to `high`.
 use mathlib.Core.Path.{sym, ◌∙◌}
-use Prim.Native.Nat.{◌-◌}
 use native.Mathlib.Omega.{arith}
 use Rattle.book.proofs.Search.{within_above, within_below}
 use Rattle.prepared.proofs.Rows.{found_at, not_found_at}

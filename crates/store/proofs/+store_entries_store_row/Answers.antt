@@ -1,7 +1,6 @@
 -- The storing pass calls itself as the walk does. Of the whole's numbers some are stored, and those of what is left are
 -- to come (`Going`). The measure of a call is the depth left, and within a depth the order of the calls.
 use mathlib.Core.Path.{refl}
-use Prim.Native.Nat.{◌-◌}
 use native.Mathlib.Omega.{arith}
 use Rattle.layout.proofs.Results.{and_right}
 use Rattle.prepared.proofs.Open.{head_there, no_datas_at, no_groups_at, some_follow}
@@ -15,15 +14,15 @@ use Rattle.store.proofs.+store_entries_store_row.Goals as goal
 pub store_entries-overflow_add-follow : goal.store_entries-overflow_add-follow
 store_entries-overflow_add-follow t c =
     let pre = c.requires in
-    omega (arith, c.number.ensures, some_follow pre.0.0.block, pre.0.2)
+    omega (arith, c.number.ensures, some_follow pre.block_at.0.block, pre.block_at.2)
 
 pub store_entries-loop-due-init : goal.store_entries-loop-due-init
 store_entries-loop-due-init t c =
     let pre = c.requires in
     rw (c.groups_in-groups.ensures, c.datas_in-datas.ensures) (
-      (pre.0.0, pre.0.1, rw c.number.ensures refl, refl, refl),
-      pre.1.1,
-      going_none pre.1.0,
+      (pre.block_at.0, pre.block_at.1, rw c.number.ensures refl, refl, refl),
+      pre.lent,
+      going_none pre.room,
     )
 
 pub store_entries-store_fields-here-requires : goal.store_entries-store_fields-here-requires
@@ -31,11 +30,11 @@ store_entries-store_fields-here-requires t c =
     let inv = c.loop-due.invariant in
     let block = inv.0.0.block in
     let o = entry_open _ _ _ _ _ _ _ _ _ _ c.loop-due-test.true inv.2.room.whole in
-    let both = (
-      (block, fields_fit_lem _ _ _ _ _ _ _ _ (and_right _ _ block.good) (omega arith) inv.0.1 o.within),
-      ((inv.1.short, o.within), going_first inv.2 _ o.same),
-    ) in
-    record { block = both.0;  m_len_bound = both.1;  room = both.2 }
+    record {
+      block = (block, fields_fit_lem _ _ _ _ _ _ _ _ (and_right _ _ block.good) (omega arith) inv.0.1 o.within);
+      m_len_bound = (inv.1.short, o.within);
+      room = going_first inv.2 _ o.same;
+    }
 
 -- The block has neither groups nor data: its fields are all of it.
 pub store_entries-loop-due-preserved-then-follow-eq0 : goal.store_entries-loop-due-preserved-then-follow-eq0
@@ -72,7 +71,7 @@ store_entries-store_datas-here-requires t c =
     let o = entry_open _ _ _ _ _ _ _ _ _ _ c.loop-due-test.true inv.2.room.whole in
     let fields = going_call inv.2 _ o.same c.store_fields-here.ensures.stored in
     let groups = going_call fields _ refl (c.store_row-row.ensures.stored) in
-    record { block = (inv.0.0.block, record { short = inv.1.short; inside = c.store_row-row.ensures.at_in_bounds });  room = going_first groups _ refl }
+    record { block = (inv.0.0.block, record { short = inv.1.short; inside = c.store_row-row.ensures.at_in_bounds }); room = going_first groups _ refl }
 
 pub store_entries-loop-due-preserved : goal.store_entries-loop-due-preserved
 store_entries-loop-due-preserved t c =
@@ -87,14 +86,14 @@ store_entries-loop-due-preserved t c =
 
 pub store_entries-returns : goal.store_entries-returns
 store_entries-returns t c =
-    record { stored = going_end c.loop-due.invariant.2 (stored_none (entries_end _ _ _ _ _ _ _ _ _ _ c.loop-due-test.false));  at_in_bounds = c.loop-due.invariant.1.inside }
+    record { stored = going_end c.loop-due.invariant.2 (stored_none (entries_end _ _ _ _ _ _ _ _ _ _ c.loop-due-test.false)); at_in_bounds = c.loop-due.invariant.1.inside }
 
 pub store_row-loop-left-init : goal.store_row-loop-left-init
 store_row-loop-left-init t c =
     let pre = c.requires in
-    let block = pre.0.0.block in
+    let block = pre.block_at.0.block in
     rw (c.number-g.ensures, c.number-left.ensures)
-    (pre.0.0.row, pre.0.1, going_none pre.1, head_there block, block.sized)
+    (pre.block_at.0.row, pre.block_at.1, going_none pre.room, head_there block, block.sized)
 
 pub store_row-store_answer-here-requires : goal.store_row-store_answer-here-requires
 store_row-store_answer-here-requires t c =
@@ -122,9 +121,12 @@ store_row-overflow_sub-depth t c =
     omega (arith, c.open_row.ensures.deep)
 
 pub store_row-entries_of-entries-requires : goal.store_row-entries_of-entries-requires
-store_row-entries_of-entries-requires t c =
-    (c.open_row.ensures.first, c.loop-left.invariant.1.short, (group_is_open _ _ _ _ _ _ _ _ _ (c.open_row.ensures.tree) (c.loop-left.invariant.2.room.whole)
-    (rw c.number.ensures at c.if-v-number.false)))
+store_row-entries_of-entries-requires t c = (
+  c.open_row.ensures.first,
+  c.loop-left.invariant.1.short,
+  (group_is_open _ _ _ _ _ _ _ _ _ (c.open_row.ensures.tree) (c.loop-left.invariant.2.room.whole)
+      (rw c.number.ensures at c.if-v-number.false)),
+)
 
 pub store_row-dimension_size-requires : goal.store_row-dimension_size-requires
 store_row-dimension_size-requires t c =
@@ -133,8 +135,13 @@ store_row-dimension_size-requires t c =
 pub store_row-overflow_add-start : goal.store_row-overflow_add-start
 store_row-overflow_add-start t c =
     let inv = c.loop-left.invariant in
-    omega (arith, c.dimension_size.ensures, ((group_open _ _ _ _ _ _ _ _ _ (c.open_row.ensures.tree) (c.loop-left.invariant.2.room.whole)
-    (rw c.number.ensures at c.if-v-number.false) _ c.entries_of-entries.ensures)).good.fits, inv.1.short)
+    omega (
+      arith,
+      c.dimension_size.ensures,
+      ((group_open _ _ _ _ _ _ _ _ _ (c.open_row.ensures.tree) (c.loop-left.invariant.2.room.whole)
+          (rw c.number.ensures at c.if-v-number.false) _ c.entries_of-entries.ensures)).good.fits,
+      inv.1.short,
+    )
 
 pub store_row-store_answer-inside-requires : goal.store_row-store_answer-inside-requires
 store_row-store_answer-inside-requires t c =
@@ -196,4 +203,4 @@ store_row-returns t c =
     let end = c.pass_groups.ensures in
     let past = skip_stored _ (groups_end_lem _ _ _ _ _ _ _ (no_groups_at _ _ _ _ c.loop-left-test.false))
     inv.2.room.whole end.0 in
-    record { stored = going_end inv.2 past;  at_in_bounds = end.1 }
+    record { stored = going_end inv.2 past; at_in_bounds = end.1 }

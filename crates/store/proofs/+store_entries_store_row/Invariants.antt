@@ -1,7 +1,7 @@
 -- The storing pass calls itself as the walk does. Of the whole's numbers some are stored, and those of what is left are
 -- to come (`Going`). The measure of a call is the depth left, and within a depth the order of the calls.
 use mathlib.Core.Path.{◌≡◌}
-use Prim.Native.Nat.{◌+◌, ◌-◌, ◌*◌, ◌<◌, ◌≤◌}
+use Prim.Native.Nat.{◌+◌, ◌*◌, ◌<◌, ◌≤◌}
 use lib.ListN.{length}
 use Rattle.layout.specs.Book.{need}
 use Rattle.layout.specs.BookRules.{word}

@@ -8,8 +8,7 @@ returns-in_default c =
     absurd (skip_not_refused _ c.requires.0 c.skip_datas-surplus.ensures.value c.in_default.is)
 
 pub returns : goal.returns
-returns c =
-    (
-      skip_end_lem _ c.requires.0 c.skip_datas-surplus.ensures.value c.in-To.is,
-      (lies_on _ _ _ _ _ c.skip_datas-surplus.ensures.inside c.in-To.is).1,
-    )
+returns c = (
+  skip_end_lem _ c.requires.0 c.skip_datas-surplus.ensures.value c.in-To.is,
+  (lies_on _ _ _ _ _ c.skip_datas-surplus.ensures.inside c.in-To.is).1,
+)

@@ -23,7 +23,7 @@ pub loop-left-init : goal.loop-left-init
 loop-left-init c =
     let pre = c.requires in
     rw (c.number-left.ensures, c.number-d.ensures)
-    (pre.0.0.datas_fit, pre.0.1, going_none pre.1, c.is_big-big.ensures)
+    (pre.block.0.datas_fit, pre.block.1, going_none pre.room, c.is_big-big.ensures)
 
 pub store_answer-here-requires : goal.store_answer-here-requires
 store_answer-here-requires c =
@@ -86,4 +86,4 @@ returns c =
     let end = rw inv.3 at c.pass_datas.ensures in
     let past = skip_stored _ (datas_end_lem _ _ _ _ _ _ (no_datas_at _ _ _ c.loop-left-test.false)) inv.2.room.whole
     end.0 in
-    record { stored = going_end inv.2 past;  at_in_bounds = end.1 }
+    record { stored = going_end inv.2 past; at_in_bounds = end.1 }

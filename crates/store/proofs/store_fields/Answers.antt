@@ -15,7 +15,7 @@ pub loop-left-init : goal.loop-left-init
 loop-left-init c =
     let pre = c.requires in
     rw (c.number-left.ensures, c.number-t.ensures)
-    (pre.0.0, omega arith, omega arith, omega arith, pre.0.1, c.has_lists-listed.ensures, going_none pre.1.1)
+    (pre.block.0, omega arith, omega arith, omega arith, pre.block.1, c.has_lists-listed.ensures, going_none pre.room)
 
 pub store_field-n-requires : goal.store_field-n-requires
 store_field-n-requires c =
@@ -43,4 +43,4 @@ loop-left-preserved c =
 
 pub returns : goal.returns
 returns c =
-    record { stored = going_end c.loop-left.invariant.6 (stored_none (fields_end_lem _ _ _ _ _ _ _ _ c.loop-left-test.false));  at_in_bounds = omega arith }
+    record { stored = going_end c.loop-left.invariant.6 (stored_none (fields_end_lem _ _ _ _ _ _ _ _ c.loop-left-test.false)); at_in_bounds = omega arith }

@@ -1,5 +1,6 @@
 -- The walk refuses the message, or comes to its end.
 use mathlib.Core.Path.{refl, sym}
+use mathlib.Core.List.{[]}
 use Rattle.layout.specs.Result.{◌>>=◌}
 use Rattle.layout.specs.Operations.{checked}
 use Rattle.prepared.proofs.Books.{holds_book}
@@ -9,7 +10,7 @@ use Rattle.stream.proofs.check.Goals as goal
 use Rattle.stream.proofs.check.Goals.{After-enter}
 
 -- What the walk's answer says.
-says : (c : After-enter) → EnteredAs c.args.t1.now c.args.t2.now [] c.enter.result
+says : (c : After-enter) → EnteredAs c.args.p.now c.args.m.now [] c.enter.result
 says c =
     entered_as _ _ _ (holds_book c.requires) _
     c.enter.ensures.value

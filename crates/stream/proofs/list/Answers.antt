@@ -1,5 +1,6 @@
 -- The walk refuses the message, or tells how many records it has: there is room for them, or not.
 use mathlib.Core.Path.{◌∙◌, ap, sym}
+use mathlib.Core.List.{[]}
 use lib.ListN.{length}
 use lib.Seq.{length-sets}
 use native.Mathlib.Omega.{arith}
@@ -11,16 +12,13 @@ use Rattle.stream.proofs.Reading.{list_full, list_refused, list_room, list_store
 use Rattle.stream.proofs.list.Goals as goal
 use Rattle.stream.proofs.list.Goals.{In-At}
 
-start : tie.After-enter → tie.Start
-start c = c.before.before.before.before.before
-
 -- What the walk's answer says.
-enters : (c : In-At) → let s = (start c.After-enter).args in
-    let g = c.block-1.given.0 in
-    Enters s.p.now.now s.m.now.now [] g.0 g.1.0 g.1.1.0 g.1.1.1.0
+enters : (c : In-At) → let s = c.args in
+    let g = c.in-At in
+    Enters s.p.now.now s.m.now.now [] g.block g.version g.records g.spot
 unfolding EnteredAs
 enters c =
-    entered_as _ _ _ (holds_book (start c.After-enter).requires) _ (sym c.in-At.is ∙ c.enter.ensures.value)
+    entered_as _ _ _ (holds_book c.requires) _ (sym c.in-At.is ∙ c.enter.ensures.value)
 
 pub enter-requires : goal.enter-requires
 enter-requires c =
@@ -50,21 +48,21 @@ overflow_mul-root c =
 
 pub store_entries-requires : goal.store_entries-requires
 store_entries-requires c =
-    let room = (start (goal.at.store_entries-requires c).After-enter).args.room.now in
+    let room = c.args.room.now in
     let o = enters (goal.at.store_entries-requires c).In-At in
     let there = list_room o room _ c.count_records-all.ensures c.if-room-all.false in
-    let both = (
-      (o.opens.block, rw (root_found o) o.opens.enough, rw (root_found o) (omega (arith, o.opens.few))),
-      (there, o.opens.lent),
-    ) in
-    record { block_at = both.0;  room = both.1;  lent = both.2 }
+    record {
+      block_at = (o.opens.block, rw (root_found o) o.opens.enough, rw (root_found o) (omega (arith, o.opens.few)));
+      room = there;
+      lent = o.opens.lent;
+    }
 
 pub returns-in-Refused : goal.returns-in-Refused
 unfolding EnteredAs
 returns-in-Refused c =
-    let s = (start (goal.at.returns-in-Refused c).After-enter).args in
+    let s = c.args in
     list_refused s.p.now.now s.m.now.now _ _
-    (entered_as _ _ _ (holds_book (start (goal.at.returns-in-Refused c).After-enter).requires) _ (sym c.in-Refused.is ∙ c.enter.ensures.value))
+    (entered_as _ _ _ (holds_book c.requires) _ (sym c.in-Refused.is ∙ c.enter.ensures.value))
 
 pub shape_of-room : goal.shape_of-room
 shape_of-room c =

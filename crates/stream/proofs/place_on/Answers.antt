@@ -11,16 +11,13 @@ use Rattle.stream.proofs.Slices.{anew}
 use Rattle.stream.proofs.place_on.Goals as goal
 use Rattle.stream.proofs.place_on.Goals.{In-At}
 
-start : tie.After-enter → tie.Start
-start c = c.before.before.before.before.before.before.before.before.before.before
-
 -- What the walk's answer says.
-enters : (c : In-At) → let s = (start c.After-enter).args in
-    let g = c.block-1.given.0 in
-    Enters s.p.now s.m.now s.steps.now g.0 g.1.0 g.1.1.0 g.1.1.1.0
+enters : (c : In-At) → let s = c.args in
+    let g = c.in-At in
+    Enters s.p.now s.m.now s.steps.now g.block g.version g.records g.spot
 unfolding EnteredAs
 enters c =
-    entered_as _ _ _ (holds_book (start c.After-enter).requires.0) _
+    entered_as _ _ _ (holds_book c.requires.0) _
     (sym c.in-At.is ∙ simp anew at c.enter.ensures.value)
 
 pub enter-requires : goal.enter-requires
@@ -30,23 +27,23 @@ enter-requires c =
 
 pub find_place-requires : goal.find_place-requires
 find_place-requires c =
-    ((enters (goal.at.find_place-requires c).In-At).opens.block, (start (goal.at.find_place-requires c).After-enter).requires.1)
+    ((enters (goal.at.find_place-requires c).In-At).opens.block, c.requires.1)
 
 pub returns-in_default : goal.returns-in_default
 returns-in_default c =
     c.no_answer.ensures
-    ∙ sym (place_lacks (enters (goal.at.returns-in_default c).In-At) (start (goal.at.returns-in_default c).After-enter).requires.1 _
+    ∙ sym (place_lacks (enters (goal.at.returns-in_default c).In-At) c.requires.1 _
     (sym c.in_default.is ∙ c.find_place.ensures))
 
 pub returns-then-spot-eq0 : goal.returns-then-spot-eq0
 returns-then-spot-eq0 c =
     c.no_answer-then-spot-eq0.ensures
-    ∙ sym (found_not (sought _ (enters (goal.at.returns-then-spot-eq0 c).In-At) _ (start (goal.at.returns-then-spot-eq0 c).After-enter).requires.1 _
+    ∙ sym (found_not (sought _ (enters (goal.at.returns-then-spot-eq0 c).In-At) _ c.requires.1 _
     (sym c.in-At-find_place.is ∙ c.find_place.ensures)) c.if-spot-eq0.true)
 
 pub element_at-requires : goal.element_at-requires
 element_at-requires c =
-    let q = sought _ (enters (goal.at.element_at-requires c).In-At) _ (start (goal.at.element_at-requires c).After-enter).requires.1 _
+    let q = sought _ (enters (goal.at.element_at-requires c).In-At) _ c.requires.1 _
     (sym c.in-At-find_place.is ∙ c.find_place.ensures) in
     let r = stands_there q c.if-spot-eq0.false in
     simp anew (r.accepted, r.has)
@@ -54,14 +51,14 @@ element_at-requires c =
 pub returns-in-Refused : goal.returns-in-Refused
 unfolding EnteredAs place_asked found ◌>>=◌
 returns-in-Refused c =
-    let e = entered_as _ _ _ (holds_book (start (goal.at.returns-in-Refused c).After-enter).requires.0) _
+    let e = entered_as _ _ _ (holds_book c.requires.0) _
     (sym c.in-Refused.is ∙ simp anew at c.enter.ensures.value) in
     sym (rw e refl)
 
 pub returns-else-spot-eq0 : goal.returns-else-spot-eq0
 unfolding found
 returns-else-spot-eq0 c =
-    let q = sought _ (enters (goal.at.returns-else-spot-eq0 c).In-At) _ (start (goal.at.returns-else-spot-eq0 c).After-enter).requires.1 _
+    let q = sought _ (enters (goal.at.returns-else-spot-eq0 c).In-At) _ c.requires.1 _
     (sym c.in-At-find_place.is ∙ c.find_place.ensures) in
     let r = stands_there q c.if-spot-eq0.false in
     ap Found.Is (simp anew at c.element_at.ensures) ∙ sym (rw r.is refl)

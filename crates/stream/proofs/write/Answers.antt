@@ -7,10 +7,7 @@ use Rattle.stream.proofs.Writing.{write_block, write_found, write_unknown}
 use Rattle.stream.proofs.write.Goals as goal
 use Rattle.stream.proofs.write.Goals.{In-At}
 
-start : tie.After-known-told → tie.Start
-start c = c.before.before.before.before.before.before.before.before
-
-known_block : (c : In-At) → At c.in-At.a ≡ location_of (start c.In-At).args.p.now (start c.In-At).args.id
+known_block : (c : In-At) → At c.in-At.a ≡ location_of c.args.p.now c.args.id
 known_block c =
     sym c.in-At.is ∙ c.find.ensures
 
@@ -26,8 +23,8 @@ returns-in_default c =
 
 pub write_by-requires : goal.write_by-requires
 write_by-requires c =
-    write_block _ (start (goal.at.write_by-requires c).In-At).requires _ _ (known_block (goal.at.write_by-requires c).In-At)
+    write_block _ c.requires _ _ (known_block (goal.at.write_by-requires c).In-At)
 
 pub returns : goal.returns
 returns c =
-    write_found _ (start (goal.at.returns c).In-At).requires _ _ (known_block (goal.at.returns c).In-At) _ _ _ _ _ c.write_by.ensures
+    write_found _ c.requires _ _ (known_block (goal.at.returns c).In-At) _ _ _ _ _ c.write_by.ensures

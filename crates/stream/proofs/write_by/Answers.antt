@@ -1,34 +1,21 @@
 -- Each way out is one law on what the judging came to.
 use mathlib.Core.Path.{◌∙◌, sym, refl}
-use Prim.Native.Nat.{◌+◌, ◌≤◌}
 use native.Mathlib.Omega.{arith}
-use lib.ListN.{length}
 use lib.Seq.{length-take-le}
 use Rattle.stream.proofs.Slices.{anew}
 use Rattle.stream.proofs.Writing.{IsGood, write_done, write_fits, write_full, write_long}
 use Rattle.stream.proofs.Writing.{write_ready, write_refused, write_small}
 use Rattle.stream.proofs.write_by.Goals as goal
-use Rattle.stream.proofs.write_by.Goals.{After-put_zeros, In-To}
+use Rattle.stream.proofs.write_by.Goals.{In-To}
 
-start : tie.After-judge-listing → tie.Start
-start c = c.before.before.before.before.before.before.before.before.before.before.before
-
-good : (c : In-To) → let a = (start c.After-judge_listing).args in
+good : (c : In-To) → let a = c.args in
     IsGood a.p.now a.a a.listing.now a.pool.now a.room.now c.in-To.next
     c.in-To.length
 good c =
     record {
-      block = (start c.After-judge_listing).requires;
+      block = c.requires;
       is = sym c.in-To.is ∙ c.judge_listing.ensures ∙ simp anew;
     }
-
-told_of : tie.After-put-zeros → tie.After-known-told2
-told_of c = c.before.before.before.before
-
-fits : (c : After-put_zeros) → 12 + (told_of c.After-put_zeros).before.length.given.0.1.0 ≤ length c.put_zeros.new.0
-fits c =
-    write_fits (good (told_of c.After-put_zeros)) c.if-n-gt65535.false c.if-room-n.false _
-    c.put_zeros.ensures
 
 pub judge_listing-requires : goal.judge_listing-requires
 judge_listing-requires c =
@@ -48,28 +35,24 @@ returns-then-room-n c =
 
 pub slice_bounds-write_message-end-in-To : goal.slice_bounds-write_message-end-in-To
 slice_bounds-write_message-end-in-To c =
-    sym (length-take-le _ _ (fits (goal.at.slice_bounds-write_message-end-in-To c).After-put_zeros))
+    let g = good (goal.at.slice_bounds-write_message-end-in-To c).In-To in
+    sym (length-take-le _ _ (write_fits g c.if-n-gt65535.false c.if-room-n.false _ c.put_zeros.ensures))
 
 pub write_message-requires : goal.write_message-requires
 write_message-requires c =
-    let g = good (told_of (goal.at.write_message-requires c).After-put_zeros) in
-    record { block_at = (simp anew (
-      g.block,
-      write_ready g c.if-n-gt65535.false c.if-room-n.false _
-          c.put_zeros.ensures,
-    )).0;  ready = (simp anew (
-      g.block,
-      write_ready g c.if-n-gt65535.false c.if-room-n.false _
-          c.put_zeros.ensures,
-    )).1 }
+    let g = good (goal.at.write_message-requires c).In-To in
+    record {
+      block_at = simp anew g.block;
+      ready = simp anew (write_ready g c.if-n-gt65535.false c.if-room-n.false _ c.put_zeros.ensures);
+    }
 
 pub returns-in-Refused : goal.returns-in-Refused
 returns-in-Refused c =
-    let a = (start (goal.at.returns-in-Refused c).After-judge_listing).args in
+    let a = c.args in
     write_refused a.p.now a.a a.listing.now a.pool.now a.room.now _
     (sym c.in-Refused.is ∙ c.judge_listing.ensures ∙ simp anew)
 
 pub returns-else-room-n : goal.returns-else-room-n
 returns-else-room-n c =
-    write_done (good (told_of (goal.at.returns-else-room-n c).After-put_zeros)) c.if-n-gt65535.false c.if-room-n.false _
+    write_done (good (goal.at.returns-else-room-n c).In-To) c.if-n-gt65535.false c.if-room-n.false _
     c.put_zeros.ensures _ _ (c.write_message.ensures ∙ simp anew) refl

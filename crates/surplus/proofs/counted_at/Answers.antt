@@ -3,7 +3,6 @@ use mathlib.Core.Path.{◌∙◌, ◌≡◌, refl, sym}
 use mathlib.Core.Bool.{Bool, false, true}
 use native.Mathlib.Omega.{arith}
 use lib.Dec.{ltb}
-use borrow.Author.Tests.{not-false, not-true}
 use Rattle.layout.specs.Octets.{null16}
 use Rattle.layout.specs.Message.{read_dimension}
 use Rattle.layout.specs.Result.{◌>>=◌, ◌and◌, done, must}
@@ -43,19 +42,19 @@ returns-then-m-at-lt8 c =
 pub returns-then-not-are_whole : goal.returns-then-not-are_whole
 unfolding dimensioned must ◌>>=◌ ◌and◌
 returns-then-not-are_whole c =
-    let none = sym c.are_whole.ensures ∙ not-true _ c.if-not-are_whole.true in
+    let none = sym c.are_whole.ensures ∙ c.if-not-are_whole.true in
     c.no_dimension-then-not-are_whole.ensures ∙ sym (rw (by (goal.at.returns-then-not-are_whole c).After-sizes_at-counts false _ none refl) refl)
 
 pub returns-then-not-are_whole-2 : goal.returns-then-not-are_whole-2
 unfolding dimensioned must ◌>>=◌ ◌and◌
 returns-then-not-are_whole-2 c =
-    let some = sym c.are_whole.ensures ∙ not-false _ c.if-not-are_whole.false in
-    let none = sym c.are_whole-2.ensures ∙ not-true _ c.if-not-are_whole-2.true in
+    let some = sym c.are_whole.ensures ∙ c.if-not-are_whole.false in
+    let none = sym c.are_whole-2.ensures ∙ c.if-not-are_whole-2.true in
     c.no_dimension-then-not-are_whole-2.ensures ∙ sym (rw (by (goal.at.returns-then-not-are_whole-2 c).After-sizes_at-counts true false some none) refl)
 
 pub returns : goal.returns
 unfolding dimensioned must ◌>>=◌ ◌and◌
 returns c =
-    let some = sym c.are_whole.ensures ∙ not-false _ c.if-not-are_whole.false in
-    let none = sym c.are_whole-2.ensures ∙ not-false _ c.if-not-are_whole-2.false in
+    let some = sym c.are_whole.ensures ∙ c.if-not-are_whole.false in
+    let none = sym c.are_whole-2.ensures ∙ c.if-not-are_whole-2.false in
     sym (rw (by (goal.at.returns c).After-sizes_at-counts true true some none) refl)

@@ -14,10 +14,10 @@ unfolding walked must ◌>>=◌
 returns-then-m-start c =
     let s = c.args in
     let both = refuses _ _ _ c.refuse.ensures (rw (lt-leb (s.start + s.size) (length s.m.now) (omega arith)) refl) in
-    record { value = both.0;  inside = both.1 }
+    record { value = both.0; inside = both.1 }
 
 pub returns : goal.returns
 unfolding Inside walked must ◌>>=◌
 returns c =
     let s = c.args in
-    record { value = sym (rw (le-leb (s.start + s.size) (length s.m.now) (omega arith)) refl);  inside = (omega arith, omega arith) }
+    record { value = sym (rw (le-leb (s.start + s.size) (length s.m.now) (omega arith)) refl); inside = (omega arith, omega arith) }

@@ -2,7 +2,6 @@
 use mathlib.Core.Path.{◌∙◌, ◌≡◌, refl, sym}
 use mathlib.Core.Bool.{Bool, false, true}
 use native.Mathlib.Omega.{arith}
-use borrow.Author.Tests.{not-false, not-true}
 use Rattle.layout.specs.Message.{read_dimension}
 use Rattle.layout.specs.Result.{◌>>=◌, ◌and◌, done, must}
 use Rattle.surplus.specs.Surplus.{dimensioned}
@@ -45,9 +44,9 @@ returns-then-m-at-lt4 c =
 pub returns-then-not-are_whole : goal.returns-then-not-are_whole
 unfolding dimensioned must ◌>>=◌ ◌and◌
 returns-then-not-are_whole c =
-    c.no_dimension-then-not-are_whole.ensures ∙ sym (rw (by (goal.at.returns-then-not-are_whole c).After-are_whole false (not-true _ c.if-not-are_whole.true)) refl)
+    c.no_dimension-then-not-are_whole.ensures ∙ sym (rw (by (goal.at.returns-then-not-are_whole c).After-are_whole false c.if-not-are_whole.true) refl)
 
 pub returns : goal.returns
 unfolding dimensioned must ◌>>=◌ ◌and◌
 returns c =
-    sym (rw (by (goal.at.returns c).After-are_whole true (not-false _ c.if-not-are_whole.false)) refl)
+    sym (rw (by (goal.at.returns c).After-are_whole true c.if-not-are_whole.false) refl)

@@ -1,5 +1,5 @@
 -- What is left of the data is passed as all of them are.
-use mathlib.Core.Path.{◌∙◌, refl, sym}
+use mathlib.Core.Path.{refl}
 use native.Mathlib.Omega.{arith}
 use Rattle.layout.specs.Result.{◌>>=◌}
 use Rattle.wire.proofs.Answers.{inv_refused, inv_to, lies_on}
@@ -13,20 +13,18 @@ loop-left-init c =
 pub returns-in_default : goal.returns-in_default
 unfolding ◌>>=◌
 returns-in_default c =
-    let e = c.in_default.is in
-    let both = skips_refused c.loop-left.invariant c.loop-left-test.true _ _ e
-    (rw (inv_refused _ _ _ (sym e ∙ c.read_data-data.ensures.value)) refl) in
-    record { value = both.0;  inside = both.1 }
+    let both = skips_refused c.loop-left.invariant c.loop-left-test.true _ _ c.in_default.is
+    (rw (inv_refused _ _ _ c.in_default.ensures.value) refl) in
+    record { value = both.0; inside = both.1 }
 
 pub loop-left-preserved : goal.loop-left-preserved
 unfolding ◌>>=◌
 loop-left-preserved c =
-    let e = c.in-To.is in
-    let to = inv_to _ _ _ _ (sym e ∙ c.read_data-data.ensures.value) in
-    let on = lies_on _ _ _ _ _ c.read_data-data.ensures.inside e in
+    let to = inv_to _ _ _ _ c.in-To.ensures.value in
+    let on = lies_on _ _ _ _ _ c.read_data-data.ensures.inside c.in-To.is in
     skips_on c.loop-left.invariant c.loop-left-test.true _ (rw (to.is, to.next) refl) on.0 on.1
 
 pub returns : goal.returns
 returns c =
     let both = skips_end c.loop-left.invariant c.loop-left-test.false in
-    record { value = both.0;  inside = both.1 }
+    record { value = both.0; inside = both.1 }

@@ -6,4 +6,4 @@ use Rattle.surplus.proofs.skip_groups.Goals as goal
 pub returns-then-n-eq0 : goal.returns-then-n-eq0
 returns-then-n-eq0 c =
     let both = skips_end {m = c.args.m.now} (skips_first _ _ (omega arith)) (omega arith) in
-    record { value = both.0;  inside = both.1 }
+    record { value = both.0; inside = both.1 }

@@ -4,7 +4,6 @@ use mathlib.Core.Path.{sym, ◌∙◌, refl}
 use Prim.Native.Nat.{◌≤◌}
 use native.Mathlib.Nat.{mul-le-mul_right}
 use native.Mathlib.Omega.{arith}
-use Rattle.prepared.specs.Positions.{is_big}
 use Rattle.prepared.proofs.Accepted.{fields_length}
 use Rattle.prepared.proofs.Open.{head_there, no_groups_at, some_follow}
 use Rattle.wire.proofs.Answers.{lies_on}
@@ -18,20 +17,15 @@ use Rattle.walk.proofs.+pass_row_walk_entries_walk_row.Goals as goal
 pub pass_row-returns-then-n-surplus-eq0 : goal.pass_row-returns-then-n-surplus-eq0
 pass_row-returns-then-n-surplus-eq0 t c =
     let pre = c.requires in
-    let no-group : c.args.n ≤ 0 = omega (arith, c.if-n-surplus-eq0.true) in
-    let no-surplus : c.args.surplus ≤ 0 = omega (arith, c.if-n-surplus-eq0.true) in
+    let no_group : c.args.n ≤ 0 = omega (arith, c.if-n-surplus-eq0.true) in
+    let no_surplus : c.args.surplus ≤ 0 = omega (arith, c.if-n-surplus-eq0.true) in
     let both = way_ends (way_starts _ _ _ _ pre.1.inside)
-    (groups_done c.args.p.now.now _ _ _ _ _ _ _ (no_groups_at _ _ _ _ no-group) no-surplus) in
-    record { value = both.0;  bounded = both.1 }
+    (groups_done c.args.p.now.now _ _ _ _ _ _ _ (no_groups_at _ _ _ _ no_group) no_surplus) in
+    record { value = both.0; bounded = both.1 }
 
 pub pass_row-walk_row-requires : goal.pass_row-walk_row-requires
 pass_row-walk_row-requires t c =
     (omega arith, c.requires)
-
-pub pass_row-returns : goal.pass_row-returns
-pass_row-returns t c =
-    let both = c.walk_row.ensures in
-    record { value = both.0;  bounded = both.1 }
 
 -- Few groups and data follow.
 pub walk_entries-overflow_add-number : goal.walk_entries-overflow_add-number
@@ -53,19 +47,11 @@ pub walk_entries-returns-then-l-k : goal.walk_entries-returns-then-l-k
 walk_entries-returns-then-l-k t c =
     let both = plain_walked _ _ _ _ _ _ _ _ _ c.requires.0.block c.number-fields.ensures
     c.number.ensures c.if-number-entries-eq0.true (omega arith) in
-    record { value = both.0;  bounded = both.1 }
+    record { value = both.0; bounded = both.1 }
 
 pub walk_entries-is_big-big-requires : goal.walk_entries-is_big-big-requires
 walk_entries-is_big-big-requires t c =
     omega (arith, head_there c.requires.0.block)
-
-pub walk_entries-groups_in-groups-requires : goal.walk_entries-groups_in-groups-requires
-walk_entries-groups_in-groups-requires t c =
-    tt
-
-pub walk_entries-datas_in-datas-requires : goal.walk_entries-datas_in-datas-requires
-walk_entries-datas_in-datas-requires t c =
-    tt
 
 pub walk_entries-loop-due-init : goal.walk_entries-loop-due-init
 walk_entries-loop-due-init t c =
@@ -81,16 +67,12 @@ walk_entries-loop-due-init t c =
       way_starts _ _ _ _ c.requires.1.inside,
     )
 
-pub walk_entries-refuse-requires : goal.walk_entries-refuse-requires
-walk_entries-refuse-requires t c =
-    tt
-
 pub walk_entries-returns-then-t-at : goal.walk_entries-returns-then-t-at
 walk_entries-returns-then-t-at t c =
     let both = rw (c.groups_in-groups.ensures, c.datas_in-datas.ensures) at
     (way_refused c.loop-due.invariant.8 _ c.refuse.ensures
     (entry_short _ _ _ _ _ _ _ _ _ _ c.loop-due-test.true (omega arith))) in
-    record { value = both.0;  bounded = both.1 }
+    record { value = both.0; bounded = both.1 }
 
 pub walk_entries-pass_row-row-requires : goal.walk_entries-pass_row-row-requires
 walk_entries-pass_row-row-requires t c =
@@ -111,7 +93,7 @@ walk_entries-returns-in_default t c =
     let both = rw (c.groups_in-groups.ensures, c.datas_in-datas.ensures) at
     (way_refused c.loop-due.invariant.8 _ c.in_default.is
     (entry_row_lem _ _ _ _ _ _ _ _ _ _ c.loop-due-test.true (omega arith) _ (sym c.in_default.is ∙ row))) in
-    record { value = both.0;  bounded = both.1 }
+    record { value = both.0; bounded = both.1 }
 
 pub walk_entries-walk_datas-rest-requires : goal.walk_entries-walk_datas-rest-requires
 walk_entries-walk_datas-rest-requires t c =
@@ -135,7 +117,7 @@ walk_entries-returns-in_default-rest t c =
     (way_refused inv.8 _ c.in_default-rest.is
     (entry_datas _ _ _ _ _ _ _ _ _ _ c.loop-due-test.true (omega arith) _ _ (sym c.in-To.is ∙ row) _
     (sym c.in_default-rest.is ∙ datas))) in
-    record { value = both.0;  bounded = both.1 }
+    record { value = both.0; bounded = both.1 }
 
 pub walk_entries-total-seen-requires : goal.walk_entries-total-seen-requires
 walk_entries-total-seen-requires t c =
@@ -172,7 +154,7 @@ pub walk_entries-returns : goal.walk_entries-returns
 walk_entries-returns t c =
     let both = rw (c.groups_in-groups.ensures, c.datas_in-datas.ensures) at
     (way_ends c.loop-due.invariant.8 (entries_end _ _ _ _ c.loop-due-test.false)) in
-    record { value = both.0;  bounded = both.1 }
+    record { value = both.0; bounded = both.1 }
 
 pub walk_row-loop-left-init : goal.walk_row-loop-left-init
 walk_row-loop-left-init t c =
@@ -190,7 +172,7 @@ walk_row-loop-left-preserved-then-v-number t c =
       inv.3,
       inv.4,
       way_on inv.5 _ _ _
-          (row_absent ((c.args.p.now.now)) _ _ _ _ _ _ _ _ _ _ _ opened.tree _
+          (row_absent c.args.p.now.now _ _ _ _ _ _ _ _ _ _ _ opened.tree _
           (rw c.number.ensures at c.if-v-number.true))
           (omega arith) inv.5.inside (omega arith),
     )
@@ -203,10 +185,10 @@ walk_row-open_group-requires t c =
 pub walk_row-returns-in-Refused : goal.walk_row-returns-in-Refused
 walk_row-returns-in-Refused t c =
     let both = way_refused c.loop-left.invariant.5 _ refl
-    (row_dimension ((c.args.p.now.now)) _ _ _ _ _ _ _ _ _ _ _ c.open_row.ensures.tree _
+    (row_dimension c.args.p.now.now _ _ _ _ _ _ _ _ _ _ _ c.open_row.ensures.tree _
     (rw c.number.ensures at c.if-v-number.false) _
-    (sym c.in-Refused.is ∙ c.open_group.ensures)) in
-    record { value = both.0;  bounded = both.1 }
+    c.in-Refused.ensures) in
+    record { value = both.0; bounded = both.1 }
 
 pub walk_row-dimension_size-requires : goal.walk_row-dimension_size-requires
 walk_row-dimension_size-requires t c =
@@ -216,14 +198,14 @@ pub walk_row-overflow_add-inside : goal.walk_row-overflow_add-inside
 walk_row-overflow_add-inside t c =
     let inv = c.loop-left.invariant in
     let good = group_good _ _ _ _ _ _ _ _ _
-    (inv_open _ _ (sym c.in-Of.is ∙ c.open_group.ensures)) in
+    (inv_open _ _ c.in-Of.ensures) in
     omega (arith, good.fits, c.dimension_size.ensures, inv.1)
 
 pub walk_row-walk_entries-walked-requires : goal.walk_row-walk_entries-walked-requires
 walk_row-walk_entries-walked-requires t c =
     let inv = c.loop-left.invariant in
     let good = group_good _ _ _ _ _ _ _ _ _
-    (inv_open _ _ (sym c.in-Of.is ∙ c.open_group.ensures)) in (
+    (inv_open _ _ c.in-Of.ensures) in (
       omega (arith, c.open_row.ensures.deep),
       (
         c.open_row.ensures.first,
@@ -235,17 +217,17 @@ walk_row-walk_entries-walked-requires t c =
 pub walk_row-returns-in_default : goal.walk_row-returns-in_default
 walk_row-returns-in_default t c =
     let both = way_refused c.loop-left.invariant.5 _ c.in_default.is
-    (row_entries ((c.args.p.now.now)) _ _ _ _ _ _ _ _ _ _ _ c.open_row.ensures.tree _
+    (row_entries c.args.p.now.now _ _ _ _ _ _ _ _ _ _ _ c.open_row.ensures.tree _
     (rw c.number.ensures at c.if-v-number.false) _
-    (sym c.in-Of.is ∙ c.open_group.ensures) _
+    c.in-Of.ensures _
     (sym c.in_default.is ∙ rw c.dimension_size.ensures at c.walk_entries-walked.ensures.value)) in
-    record { value = both.0;  bounded = both.1 }
+    record { value = both.0; bounded = both.1 }
 
 pub walk_row-overflow_add-seen-in-Of : goal.walk_row-overflow_add-seen-in-Of
 walk_row-overflow_add-seen-in-Of t c =
     let inv = c.loop-left.invariant in
     let good = group_good _ _ _ _ _ _ _ _ _
-    (inv_open _ _ (sym c.in-Of.is ∙ c.open_group.ensures)) in
+    (inv_open _ _ c.in-Of.ensures) in
     let on = leads _ _ _ _ _ _ c.walk_entries-walked.ensures.bounded c.in-To.is in
     omega (arith, good.few, c.dimension_size.ensures)
 
@@ -264,7 +246,7 @@ walk_row-loop-left-preserved t c =
       inv.3,
       inv.4,
       way_on inv.5 _ _ _
-          (row_next ((c.args.p.now.now)) _ _ _ _ _ _ _ _ _ _ _ opened.tree _ full _ is _ _
+          (row_next c.args.p.now.now _ _ _ _ _ _ _ _ _ _ _ opened.tree _ full _ is _ _
           (sym c.in-To.is ∙ next))
           (omega (arith, c.dimension_size.ensures)) on.1
           (omega (
@@ -291,16 +273,16 @@ pub walk_row-returns-in_default-others : goal.walk_row-returns-in_default-others
 walk_row-returns-in_default-others t c =
     let none = no_groups_at _ _ _ _ c.loop-left-test.false in
     let both = way_refused c.loop-left.invariant.5 _ c.in_default-others.is
-    (groups_refused ((c.args.p.now.now)) _ _ _ _ _ _ _ none _ (sym c.in_default-others.is
+    (groups_refused c.args.p.now.now _ _ _ _ _ _ _ none _ (sym c.in_default-others.is
     ∙ rw (c.is_counted.ensures, c.is_big.ensures) at c.skip_groups-others.ensures.value)) in
-    record { value = both.0;  bounded = both.1 }
+    record { value = both.0; bounded = both.1 }
 
 pub walk_row-returns : goal.walk_row-returns
 walk_row-returns t c =
     let w = c.loop-left.invariant.5 in
     let none = no_groups_at _ _ _ _ c.loop-left-test.false in
     let on = lies_on _ _ _ _ _ c.skip_groups-others.ensures.inside c.in-To-others.is in
-    let both = way_ends (way_on w _ 0 _ (groups_end_lem ((c.args.p.now.now)) _ _ _ _ _ _ _ none _ _ (sym c.in-To-others.is
+    let both = way_ends (way_on w _ 0 _ (groups_end_lem c.args.p.now.now _ _ _ _ _ _ _ none _ _ (sym c.in-To-others.is
     ∙ rw (c.is_counted.ensures, c.is_big.ensures) at c.skip_groups-others.ensures.value))
     on.0 on.1 (omega (arith, on.0))) refl in
-    record { value = both.0;  bounded = both.1 }
+    record { value = both.0; bounded = both.1 }

@@ -1,5 +1,5 @@
 -- What is left of the data answers as all of them do, the book's own that were passed being counted.
-use mathlib.Core.Path.{◌≡◌, refl, sym, ◌∙◌}
+use mathlib.Core.Path.{◌≡◌, refl}
 use Prim.Native.Nat.{ℕ, ◌+◌, ◌-◌, ◌≤◌}
 use native.Mathlib.Omega.{arith}
 use borrow.Author.Tests.{ltb-true}
@@ -9,9 +9,9 @@ use Rattle.walk.proofs.Ways.{way_ends, way_on, way_refused, way_starts}
 use Rattle.walk.proofs.walk_datas.Goals as goal
 
 -- One less is left: if it was the book's own, one more was passed.
-counted-on : (n left s : ℕ) → left ≤ n + s
+counted_on : (n left s : ℕ) → left ≤ n + s
     → (n - (left - s) + (left - s - (left - 1 - s)) ≡ n - (left - 1 - s)) × (left - 1 - s ≤ left - s)
-counted-on n left s h = (omega arith, omega arith)
+counted_on n left s h = (omega arith, omega arith)
 
 pub loop-left-init : goal.loop-left-init
 loop-left-init c =
@@ -34,25 +34,23 @@ pub pass_data-data-requires : goal.pass_data-data-requires
 pass_data-data-requires c =
     let inv = c.loop-left.invariant in (
       λ own. let a = c.args in
-          let some-own = ltb-true a.surplus c.loop-left.left own in omega (arith, inv.0, inv.5, some-own),
+          let some_own = ltb-true a.surplus c.loop-left.left own in omega (arith, inv.0, inv.5, some_own),
       inv.6.inside,
     )
 
 pub returns-in_default : goal.returns-in_default
 returns-in_default c =
-    let e = c.in_default.is in
-    let both = way_refused c.loop-left.invariant.6 _ e
-    (datas_over_refused _ _ _ _ _ _ _ _ _ c.loop-left-test.true _ refl _ (sym e ∙ c.pass_data-data.ensures.value)) in
-    record { value = both.0;  bounded = both.1 }
+    let both = way_refused c.loop-left.invariant.6 _ c.in_default.is
+    (datas_over_refused _ _ _ _ _ _ _ _ _ c.loop-left-test.true _ refl _ c.in_default.ensures.value) in
+    record { value = both.0; bounded = both.1 }
 
 pub loop-left-preserved : goal.loop-left-preserved
 loop-left-preserved c =
     let inv = c.loop-left.invariant in
     let a = c.args in
     let left = c.loop-left.left in
-    let e = c.in-To.is in
-    let on = lies_on _ _ _ _ _ c.pass_data-data.ensures.inside e in
-    let seen = counted-on a.n left a.surplus inv.4 in (
+    let on = lies_on _ _ _ _ _ c.pass_data-data.ensures.inside c.in-To.is in
+    let seen = counted_on a.n left a.surplus inv.4 in (
       inv.0,
       inv.1,
       inv.2,
@@ -60,7 +58,7 @@ loop-left-preserved c =
       omega arith,
       omega (arith, inv.5, c.loop-left-test.true),
       rw (← seen.0) (way_on inv.6 _ _ _
-          (datas_over_next _ _ _ _ _ _ _ _ _ c.loop-left-test.true _ refl _ _ (sym e ∙ c.pass_data-data.ensures.value))
+          (datas_over_next _ _ _ _ _ _ _ _ _ c.loop-left-test.true _ refl _ _ c.in-To.ensures.value)
           on.0 on.1 (omega (arith, on.0, seen.1))),
     )
 
@@ -70,4 +68,4 @@ returns c =
     let a = c.args in
     let all : a.n - (c.loop-left.left - a.surplus) ≡ a.n = omega (arith, c.loop-left-test.false) in
     let both = rw all at (way_ends inv.6 (datas_over _ _ _ _ _ _ _ _ _ c.loop-left-test.false)) in
-    record { value = both.0;  bounded = both.1 }
+    record { value = both.0; bounded = both.1 }

@@ -36,13 +36,13 @@ unfolding read_data walked must ◌>>=◌
 returns-then-left-lt2 c =
     let s = c.args in
     let both = refuses _ _ _ c.refuse.ensures (rw (lt-leb (s.at + 2) (length s.m.now) (omega arith)) refl) in
-    record { value = both.0;  inside = both.1 }
+    record { value = both.0; inside = both.1 }
 
 pub returns-then-n-ge65535 : goal.returns-then-n-ge65535
 unfolding walked must ◌>>=◌
 returns-then-n-ge65535 c =
     let both = refuses _ _ _ c.refuse-then-n-ge65535.ensures (by (goal.at.returns-then-n-ge65535 c).After-data_length-n false _ (le-ltb _ _ c.if-n-ge65535.true) refl) in
-    record { value = both.0;  inside = both.1 }
+    record { value = both.0; inside = both.1 }
 
 pub returns-then-left-n : goal.returns-then-left-n
 unfolding walked must ◌>>=◌
@@ -51,10 +51,10 @@ returns-then-left-n c =
     let both = refuses _ _ _ c.refuse-then-left-n.ensures
     (by (goal.at.returns-then-left-n c).After-data_length-n true false (some_length (goal.at.returns-then-left-n c).Else-n-ge65535)
     (lt-leb _ (length s.m.now) (omega arith))) in
-    record { value = both.0;  inside = both.1 }
+    record { value = both.0; inside = both.1 }
 
 pub returns : goal.returns
 unfolding Inside walked must ◌>>=◌
 returns c =
     let s = c.args in
-    record { value = sym (by (goal.at.returns c).After-data_length-n true true (some_length (goal.at.returns c).Else-n-ge65535) (le-leb _ (length s.m.now) (omega arith)));  inside = (omega arith, omega arith) }
+    record { value = sym (by (goal.at.returns c).After-data_length-n true true (some_length (goal.at.returns c).Else-n-ge65535) (le-leb _ (length s.m.now) (omega arith))); inside = (omega arith, omega arith) }

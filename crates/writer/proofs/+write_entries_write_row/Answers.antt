@@ -17,12 +17,12 @@ write_entries-head_at-block-requires t c =
 pub write_entries-loop-due-init : goal.write_entries-loop-due-init
 write_entries-loop-due-init t c =
     let pre = c.requires in
-    ((pre.0.0, c.head_at-block.ensures), pre.0.1, going_none pre.1)
+    ((pre.block_at.0, c.head_at-block.ensures), pre.block_at.1, going_none pre.room)
 
 pub write_entries-write_block-here-requires : goal.write_entries-write_block-here-requires
 write_entries-write_block-here-requires t c =
     let inv = c.loop-due.invariant in
-    record { block = (inv.0.0.block, inv.0.1, inv.1);  room = going_first inv.2 _ (entries_step _ _ _ _ _ _ _ c.loop-due-test.true) }
+    record { block = (inv.0.0.block, inv.0.1, inv.1); room = going_first inv.2 _ (entries_step _ _ _ _ _ _ _ c.loop-due-test.true) }
 
 -- The block has neither groups nor data: its fields are all of it.
 pub write_entries-loop-due-preserved-then-block-eq0 : goal.write_entries-loop-due-preserved-then-block-eq0
@@ -42,8 +42,7 @@ pub write_entries-write_row-row-requires : goal.write_entries-write_row-row-requ
 write_entries-write_row-row-requires t c =
     let inv = c.loop-due.invariant in
     let fields = c.write_block-here.ensures in
-    let laid = going_call inv.2 _ (entries_step _ _ _ _ _ _ _ c.loop-due-test.true) fields in
-    (
+    let laid = going_call inv.2 _ (entries_step _ _ _ _ _ _ _ c.loop-due-test.true) fields in (
       omega (arith, c.decreases),
       ((inv.0.0, zeros_on inv.1 fields), going_first laid _ refl),
     )
@@ -54,7 +53,7 @@ write_entries-write_datas-here-requires t c =
     let fields = c.write_block-here.ensures in
     let laid = going_call inv.2 _ (entries_step _ _ _ _ _ _ _ c.loop-due-test.true) fields in
     let groups = going_call laid _ refl (c.write_row-row.ensures) in
-    record { block = inv.0.0.block;  room = rw datas_length_lem at (going_first groups _ refl) }
+    record { block = inv.0.0.block; room = rw datas_length_lem at (going_first groups _ refl) }
 
 pub write_entries-loop-due-preserved : goal.write_entries-loop-due-preserved
 write_entries-loop-due-preserved t c =
@@ -75,7 +74,7 @@ write_entries-returns t c =
 pub write_row-loop-left-init : goal.write_row-loop-left-init
 write_row-loop-left-init t c =
     let pre = c.requires in
-    rw (c.number-g.ensures, c.number-left.ensures) (pre.0.0.row, pre.0.1, going_none pre.1)
+    rw (c.number-g.ensures, c.number-left.ensures) (pre.block_at.0.row, pre.block_at.1, going_none pre.room)
 
 pub write_row-overflow_sub-below : goal.write_row-overflow_sub-below
 write_row-overflow_sub-below t c =
@@ -87,13 +86,11 @@ write_row-number_of-k-requires t c =
 
 pub write_row-put_dimension-inside-requires : goal.write_row-put_dimension-inside-requires
 write_row-put_dimension-inside-requires t c =
-    record { block_at = (rw c.number_of-k.ensures.0 (
-      (c.open_row.ensures.first, c.number_of-k.ensures.1),
-      going_first (c.loop-left.invariant.2) _ (((group_open _ _ _ _ _ _ _ _ _ c.open_row.ensures.tree c.loop-left.invariant.2.room.whole)).same),
-    )).0;  room = (rw c.number_of-k.ensures.0 (
-      (c.open_row.ensures.first, c.number_of-k.ensures.1),
-      going_first (c.loop-left.invariant.2) _ (((group_open _ _ _ _ _ _ _ _ _ c.open_row.ensures.tree c.loop-left.invariant.2.room.whole)).same),
-    )).1 }
+    let inv = c.loop-left.invariant in
+    record {
+      block_at = (c.open_row.ensures.first, c.number_of-k.ensures.1);
+      room = rw c.number_of-k.ensures.0 (going_first inv.2 _ ((group_open _ _ _ _ _ _ _ _ _ c.open_row.ensures.tree inv.2.room.whole).same));
+    }
 
 pub write_row-write_entries-here-requires : goal.write_row-write_entries-here-requires
 write_row-write_entries-here-requires t c =
@@ -104,7 +101,7 @@ write_row-write_entries-here-requires t c =
       omega (arith, opened.deep, c.decreases),
       (
         (opened.first, zeros_on inv.1 stored),
-        rw k (going_first (going_call inv.2 _ (((group_open _ _ _ _ _ _ _ _ _ c.open_row.ensures.tree c.loop-left.invariant.2.room.whole)).same) stored) _ refl),
+        rw k (going_first (going_call inv.2 _ ((group_open _ _ _ _ _ _ _ _ _ c.open_row.ensures.tree inv.2.room.whole).same) stored) _ refl),
       ),
     )
 
@@ -117,7 +114,7 @@ write_row-loop-left-preserved t c =
     rw c.number-g-in-loop-left.ensures (
       c.open_row.ensures.rest,
       zeros_on (zeros_on inv.1 stored) entries,
-      going_call (going_call inv.2 _ (((group_open _ _ _ _ _ _ _ _ _ c.open_row.ensures.tree c.loop-left.invariant.2.room.whole)).same) stored) _ refl entries,
+      going_call (going_call inv.2 _ ((group_open _ _ _ _ _ _ _ _ _ c.open_row.ensures.tree inv.2.room.whole).same) stored) _ refl entries,
     )
 
 pub write_row-returns : goal.write_row-returns

@@ -1,5 +1,5 @@
 -- Two numbers at a time; the counts are those of the tree.
-use mathlib.Core.List.{◌∷◌}
+use mathlib.Core.List.{[], ◌∷◌}
 use Rattle.layout.specs.Writing.{counts_of}
 use Rattle.layout.proofs.Accepted.{datas_length_lem}
 use Rattle.prepared.proofs.Open.{length_row}

@@ -4,43 +4,40 @@ use Rattle.writer.proofs.Parts.{data_laid, data_open}
 use Rattle.writer.proofs.Zeros.{part_long}
 use Rattle.writer.proofs.write_data.Goals as goal
 
-start : tie.After-number-of2 → tie.Start
-start c = c.before.before.before.before.before.before.before.before.before
-
 pub number_of-len-requires : goal.number_of-len-requires
 number_of-len-requires c =
-    (((data_open _ _ _ c.requires)).there, omega arith)
+    ((data_open _ _ _ c.requires).there, omega arith)
 
 pub put2-requires : goal.put2-requires
 put2-requires c =
-    omega (arith, ((data_open _ _ _ c.requires)).fits)
+    omega (arith, (data_open _ _ _ c.requires).fits)
 
 pub number_of-start-requires : goal.number_of-start-requires
 number_of-start-requires c =
-    (((data_open _ _ _ c.requires)).there, omega arith)
+    ((data_open _ _ _ c.requires).there, omega arith)
 
 pub slice_bounds-put_octets-count : goal.slice_bounds-put_octets-count
 slice_bounds-put_octets-count c =
-    omega (arith, (opened (start (goal.at.slice_bounds-put_octets-count c).After-number_of-start)).fits)
+    omega (arith, (data_open _ _ _ c.requires).fits)
 
 pub slice_bounds-put_octets-start : goal.slice_bounds-put_octets-start
 slice_bounds-put_octets-start c =
-    omega (arith, (opened (start (goal.at.slice_bounds-put_octets-start c).After-number_of-start)).fits)
+    omega (arith, (data_open _ _ _ c.requires).fits)
 
 pub put_octets-requires : goal.put_octets-requires
 put_octets-requires c =
-    let o = opened (start (goal.at.put_octets-requires c).After-number_of-start) in
+    let o = data_open _ _ _ c.requires in
     rw (c.number_of-len.ensures.0, c.number_of-start.ensures.0)
-    (omega (arith, o.fits, part_long 2 c.put2.new.1.0), o.within)
+    (omega (arith, o.fits, part_long 2 c.put2.new.s), o.within)
 
 pub overflow_add-result : goal.overflow_add-result
 overflow_add-result c =
-    omega (arith, (opened (start (goal.at.overflow_add-result c).After-number_of-start)).fits)
+    omega (arith, (data_open _ _ _ c.requires).fits)
 
 pub returns : goal.returns
 returns c =
     let len = c.number_of-len.ensures in (
-      rw len.0 (data_laid _ _ _ (opened (start (goal.at.returns c).After-number_of-start)) (rw len.0 at c.put2.ensures)
+      rw len.0 (data_laid _ _ _ (data_open _ _ _ c.requires) (rw len.0 at c.put2.ensures)
           (rw (len.0, c.number_of-start.ensures.0) at c.put_octets.ensures)),
       omega (arith, len.1),
     )

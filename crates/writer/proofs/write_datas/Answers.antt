@@ -19,7 +19,7 @@ wrote : (c : After-write_data-n) → let l = c.loop-left in
     let at = l.here.at in
     Going (datas_part big a.listing.now a.pool.now (many_datas a.p.now a.a) a.c.record)
     (datas_part big a.listing.now a.pool.now (l.left - 1) (l.here.record + 1)) a.c.at a.room.now
-    (at + c.write_data-n.result) (put_mid at (length d - at) d c.write_data-n.new.1.1.1.1.0)
+    (at + c.write_data-n.result) (put_mid at (length d - at) d c.write_data-n.new.room)
 wrote c =
     let g = c.loop-left.invariant in
     let step = datas_step _ _ _ _ _ c.loop-left-test.true in

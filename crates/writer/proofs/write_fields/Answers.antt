@@ -7,7 +7,7 @@ use Rattle.layout.specs.Book.{end, size}
 use Rattle.layout.specs.BookRules.{parse_fields, word}
 use Rattle.prepared.specs.Names.{lists_at}
 use Rattle.prepared.specs.Positions.{field_at, shape_at}
-use Rattle.prints.specs.Prints.{and_then}
+use Rattle.prints.specs.Prints.{Stored, and_then}
 use Rattle.prints.proofs.Going.{Going, going_call, going_end, going_first, going_none, stored_none}
 use Rattle.writer.specs.Zeros.{ZerosFrom}
 use Rattle.writer.specs.Parts.{fields_part, value_part}
@@ -50,9 +50,9 @@ zeros c =
 pub loop-left-init : goal.loop-left-init
 loop-left-init c =
     let pre = c.requires in
-    let head = pre.0.1 in
+    let head = pre.block.1 in
     rw (head.fields, head.table)
-    (head.length, (0, fields_left _ _ pre.0.0, rw add-zero pre.0.2, rw add-zero (going_none pre.1)))
+    (head.length, (0, fields_left _ _ pre.block.0, rw add-zero pre.block.2, rw add-zero (going_none pre.room)))
 
 pub overflow_add-at : goal.overflow_add-at
 overflow_add-at c =
@@ -69,7 +69,7 @@ slice_bounds-write_value-start c =
 pub write_value-requires : goal.write_value-requires
 write_value-requires c =
     let room = c.loop-left.room in
-    record { field = ((next (goal.at.write_value-requires c).In-loop-left).here, part_zeros _ room (zeros (goal.at.write_value-requires c).After-number));  room = part_room _ room (going_first (padded (goal.at.write_value-requires c).After-number) _ refl) }
+    record { field = ((next (goal.at.write_value-requires c).In-loop-left).here, part_zeros _ room (zeros (goal.at.write_value-requires c).After-number)); room = part_room _ room (going_first (padded (goal.at.write_value-requires c).After-number) _ refl) }
 
 pub overflow_add-i : goal.overflow_add-i
 overflow_add-i c =
@@ -85,13 +85,20 @@ loop-left-preserved c =
     let way = padded (goal.at.loop-left-preserved c).After-number in
     let room = going_first way _ refl in
     let q : a.c.at + c.number.result + size field ≡ a.c.at + end field = omega (arith, c.number.ensures) in
-    let stored = rw q (goal.at.loop-left-preserved c).After-number (part_stored _ l.room room
+    let stored = rw q at (part_stored _ l.room room
     (value_stored _ _ _ _ _ _ (part_room _ l.room room) o.whole c.write_value.ensures)) in
     (l.invariant.0, (end field, o.rest, zeros_on (zeros (goal.at.loop-left-preserved c).After-number) stored, going_call way _ refl stored))
 
 pub overflow_add-result : goal.overflow_add-result
 overflow_add-result c =
-    omega (arith, (returns (goal.at.overflow_add-result c).After-struct_known-1).taken, c.requires.room.fits, c.well_formed)
+    let a = c.args in
+    let n = word a.p.now (a.a + 2) in
+    let w = c.loop-left.invariant.1 in
+    let done : Stored (fields_part a.big a.listing.now a.pool.now n 0 (shape_at a.p.now a.a).fields a.c.record)
+    a.c.at a.room.now c.loop-left.i (a.c.at + a.h.length) c.loop-left.room =
+    going_end (going_pad w.2 w.3 (n - w.0) {m = a.c.at + a.h.length}
+    (fields_end_lem _ _ _ _ _ _ _ _ _ c.loop-left-test.false) (omega arith)) (stored_none refl) in
+    omega (arith, done.taken, c.requires.room.fits, c.well_formed)
 
 pub returns : goal.returns
 returns c =

@@ -5,13 +5,13 @@ use Rattle.writer.proofs.write_message.Goals as goal
 
 pub put_header-requires : goal.put_header-requires
 put_header-requires c =
-    let pre = c.requires in (pre.0, header_fits _ _ _ _ pre.1)
+    let pre = c.requires in (pre.block_at, header_fits _ _ _ _ pre.ready)
 
 pub write_entries-requires : goal.write_entries-requires
 write_entries-requires c =
     let pre = c.requires in
     let laid = c.put_header.ensures in
-    record { block_at = (pre.0, header_zeros _ _ _ _ pre.1 laid);  room = (root_headed _ _ _ _ pre.1 laid).room }
+    record { block_at = (pre.block_at, header_zeros _ _ _ _ pre.ready laid); room = (root_headed _ _ _ _ pre.ready laid).room }
 
 pub returns : goal.returns
 returns c =

@@ -39,7 +39,7 @@ number_for-x-requires c =
 pub store-requires : goal.store-requires
 store-requires c =
     let d = c.requires.field.0.derived in
-    (rw (c.number-then-number-le1.ensures, d.width) (width_listed _), omega (arith, (number (goal.at.store-requires c).After-number-then-number-le1).ranges))
+    (rw (c.number-then-number-le1.ensures, d.width) (width_listed _), omega (arith, (number (goal.at.store-requires c).After-number-then-number-le1).fits))
 
 pub returns-then-number-le1 : goal.returns-then-number-le1
 unfolding numbers_of
