@@ -1,5 +1,6 @@
 // Reads schema books from standard input, each behind its octet count (two octets, little-endian), and writes a line
-// for each: `accepted`, or `refused` with number and place. It ends with its input, or after 65,536 books.
+// for each: `accepted`, or `refused` with number and place. It ends with its input, or after 65,536 books. What cannot be
+// written is passed over.
 #![tactic(auto)]
 
 ghost use Rattle.std.specs.Prelude.{◌≤◌, length};

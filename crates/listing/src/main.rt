@@ -1,5 +1,6 @@
 // Reads from standard input a schema book behind its octet count (two octets, little-endian), and a message, which is
-// the rest. Writes a line for each of the message's records, its three numbers, or `refused` with number and place.
+// the rest. Writes a line for each of the message's records, its three numbers, or `refused` with number and place. What
+// cannot be written is passed over.
 #![tactic(auto)]
 
 ghost use Rattle.std.specs.Prelude.{◌≡◌, ◌+◌, ◌≤◌, length};
