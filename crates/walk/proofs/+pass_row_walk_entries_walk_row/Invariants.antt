@@ -18,7 +18,7 @@ decreases-walk_entries l = 3 * l.depth + 2
 abbrev pub decreases-walk_row : goal.decreases-walk_row
 decreases-walk_row l = 3 * l.depth
 
--- Whatever is known at the start and used later stands in the invariant, so that no need looks further back than it.
+-- Whatever is known at the start and used later stands in the invariant, so that no goal looks further back than it.
 abbrev pub invariant-walk_entries-loop-due : goal.invariant-walk_entries-loop-due
 invariant-walk_entries-loop-due l =
     BlockAt l.p.now l.depth l.a × (length l.m.now ≤ 65535) × (l.due ≤ l.k) × (l.k ≤ 65535) × (l.fields ≡ many_fields l.p.now l.a)
