@@ -1,19 +1,11 @@
 -- The judging pass calls itself: an entry's row of groups, a group's entries. What is left of a row or of entries
 -- answers as all of it does; the measure of a call is the depth left, and within a depth the order of the calls.
 use Rattle.std.proofs.Common.{sym, refl, ◌∙◌, arith}
-use Rattle.prepared.proofs.Open.{head_there, no_groups_at}
-use Rattle.judges.proofs.Judging.{blocks_fit, entries_all, entries_end, entry_datas, entry_fields, entry_next}
+use Rattle.prepared.proofs.Open.{no_groups_at}
+use Rattle.judges.proofs.Judging.{blocks_fit, entries_end, entry_datas, entry_fields, entry_next}
 use Rattle.judges.proofs.Judging.{entry_row_lem, plain_next, row_end_lem, row_entries, row_many, row_next}
 use Rattle.judges.proofs.Judging.{row_other}
 use Rattle.judges.proofs.+judge_entries_judge_row.Goals as goal
-
-pub judge_entries-loop-due-init : goal.judge_entries-loop-due-init
-judge_entries-loop-due-init t c =
-    (c.requires.0, omega arith, omega arith, entries_all _ _ _ _ _ _ _)
-
-pub judge_entries-judge_fields-fields-requires : goal.judge_entries-judge_fields-fields-requires
-judge_entries-judge_fields-fields-requires t c =
-    c.loop-due.invariant.0.block
 
 pub judge_entries-returns-in_default : goal.judge_entries-returns-in_default
 judge_entries-returns-in_default t c =
@@ -32,20 +24,12 @@ judge_entries-loop-due-preserved-then-number-eq0 t c =
           c.loop-due-test.true inv.2 inv.1 fields,
     )
 
-pub judge_entries-judge_row-row-requires : goal.judge_entries-judge_row-row-requires
-judge_entries-judge_row-row-requires t c =
-    (omega arith, c.loop-due.invariant.0)
-
 pub judge_entries-returns-in_default-row : goal.judge_entries-returns-in_default-row
 judge_entries-returns-in_default-row t c =
     let fields = sym c.in-To.is ∙ c.judge_fields-fields.ensures in
     let e = c.in_default-row.is in
     e ∙ sym (c.loop-due.invariant.3
     ∙ entry_row_lem _ _ _ _ _ _ _ _ _ c.loop-due-test.true _ _ fields _ (sym e ∙ c.judge_row-row.ensures))
-
-pub judge_entries-judge_datas-datas-requires : goal.judge_entries-judge_datas-datas-requires
-judge_entries-judge_datas-datas-requires t c =
-    c.loop-due.invariant.0.block
 
 pub judge_entries-returns-in_default-datas : goal.judge_entries-returns-in_default-datas
 judge_entries-returns-in_default-datas t c =
@@ -83,20 +67,12 @@ pub judge_row-loop-left-init : goal.judge_row-loop-left-init
 judge_row-loop-left-init t c =
     rw (c.number-g.ensures, c.number-left.ensures) (c.requires.row, omega arith, refl)
 
-pub judge_row-open_row-requires : goal.judge_row-open_row-requires
-judge_row-open_row-requires t c =
-    (c.loop-left.invariant.0, c.loop-left-test.true)
-
 pub judge_row-returns-then-not-is_group : goal.judge_row-returns-then-not-is_group
 judge_row-returns-then-not-is_group t c =
     let opened = c.open_row.ensures in
     c.refuse.ensures ∙ sym (c.loop-left.invariant.2
     ∙ row_other _ _ _ _ _ _ _ _ _ _ _ opened.tree _
     (sym c.is_group.ensures ∙ c.if-not-is_group.true))
-
-pub judge_row-entries_in-k-requires : goal.judge_row-entries_in-k-requires
-judge_row-entries_in-k-requires t c =
-    sym c.is_group.ensures ∙ c.if-not-is_group.false
 
 pub judge_row-returns-then-k-ge65535 : goal.judge_row-returns-then-k-ge65535
 judge_row-returns-then-k-ge65535 t c =
@@ -106,11 +82,6 @@ judge_row-returns-then-k-ge65535 t c =
     (sym c.is_group.ensures ∙ c.if-not-is_group.false) _ c.entries_in-k.ensures.0
     c.if-k-ge65535.true)
 
-pub judge_row-judge_entries-entries-requires : goal.judge_row-judge_entries-entries-requires
-judge_row-judge_entries-entries-requires t c =
-    let opened = c.open_row.ensures in
-    (omega (arith, opened.deep), (opened.first, omega arith))
-
 pub judge_row-returns-in_default : goal.judge_row-returns-in_default
 judge_row-returns-in_default t c =
     let opened = c.open_row.ensures in
@@ -119,11 +90,6 @@ judge_row-returns-in_default t c =
     ∙ row_entries _ _ _ _ _ _ _ _ _ _ _ opened.tree _
     (sym c.is_group.ensures ∙ c.if-not-is_group.false) _ c.entries_in-k.ensures.0
     c.if-k-ge65535.false _ (sym e ∙ c.judge_entries-entries.ensures))
-
-pub judge_row-dimension_size-requires : goal.judge_row-dimension_size-requires
-judge_row-dimension_size-requires t c =
-    let block = c.open_row.ensures.first.block in
-    (head_there block, block.sized)
 
 pub judge_row-loop-left-preserved : goal.judge_row-loop-left-preserved
 judge_row-loop-left-preserved t c =

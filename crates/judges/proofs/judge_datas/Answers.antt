@@ -1,13 +1,7 @@
 -- What is left of the data answers as all of them do, the octets seen being counted.
-use Rattle.std.proofs.Common.{sym, refl, ◌∙◌, arith}
-use Rattle.prepared.specs.Positions.{datas_from}
+use Rattle.std.proofs.Common.{sym, ◌∙◌, arith}
 use Rattle.judges.proofs.Judging.{datas_end_lem, datas_long, datas_next, datas_refused}
 use Rattle.judges.proofs.judge_datas.Goals as goal
-
-pub loop-left-init : goal.loop-left-init
-loop-left-init c =
-    let a = c.args in
-    (omega arith, (datas_from a.p.now a.a, rw c.number-left.ensures refl))
 
 pub returns-in_default : goal.returns-in_default
 returns-in_default c =

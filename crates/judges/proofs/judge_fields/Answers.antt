@@ -1,13 +1,8 @@
 -- What is left of the fields answers as all of them do.
-use Rattle.std.proofs.Common.{sym, refl, ◌∙◌, arith}
+use Rattle.std.proofs.Common.{sym, ◌∙◌, arith}
 use Rattle.judges.proofs.Judging.{fields_end_lem, fields_next, fields_refused}
 use Rattle.prepared.proofs.Open.{field_here}
 use Rattle.judges.proofs.judge_fields.Goals as goal
-
-pub loop-left-init : goal.loop-left-init
-loop-left-init c =
-    let count = c.number-left.ensures in
-    (c.requires, omega arith, omega arith, omega arith, rw count refl)
 
 pub judge_field-field-requires : goal.judge_field-field-requires
 judge_field-field-requires c =

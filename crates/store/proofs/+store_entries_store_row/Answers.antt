@@ -16,15 +16,6 @@ store_entries-overflow_add-follow t c =
     let pre = c.requires in
     omega (arith, c.number.ensures, some_follow pre.block_at.0.block, pre.block_at.2)
 
-pub store_entries-loop-due-init : goal.store_entries-loop-due-init
-store_entries-loop-due-init t c =
-    let pre = c.requires in
-    rw (c.groups_in-groups.ensures, c.datas_in-datas.ensures) (
-      (pre.block_at.0, pre.block_at.1, rw c.number.ensures refl, refl, refl),
-      pre.lent,
-      going_none pre.room,
-    )
-
 pub store_entries-store_fields-here-requires : goal.store_entries-store_fields-here-requires
 store_entries-store_fields-here-requires t c =
     let inv = c.loop-due.invariant in
@@ -116,10 +107,6 @@ store_row-loop-left-preserved-then-v-number t c =
       inv.4,
     )
 
-pub store_row-overflow_sub-depth : goal.store_row-overflow_sub-depth
-store_row-overflow_sub-depth t c =
-    omega (arith, c.open_row.ensures.deep)
-
 pub store_row-entries_of-entries-requires : goal.store_row-entries_of-entries-requires
 store_row-entries_of-entries-requires t c = (
   c.open_row.ensures.first,
@@ -127,10 +114,6 @@ store_row-entries_of-entries-requires t c = (
   (group_is_open _ _ _ _ _ _ _ _ _ (c.open_row.ensures.tree) (c.loop-left.invariant.2.room.whole)
       (rw c.number.ensures at c.if-v-number.false)),
 )
-
-pub store_row-dimension_size-requires : goal.store_row-dimension_size-requires
-store_row-dimension_size-requires t c =
-    let inv = c.loop-left.invariant in (inv.3, inv.4)
 
 pub store_row-overflow_add-start : goal.store_row-overflow_add-start
 store_row-overflow_add-start t c =
@@ -148,13 +131,6 @@ store_row-store_answer-inside-requires t c =
     let inv = c.loop-left.invariant in
     rw c.dimension_size.ensures (going_first inv.2 _ ((group_open _ _ _ _ _ _ _ _ _ (c.open_row.ensures.tree) (c.loop-left.invariant.2.room.whole)
     (rw c.number.ensures at c.if-v-number.false) _ c.entries_of-entries.ensures)).same)
-
-pub store_row-overflow_sub-depth-in-loop-left : goal.store_row-overflow_sub-depth-in-loop-left
-store_row-overflow_sub-depth-in-loop-left t c =
-    omega (
-      arith,
-      c.open_row.ensures.deep,
-    )
 
 pub store_row-store_entries-here-requires : goal.store_row-store_entries-here-requires
 unfolding end_of

@@ -2,9 +2,9 @@
 use native.Mathlib.Omega.{arith}
 use Rattle.prepared.specs.Positions.{is_big}
 use Rattle.prints.specs.Prints.{end_of}
-use Rattle.prints.proofs.Going.{going_call, going_end, going_first, going_none}
+use Rattle.prints.proofs.Going.{going_call, going_end, going_first}
 use Rattle.store.proofs.Parts.{DataOpen, data_absent, data_open, datas_end_lem, skip_accepted, skip_stored}
-use Rattle.prepared.proofs.Open.{head_there, no_datas_at}
+use Rattle.prepared.proofs.Open.{no_datas_at}
 use Rattle.store.proofs.store_datas.Goals as goal
 use Rattle.store.proofs.store_datas.Goals.{Else-v-since}
 
@@ -14,16 +14,6 @@ opened : (c : Else-v-since) → let a = c.args in
 opened c =
     data_open _ _ _ _ _ _ _ _ c.loop-left-test.true c.loop-left.invariant.2.room.whole
     (rw c.number-since.ensures at c.if-v-since.false)
-
-pub is_big-big-requires : goal.is_big-big-requires
-is_big-big-requires c =
-    omega (arith, head_there c.requires.block.0)
-
-pub loop-left-init : goal.loop-left-init
-loop-left-init c =
-    let pre = c.requires in
-    rw (c.number-left.ensures, c.number-d.ensures)
-    (pre.block.0.datas_fit, pre.block.1, going_none pre.room, c.is_big-big.ensures)
 
 pub store_answer-here-requires : goal.store_answer-here-requires
 store_answer-here-requires c =
@@ -43,18 +33,9 @@ loop-left-preserved-then-v-since c =
       inv.3,
     )
 
-pub overflow_add-start : goal.overflow_add-start
-overflow_add-start c =
-    omega (arith, (opened (goal.at.overflow_add-start c).Else-v-since).length_within)
-
 pub data_length-len-requires : goal.data_length-len-requires
 data_length-len-requires c =
     (opened (goal.at.data_length-len-requires c).Else-v-since).length_within
-
-pub overflow_add-start-in-loop-left : goal.overflow_add-start-in-loop-left
-overflow_add-start-in-loop-left c =
-    let big = c.loop-left.invariant.3 in
-    omega (arith, (opened (goal.at.overflow_add-start-in-loop-left c).Else-v-since).within, rw big at c.data_length-len.ensures.value)
 
 pub store_answer-here-requires-in-loop-left : goal.store_answer-here-requires-in-loop-left
 store_answer-here-requires-in-loop-left c =

@@ -2,20 +2,10 @@
 use native.Mathlib.Omega.{arith}
 use Rattle.fields.proofs.Fields.{fields_each}
 use Rattle.prepared.proofs.Open.{field_here}
-use Rattle.prints.proofs.Going.{going_call, going_end, going_first, going_none, stored_none}
+use Rattle.prints.proofs.Going.{going_call, going_end, going_first, stored_none}
 use Rattle.store.proofs.Parts.{fields_end_lem, fields_next}
 use Rattle.store.proofs.Records.{room_three}
 use Rattle.store.proofs.store_fields.Goals as goal
-
-pub has_lists-listed-requires : goal.has_lists-listed-requires
-has_lists-listed-requires c =
-    omega (arith, c.requires.block.0.fields_fit)
-
-pub loop-left-init : goal.loop-left-init
-loop-left-init c =
-    let pre = c.requires in
-    rw (c.number-left.ensures, c.number-t.ensures)
-    (pre.block.0, omega arith, omega arith, omega arith, pre.block.1, c.has_lists-listed.ensures, going_none pre.room)
 
 pub store_field-n-requires : goal.store_field-n-requires
 store_field-n-requires c =
