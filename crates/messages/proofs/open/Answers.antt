@@ -20,9 +20,8 @@ is_big-requires c =
 
 -- The header is read in the book's order.
 pub open_by_header-requires : goal.open_by_header-requires
-open_by_header-requires c =
-    (
-      c.requires,
-      record { short = c.if-m-gt65535.false; inside = c.if-m-lt12.false },
-      rw c.is_big.ensures at c.header_of.ensures,
-    )
+open_by_header-requires c = (
+  c.requires,
+  record { short = c.if-m-gt65535.false; inside = c.if-m-lt12.false },
+  rw c.is_big.ensures at c.header_of.ensures,
+)

@@ -24,8 +24,7 @@ returns-then-steps-gt8 c =
     ∙ sym (place_long _ _ _ _ (omega (arith, c.if-steps-eq1.false)) c.if-steps-gt8.true)
 
 pub place_on-requires : goal.place_on-requires
-place_on-requires c =
-    (
-      c.requires,
-      record { few = omega (arith, c.if-steps-gt8.false); inside = omega arith; even = omega (arith, c.if-steps-eq1.false) },
-    )
+place_on-requires c = (
+  c.requires,
+  record { few = omega (arith, c.if-steps-gt8.false); inside = omega arith; even = omega (arith, c.if-steps-eq1.false) },
+)

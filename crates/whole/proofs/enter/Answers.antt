@@ -37,21 +37,21 @@ pub returns-in-Refused : goal.returns-in-Refused
 unfolding Few after_opened
 returns-in-Refused c =
     let open' = c.open.ensures in
-    record { value = sym (entered_by _ _ _ ∙ rw (← open', c.in-Refused.is) refl);  few = tt }
+    record { value = sym (entered_by _ _ _ ∙ rw (← open', c.in-Refused.is) refl); few = tt }
 
 pub returns-in-Refused-walk_root : goal.returns-in-Refused-walk_root
 unfolding Few after_opened after_root
 returns-in-Refused-walk_root c =
     let opens = c.open.ensures in
     let walks = c.walk_root.ensures.value in
-    record { value = sym (entered_by _ _ _ ∙ rw (← opens, c.in-At.is, ← walks, c.in-Refused-walk_root.is) refl);  few = tt }
+    record { value = sym (entered_by _ _ _ ∙ rw (← opens, c.in-At.is, ← walks, c.in-Refused-walk_root.is) refl); few = tt }
 
 pub returns-in-Refused-walk_rest : goal.returns-in-Refused-walk_rest
 unfolding Few after_rest
 returns-in-Refused-walk_rest c =
-    record { value = sym (by_rest (goal.at.returns-in-Refused-walk_rest c).After-walk_rest ∙ rw c.in-Refused-walk_rest.is refl);  few = tt }
+    record { value = sym (by_rest (goal.at.returns-in-Refused-walk_rest c).After-walk_rest ∙ rw c.in-Refused-walk_rest.is refl); few = tt }
 
 pub returns-in-To-walk_rest : goal.returns-in-To-walk_rest
 unfolding Few after_rest
 returns-in-To-walk_rest c =
-    record { value = sym (by_rest (goal.at.returns-in-To-walk_rest c).After-walk_rest ∙ rw c.in-To-walk_rest.is refl);  few = (root_inside _ _ _ _ _ c.walk_root.ensures.ends c.in-To.is).1 }
+    record { value = sym (by_rest (goal.at.returns-in-To-walk_rest c).After-walk_rest ∙ rw c.in-To-walk_rest.is refl); few = (root_inside _ _ _ _ _ c.walk_root.ensures.ends c.in-To.is).1 }

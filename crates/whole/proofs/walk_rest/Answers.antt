@@ -25,14 +25,13 @@ is_big-big-requires c =
     omega (arith, head_there c.requires.0)
 
 pub walk_datas-rest-requires : goal.walk_datas-rest-requires
-walk_datas-rest-requires c =
-    (
-      rw (c.number.ensures, c.number-2.ensures) c.requires.0.datas_fit,
-      c.requires.0.short,
-      rw c.number-2.ensures c.requires.0.few_datas,
-      c.requires.1,
-      c.requires.2,
-    )
+walk_datas-rest-requires c = (
+  rw (c.number.ensures, c.number-2.ensures) c.requires.0.datas_fit,
+  c.requires.0.short,
+  rw c.number-2.ensures c.requires.0.few_datas,
+  c.requires.1,
+  c.requires.2,
+)
 
 pub returns-in_default : goal.returns-in_default
 unfolding after

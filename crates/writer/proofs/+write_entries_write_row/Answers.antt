@@ -22,7 +22,7 @@ write_entries-loop-due-init t c =
 pub write_entries-write_block-here-requires : goal.write_entries-write_block-here-requires
 write_entries-write_block-here-requires t c =
     let inv = c.loop-due.invariant in
-    record { block = (inv.0.0.block, inv.0.1, inv.1);  room = going_first inv.2 _ (entries_step _ _ _ _ _ _ _ c.loop-due-test.true) }
+    record { block = (inv.0.0.block, inv.0.1, inv.1); room = going_first inv.2 _ (entries_step _ _ _ _ _ _ _ c.loop-due-test.true) }
 
 -- The block has neither groups nor data: its fields are all of it.
 pub write_entries-loop-due-preserved-then-block-eq0 : goal.write_entries-loop-due-preserved-then-block-eq0
@@ -42,8 +42,7 @@ pub write_entries-write_row-row-requires : goal.write_entries-write_row-row-requ
 write_entries-write_row-row-requires t c =
     let inv = c.loop-due.invariant in
     let fields = c.write_block-here.ensures in
-    let laid = going_call inv.2 _ (entries_step _ _ _ _ _ _ _ c.loop-due-test.true) fields in
-    (
+    let laid = going_call inv.2 _ (entries_step _ _ _ _ _ _ _ c.loop-due-test.true) fields in (
       omega (arith, c.decreases),
       ((inv.0.0, zeros_on inv.1 fields), going_first laid _ refl),
     )
@@ -54,7 +53,7 @@ write_entries-write_datas-here-requires t c =
     let fields = c.write_block-here.ensures in
     let laid = going_call inv.2 _ (entries_step _ _ _ _ _ _ _ c.loop-due-test.true) fields in
     let groups = going_call laid _ refl (c.write_row-row.ensures) in
-    record { block = inv.0.0.block;  room = rw datas_length_lem at (going_first groups _ refl) }
+    record { block = inv.0.0.block; room = rw datas_length_lem at (going_first groups _ refl) }
 
 pub write_entries-loop-due-preserved : goal.write_entries-loop-due-preserved
 write_entries-loop-due-preserved t c =

@@ -48,13 +48,13 @@ laid c =
     let order = c.is_big-big.ensures in
     let counted = c.is_counted.ensures in
     elim c.if-is_counted.branch [
-      then-is_counted w ↦ w.room-is ∙ rw (
+      | then-is_counted w ↦ w.room-is ∙ rw (
         ← order,
         sym counted ∙ w.if-is_counted.true,
         length_row _ _ _ _ c.requires.block_at.0.row,
         datas_length_lem,
       ) (numbers_laid _ _ _ (_ ∷ _ ∷ []) (_ ∷ _ ∷ []) c.put_two.ensures w.put_two-then-is_counted.ensures)
-    | else-is_counted w ↦ w.room-is ∙ rw (← order, sym counted ∙ w.if-is_counted.false) c.put_two.ensures
+      | else-is_counted w ↦ w.room-is ∙ rw (← order, sym counted ∙ w.if-is_counted.false) c.put_two.ensures
     ]
 
 pub put_two-requires : goal.put_two-requires

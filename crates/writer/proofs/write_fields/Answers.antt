@@ -69,7 +69,7 @@ slice_bounds-write_value-start c =
 pub write_value-requires : goal.write_value-requires
 write_value-requires c =
     let room = c.loop-left.room in
-    record { field = ((next (goal.at.write_value-requires c).In-loop-left).here, part_zeros _ room (zeros (goal.at.write_value-requires c).After-number));  room = part_room _ room (going_first (padded (goal.at.write_value-requires c).After-number) _ refl) }
+    record { field = ((next (goal.at.write_value-requires c).In-loop-left).here, part_zeros _ room (zeros (goal.at.write_value-requires c).After-number)); room = part_room _ room (going_first (padded (goal.at.write_value-requires c).After-number) _ refl) }
 
 pub overflow_add-i : goal.overflow_add-i
 overflow_add-i c =
@@ -95,7 +95,7 @@ overflow_add-result c =
     let n = word a.p.now (a.a + 2) in
     let w = c.loop-left.invariant.1 in
     let done : Stored (fields_part a.big a.listing.now a.pool.now n 0 (shape_at a.p.now a.a).fields a.c.record)
-        a.c.at a.room.now c.loop-left.i (a.c.at + a.h.length) c.loop-left.room =
+    a.c.at a.room.now c.loop-left.i (a.c.at + a.h.length) c.loop-left.room =
     going_end (going_pad w.2 w.3 (n - w.0) {m = a.c.at + a.h.length}
     (fields_end_lem _ _ _ _ _ _ _ _ _ c.loop-left-test.false) (omega arith)) (stored_none refl) in
     omega (arith, done.taken, c.requires.room.fits, c.well_formed)

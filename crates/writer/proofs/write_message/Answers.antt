@@ -11,7 +11,7 @@ pub write_entries-requires : goal.write_entries-requires
 write_entries-requires c =
     let pre = c.requires in
     let laid = c.put_header.ensures in
-    record { block_at = (pre.block_at, header_zeros _ _ _ _ pre.ready laid);  room = (root_headed _ _ _ _ pre.ready laid).room }
+    record { block_at = (pre.block_at, header_zeros _ _ _ _ pre.ready laid); room = (root_headed _ _ _ _ pre.ready laid).room }
 
 pub returns : goal.returns
 returns c =
