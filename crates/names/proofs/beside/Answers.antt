@@ -1,7 +1,7 @@
 -- Only a number that the list lacks changes.
 use mathlib.Core.Path.{◌≡◌, ◌∙◌, refl, sym}
 use Prim.Native.Nat.{ℕ, ◌+◌}
-use native.Mathlib.Omega.{arith}
+use Rattle.std.proofs.Common.{arith, rules}
 use Rattle.layout.specs.Result.{when◌then◌else◌}
 use Rattle.layout.specs.Lists.{Names, beside}
 use Rattle.layout.specs.declared.Answer.{Answer}
@@ -39,7 +39,7 @@ returns-then-list-eq0 c =
 
 pub returns-in_default : goal.returns-in_default
 returns-in_default c =
-    other _ _ c.in_default.not-Number
+    search (rules, other)
 
 pub has-requires : goal.has-requires
 has-requires c =
