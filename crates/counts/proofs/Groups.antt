@@ -35,7 +35,6 @@ use Rattle.counts.specs.declared.Surplus.{Surplus}
 use Rattle.counts.specs.declared.Surplus.TheVariants.{Is, Wrong}
 use Rattle.counts.specs.declared.Entries.{Entries}
 use Rattle.counts.specs.declared.Opened.{Opened}
-use Rattle.counts.specs.declared.Opened.TheVariants as Opened
 
 -- ---- the counts as the code's tests find them
 

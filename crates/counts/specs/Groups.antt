@@ -8,7 +8,6 @@ use Rattle.layout.specs.Message.{count_good, read_dimension, surplus}
 use Rattle.prepared.specs.Positions.{inner_at, is_big, is_counted, many_datas, many_groups, shape_at, version_at}
 use Rattle.counts.specs.declared.Entries.{Entries}
 use Rattle.counts.specs.declared.Opened.{Opened}
-use Rattle.counts.specs.declared.Opened.TheVariants as Opened
 
 -- ---- surplus groups and data as one number
 
