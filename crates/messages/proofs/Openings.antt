@@ -14,7 +14,6 @@ use Rattle.wire.specs.declared.Header.{Header}
 use Rattle.counts.specs.Counts.{left_over}
 use Rattle.messages.specs.Openings.{opened, root_by}
 use Rattle.messages.specs.declared.Opened.{Opened}
-use Rattle.messages.specs.declared.Opened.TheVariants as Opened
 use Rattle.counts.specs.declared.Surplus.{Surplus}
 use Rattle.counts.specs.declared.Surplus.TheVariants.{Is, Wrong}
 

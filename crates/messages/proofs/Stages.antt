@@ -19,7 +19,6 @@ use Rattle.prepared.specs.Numbers.{contents_from}
 use Rattle.prepared.specs.Positions.{BlockAt, is_big}
 use Rattle.prepared.specs.Books.{HoldsBook, location_among, location_of}
 use Rattle.prepared.specs.declared.Located.{Located}
-use Rattle.prepared.specs.declared.Located.TheVariants as Located
 use Rattle.prepared.proofs.Found.{found}
 use Rattle.prepared.proofs.Open.{groups_here}
 use Rattle.prepared.proofs.Rows.{shifted, unshifted}

@@ -1,7 +1,6 @@
 -- The storing pass calls itself: a row's groups, a group's entries with their rows. Of a part's octets some are written
 -- and the others are to come; the measure of a call is the depth left, and within a depth the order of the calls.
 use mathlib.Core.Path.{refl}
-use Prim.Native.Nat.{◌-◌}
 use native.Mathlib.Omega.{arith}
 use Rattle.prepared.proofs.Open.{some_follow}
 use Rattle.layout.proofs.Accepted.{datas_length_lem}

@@ -1,6 +1,6 @@
 -- The storing pass calls itself: a row's groups, a group's entries with their rows. Of a part's octets some are written
 -- and the others are to come; the measure of a call is the depth left, and within a depth the order of the calls.
-use Prim.Native.Nat.{◌+◌, ◌-◌, ◌*◌}
+use Prim.Native.Nat.{◌+◌, ◌*◌}
 use Rattle.prepared.specs.Positions.{BlockAt, IsRow, groups_at, inner_at, is_big, is_counted}
 use Rattle.prints.proofs.Going.{Going}
 use Rattle.writer.specs.Heads.{IsHead}

@@ -1,6 +1,5 @@
 -- Octets are stored, and those that are left are to come.
 use mathlib.Core.Path.{refl, sym, ◌∙◌}
-use Prim.Native.Nat.{◌-◌}
 use native.Mathlib.Omega.{arith}
 use lib.ListN.{drop, length-set}
 use lib.Seq.{get_or-drop, get_or-take}

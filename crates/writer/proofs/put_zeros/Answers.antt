@@ -1,6 +1,5 @@
 -- Zeros are stored, and those that are left are to come.
 use mathlib.Core.Path.{refl, sym, ◌∙◌}
-use Prim.Native.Nat.{◌-◌}
 use native.Mathlib.Omega.{arith}
 use lib.ListN.{get_or-replicate, length-replicate, length-set}
 use Rattle.writer.proofs.Zeros.{sets_done, sets_next}

@@ -1,5 +1,4 @@
 -- Some of the data are written, and those that are left are to come.
-use Prim.Native.Nat.{◌-◌}
 use Rattle.prepared.specs.Positions.{many_datas}
 use Rattle.prints.proofs.Going.{Going}
 use Rattle.writer.specs.Parts.{datas_part}

@@ -1,6 +1,6 @@
 -- Some of the block's octets are written, and those from `at` on are to come: the octet after the last field.
 use mathlib.Core.Path.{◌≡◌}
-use Prim.Native.Nat.{ℕ, ◌+◌, ◌-◌}
+use Prim.Native.Nat.{ℕ, ◌+◌}
 use Rattle.layout.specs.BookRules.{parse_fields, word}
 use Rattle.prepared.specs.Names.{lists_at}
 use Rattle.prepared.specs.Positions.{shape_at}
