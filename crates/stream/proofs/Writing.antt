@@ -14,7 +14,6 @@ use Rattle.layout.specs.BookRules.{groups_good}
 use Rattle.layout.specs.Operations.{WritesAs, counted, refusal, room_after}
 use Rattle.layout.specs.Writing.{judge_listing, message_octets, row_length, write_in}
 use Rattle.layout.specs.declared.Counted.{Counted}
-use Rattle.layout.specs.declared.Counted.TheVariants as Counted
 use Rattle.layout.specs.declared.Refusal.{Refusal}
 use Rattle.layout.proofs.Lengths.{written_long}
 use Rattle.prepared.specs.Positions.{BlockAt, IsRow, groups_at, inner_at, is_counted, shape_at}

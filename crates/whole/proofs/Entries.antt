@@ -16,20 +16,15 @@ use Rattle.layout.proofs.Results.{and_left, and_right, done_inj, inv_bind, inv_b
 use Rattle.prepared.specs.Positions.{BlockAt, is_big, shape_at}
 use Rattle.prepared.specs.Books.{HoldsBook, book_at, template_at}
 use Rattle.prepared.specs.declared.Located.{Located}
-use Rattle.prepared.specs.declared.Located.TheVariants as Located
 use Rattle.prepared.proofs.Found.{found}
 use Rattle.wire.specs.Walks.{Lent, walked}
 use Rattle.wire.specs.declared.Walked.{Walked}
-use Rattle.wire.specs.declared.Walked.TheVariants as Walked
 use Rattle.places.specs.declared.Spot.{Spot}
 use Rattle.messages.specs.Openings.{known, known_at, open_at, opened}
 use Rattle.messages.specs.declared.Opened.{Opened}
-use Rattle.messages.specs.declared.Opened.TheVariants as Opened
 use Rattle.whole.specs.Wholes.{entered, records_in, rest_at, rest_end, root_at, rooted, spot_at, tree_at, whole_at}
 use Rattle.whole.specs.declared.Entered.{Entered}
-use Rattle.whole.specs.declared.Entered.TheVariants as Entered
 use Rattle.whole.specs.declared.Root.{Root}
-use Rattle.whole.specs.declared.Root.TheVariants as Root
 use Rattle.whole.proofs.Messages.{message_read}
 
 -- ---- a message that was opened

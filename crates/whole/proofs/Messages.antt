@@ -10,7 +10,6 @@ use Rattle.layout.proofs.Results.{bind_assoc, bind_done}
 use Rattle.prepared.specs.Positions.{is_big, version_at}
 use Rattle.prepared.specs.Books.{HoldsBook, book_at, location_of, template_at}
 use Rattle.prepared.specs.declared.Located.{Located}
-use Rattle.prepared.specs.declared.Located.TheVariants as Located
 use Rattle.prepared.proofs.Found.{found, not_found}
 use Rattle.messages.specs.Openings.{known, known_at, open_at}
 use Rattle.whole.specs.Wholes.{rest_at, root_at, tree_at, whole_at}

@@ -13,13 +13,11 @@ use Rattle.layout.specs.Values.{Values}
 use Rattle.prepared.specs.Positions.{many_groups, groups_from}
 use Rattle.wire.specs.Walks.{walked}
 use Rattle.wire.specs.declared.Walked.{Walked}
-use Rattle.wire.specs.declared.Walked.TheVariants as Walked
 use Rattle.walk.specs.Walks.{row_at, values_end}
 use Rattle.places.specs.Spots.{spot_in}
 use Rattle.places.specs.declared.Spot.{Spot}
 use Rattle.places.specs.Seeks.{Path, row_sought, rowed}
 use Rattle.places.specs.declared.Row.{Row}
-use Rattle.places.specs.declared.Row.TheVariants as Row
 use Rattle.whole.specs.Wholes.{Ends, most, records_in, root_at, root_spot, rooted, spot_at}
 use Rattle.whole.specs.declared.Root.{Root}
 use Rattle.whole.specs.declared.Root.TheVariants.{To, Refused}
