@@ -31,7 +31,7 @@ use Rattle.siphonbard.proofs.siphonbard_write.Reads as write_reads
 module _ (f : Ended)
     (Post : (κs : Lfts f.signature.lifetimes) → Args f.signature κs → Res f.signature κs → AtExit f κs
     → Type 0) where
-  abbrev OneOutcome : Type 0
+  abbrev pub OneOutcome : Type 0
   OneOutcome =
       (κs : Lfts f.signature.lifetimes) (args : Args f.signature κs) (r r' : Res f.signature κs)
       (left left' : Lasts f κs args)
