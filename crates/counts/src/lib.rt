@@ -176,6 +176,7 @@ fn has_own(p: &[u64], a: usize, m: &[u8], v: usize, at: usize) -> bool
 
 // What the counts of the dimension at `at` say of the group whose block is at a, as one number: how many groups and
 // data of an entry are surplus; or, above all of these, the refusal.
+#[inline(never)]
 fn surplus_at(p: &&[u64], a: usize, depth: usize, m: &&[u8], v: usize, at: usize) -> usize
     requires { BlockAt p.now.now depth a × (length m.now.now ≤ 65535) × (at + 8 ≤ length m.now.now) }
     ensures { result ≡ coded (counts_at p.now.now depth a m.now.now v at) }
@@ -230,6 +231,7 @@ fn fault_in(l: usize, least: usize, surplus: usize) -> u8
 
 // The group whose block is at a, up to its entries, by its dimension at `at`: 16, 17, 18 and 21. `least` is the need of
 // its block.
+#[inline(always)]
 pub fn open_group(
     p: &&[u64],
     a: usize,

@@ -47,6 +47,7 @@ fn class_of(p: &[u64], f: usize, t: usize, x: u64) -> Answer
 
 // The field at place f of the prepared book, whose table is at t, without its list, in the block at `at` of a message
 // of version v.
+#[inline(always)]
 pub fn read_plain(p: &[u64], f: usize, t: usize, m: &[u8], v: usize, at: usize) -> Answer
     requires { Readable p.now f t m.now v at }
     ensures { result ≡ read_field (is_big p.now) m.now v at (plain (field_at p.now

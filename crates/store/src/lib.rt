@@ -87,8 +87,8 @@ fn store_fields(
     requires m_len_bound { (length m.now ≤ 65535) × (c.at + l ≤ length m.now) }
     requires room { Room (fields_print (is_big p.now) m.now v (shape_at p.now a).fields l c.at) c.n (length
         room.old) }
-    ensures stored { Stored (fields_print (is_big p.now) m.now v (shape_at p.now a
-        ).fields l c.at) c.n room.old result.at result.n room.new }
+    ensures stored { Stored (fields_print (is_big p.now) m.now v (shape_at p.now a).fields l c.at) c.n
+        room.old result.at result.n room.new }
     ensures at_in_bounds { result.at ≤ length m.now }
 {
     let at = c.at;
@@ -145,8 +145,8 @@ fn store_datas(
     requires block { IsBlock p.now a × Lent m.now c.at }
     requires room { Room (datas_print (is_big p.now) m.now v (shape_at p.now a).datas n c.at) c.n (length
         room.old) }
-    ensures stored { Stored (datas_print (is_big p.now) m.now v (shape_at p.now a
-        ).datas n c.at) c.n room.old result.at result.n room.new }
+    ensures stored { Stored (datas_print (is_big p.now) m.now v (shape_at p.now a).datas n c.at) c.n
+        room.old result.at result.n room.new }
     ensures at_in_bounds { result.at ≤ length m.now }
 {
     let big = prepared::is_big(p);

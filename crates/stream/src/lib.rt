@@ -145,7 +145,8 @@ fn refuse(number: u8) -> Counted
 // Writes by the template's block at a: a pass judges the listing, and then, if there is room, a pass stores over zeros.
 fn write_by(p: &[u64], a: usize, listing: &[u64], pool: &[u8], room: &mut [u8]) -> Counted
     requires { BlockAt p.now 4 a }
-    ensures { WritesAs (written_by (book_at p.now) (template_at p.now a) listing.entry.now pool.now) room.old result room.new }
+    ensures { WritesAs (written_by (book_at p.now) (template_at p.now a) listing.now pool.now) room.old result
+        room.new }
 {
     let q = &p[0..];
     let l = &listing[0..];

@@ -165,6 +165,7 @@ pub fn walk_entries(
 // The n groups in a row at place `first` and then surplus ones, `depth` more levels being left. Most rows have none,
 // and then the loop is not called.
 #[cycle(pass_row_walk_entries_walk_row)]
+#[inline(always)]
 pub fn pass_row(
     p: &&[u64],
     first: usize,

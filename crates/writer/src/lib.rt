@@ -166,10 +166,10 @@ fn write_block(
     c: Cursor,
 ) -> Cursor
     requires block { IsBlock p.now a × IsHead p.now a h × ZerosFrom c.at room.old }
-    requires room { Room (fields_part (is_big p.now) listing.now pool.now (word p.now (a + 2)) 0 (shape_at p.now a
-        ).fields c.record) c.at (length room.old) }
-    ensures { Stored (fields_part (is_big p.now) listing.now pool.now (word p.now (a + 2)) 0 (shape_at p.now a).fields c.record) c.at room.old result.record
-        result.at room.new }
+    requires room { Room (fields_part (is_big p.now) listing.now pool.now (word p.now (a + 2)) 0
+        (shape_at p.now a).fields c.record) c.at (length room.old) }
+    ensures { Stored (fields_part (is_big p.now) listing.now pool.now (word p.now (a + 2)) 0
+        (shape_at p.now a).fields c.record) c.at room.old result.record result.at room.new }
 {
     if !prepared::is_big(p) {
         return write_fields(false, p, a, h, listing, pool, room, c);
@@ -335,7 +335,8 @@ pub fn write_message(p: &&[u64], a: usize, listing: &&[u64], pool: &&[u8], room:
     requires block_at { BlockAt p.now.now 4 a }
     requires ready { Ready (message_part listing.now.now pool.now.now (book_at p.now.now) (template_at
         p.now.now a)) room.old }
-    ensures { room.new ≡ sets room.old 0 (numbers_of (message_part listing.entry.now.now pool.now.now (book_at p.now.now) (template_at p.now.now a))) }
+    ensures { room.new ≡ sets room.old 0 (numbers_of (message_part listing.now.now pool.now.now (book_at p.now.now)
+        (template_at p.now.now a))) }
 {
     put_header(*p, a, room);
     let root = Cursor { record: 0, at: 12 };
