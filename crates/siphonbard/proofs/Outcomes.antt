@@ -1,7 +1,7 @@
--- No two outcomes satisfy the contract of an export: its reply, and what it leaves in a room that it was lent, follow
--- from what it was called with. The contracts are those of src/lib.rt themselves: `ended` is an export's signature, and
--- `Post` what its `ensures` says of the arguments, the reply and the arguments at the return. A stream's `requires` is
--- not needed.
+-- No two outcomes satisfy the contract of a function that an export calls: its reply, and what it leaves in a room that
+-- it was lent, follow from what it was called with. The contracts are those of src/lib.rt themselves: `ended` is a
+-- function's signature, and `Post` what its `ensures` says of the arguments, the reply and the arguments at the return.
+-- A stream's `requires` is not needed.
 use mathlib.Core.Path.{◌≡◌, ◌∙◌, ap, refl, sym}
 use contract.Lifetimes.{Lfts}
 use denote.Triple.Clauses.{AtExit, Ended, Lasts, at_exit}
