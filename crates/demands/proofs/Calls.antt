@@ -41,12 +41,9 @@ use Rattle.layout.proofs.Records.{listing_three}
 use Rattle.layout.proofs.Results.{and_left, and_right, done_inj, inv_bind}
 use Rattle.layout.specs.declared.Answer.{Answer}
 use Rattle.layout.specs.declared.Checked.{Checked}
-use Rattle.layout.specs.declared.Checked.TheVariants as Checked
 use Rattle.layout.specs.declared.Counted.{Counted}
-use Rattle.layout.specs.declared.Counted.TheVariants as Counted
 use Rattle.layout.specs.declared.Element.{Element}
 use Rattle.layout.specs.declared.Found.{Found}
-use Rattle.layout.specs.declared.Found.TheVariants as Found
 use Rattle.layout.specs.declared.Refusal.{Refusal}
 
 -- ---- no two outcomes satisfy one contract

@@ -18,7 +18,7 @@ use Rattle.layout.specs.BookRules.{fields_good, length_good}
 use Rattle.layout.specs.Values.{Values, entry, listing, nil, record_of, records_of}
 use Rattle.layout.specs.Message.{Entry, array_at, dimension_size, inside, read_block, read_data, read_datas, read_entries}
 use Rattle.layout.specs.Message.{read_field, read_groups}
-use Rattle.layout.specs.Writing.{first, judge_array, judge_block, judge_data, judge_datas, judge_entries, judge_field}
+use Rattle.layout.specs.Writing.{judge_array, judge_block, judge_data, judge_datas, judge_entries, judge_field}
 use Rattle.layout.specs.Writing.{judge_fields, judge_groups, judge_listing, judge_number, judge_octets, judge_text, text_fits}
 use Rattle.layout.specs.Writing.{third}
 use Rattle.layout.specs.Demands.{AllSound, Sound}

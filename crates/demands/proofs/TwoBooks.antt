@@ -9,7 +9,7 @@ use lib.Dec.{leb}
 use lib.ListN.{length, length-append}
 use borrow.Author.Tests.{lt-ltb, ltb-true}
 use Rattle.layout.specs.Result.{Result, ◌>>=◌, ◌and◌, done, must, or_refuse, refused}
-use Rattle.layout.specs.Book.{Book, Data, Field, Format, Groups, Shape, Template, data_sinces, find_template, group_sinces}
+use Rattle.layout.specs.Book.{Book, Field, Format, Groups, Shape, Template, data_sinces, find_template, group_sinces}
 use Rattle.layout.specs.Book.{more, none}
 use Rattle.layout.specs.BookRules.{book_of}
 use Rattle.layout.specs.Values.{Step, Values, answer_at, entry, nil}
