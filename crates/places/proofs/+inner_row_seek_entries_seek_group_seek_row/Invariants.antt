@@ -21,7 +21,7 @@ decreases-seek_group l = 4 * l.depth
 abbrev pub decreases-seek_row : goal.decreases-seek_row
 decreases-seek_row l = 4 * l.depth + 1
 
--- Whatever is known at the start and used later stands in the invariant, so that no need looks further back than it.
+-- Whatever is known at the start and used later stands in the invariant, so that no goal looks further back than it.
 abbrev pub invariant-seek_entries-loop-due : goal.invariant-seek_entries-loop-due
 invariant-seek_entries-loop-due l =
     BlockAt l.p.now l.depth l.a × (length l.m.now ≤ 65535) × (l.at ≤ length l.m.now) × Path l.path.now (l.i + 2)

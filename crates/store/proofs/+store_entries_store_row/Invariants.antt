@@ -18,7 +18,7 @@ decreases-store_entries l = 2 * l.depth + 1
 abbrev pub decreases-store_row : goal.decreases-store_row
 decreases-store_row l = 2 * l.depth
 
--- Whatever is known at the start and used later stands in the invariant, so that no need looks further back than it.
+-- Whatever is known at the start and used later stands in the invariant, so that no goal looks further back than it.
 abbrev pub invariant-store_entries-loop-due : goal.invariant-store_entries-loop-due
 invariant-store_entries-loop-due l =
     (BlockAt l.p.now l.depth l.a × (need l.v (shape_at l.p.now l.a) ≤ l.entries.length)

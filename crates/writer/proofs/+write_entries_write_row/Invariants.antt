@@ -14,7 +14,7 @@ decreases-write_entries l = 2 * l.depth + 1
 abbrev pub decreases-write_row : goal.decreases-write_row
 decreases-write_row l = 2 * l.depth
 
--- Whatever is known at the start and used later stands in the invariant, so that no need looks further back than it.
+-- Whatever is known at the start and used later stands in the invariant, so that no goal looks further back than it.
 abbrev pub invariant-write_entries-loop-due : goal.invariant-write_entries-loop-due
 invariant-write_entries-loop-due l =
     (BlockAt l.p.now l.depth l.a × IsHead l.p.now l.a l.block) × ZerosFrom l.here.at l.room
