@@ -6,13 +6,14 @@ use Prim.Native.Nat.{◌*◌, ◌+◌, ◌<◌, ◌≤◌, ℕ}
 use lib.Dec.{leb, ltb}
 use lib.ListN.{length}
 use borrow.Author.Tests.{le-leb, lt-leb}
-use Rattle.layout.specs.Result.{Result, ◌>>=◌, ◌and◌, must}
+use Rattle.std.specs.Prelude.{None, Option, Some}
+use Rattle.layout.specs.Result.{◌>>=◌, ◌and◌, must}
 use Rattle.layout.specs.Lists.{NameList}
-use Rattle.layout.specs.Book.{Shape, data_sinces}
-use Rattle.layout.specs.BookRules.{fields_good, parse_datas, parse_fields, parse_shape, rising, word}
-use Rattle.book.specs.Answers.{all_rules, block_of, fields_rules, rules_are}
-use Rattle.book.proofs.RuleLaws.{and_true}
-use Rattle.book.specs.declared.Block.TheVariants as Block
+use Rattle.layout.specs.Book.{data_sinces, field_sinces}
+use Rattle.layout.specs.BookRules.{fields_good, fields_since, parse_datas, parse_fields, parse_shape, rising, word}
+use Rattle.book.specs.Answers.{block_of, rules_are}
+use Rattle.book.specs.declared.Block.{Block}
+use Rattle.book.proofs.Rows.{known}
 
 module _ (ls : List NameList) (b : List ℕ) (few w version low high top : ℕ) where
   abbrev f : ℕ
@@ -27,33 +28,37 @@ module _ (ls : List NameList) (b : List ℕ) (few w version low high top : ℕ) 
   abbrev pub counts_good : Bool
   counts_good = leb few f and leb f 64 and leb g 16 and leb d 16
 
-  abbrev answer : Result (Shape × ℕ × ℕ)
-  answer = parse_shape ls b few w
+  abbrev past : ℕ
+  past = w + 4 + 7 * f + 2 * d
 
-  pub block_short : length b < w + 4 → block_of version low high top answer ≡ Block.Broken
+  abbrev answer : Option Block
+  answer = block_of version low high top (parse_shape ls b few w)
+
+  pub block_short : length b < w + 4 → answer ≡ None
   unfolding parse_shape block_of must ◌>>=◌
   block_short h = rw (lt-leb (w + 4) (length b) h) refl
 
-  pub block_counts : w + 4 ≤ length b → counts_good ≡ false → block_of version low high top answer ≡ Block.Broken
-  unfolding parse_shape block_of must ◌>>=◌
-  block_counts h c = rw (le-leb (w + 4) (length b) h, c) refl
+  module _ (there : w + 4 ≤ length b) where
+    pub block_counts : counts_good ≡ false → answer ≡ None
+    unfolding parse_shape block_of must ◌>>=◌
+    block_counts c = rw (le-leb (w + 4) (length b) there, c) refl
 
-  pub block_long : w + 4 ≤ length b → counts_good ≡ true → length b < w + 4 + 7 * f + 2 * d
-      → block_of version low high top answer ≡ Block.Broken
-  unfolding parse_shape block_of must ◌>>=◌
-  block_long h c l = rw (le-leb (w + 4) (length b) h, c, lt-leb (w + 4 + 7 * f + 2 * d) (length b) l) refl
+    module _ (counts : counts_good ≡ true) where
+      pub block_long : length b < past → answer ≡ None
+      unfolding parse_shape block_of must ◌>>=◌
+      block_long l = rw (le-leb (w + 4) (length b) there, counts, lt-leb past (length b) l) refl
 
-  pub block_whole : w + 4 ≤ length b → counts_good ≡ true → w + 4 + 7 * f + 2 * d ≤ length b
-      → block_of version low high top answer
-      ≡ Block.Whole g (w + 4 + 7 * f + 2 * d) (all_rules (rules_are (ltb (word b w) 65535) true)
-      (all_rules (fields_rules version low high (word b w) 0 (parse_fields ls b f (w + 4)))
-      (rules_are true (rising top low (data_sinces (parse_datas b d (w + 4 + 7 * f)))))))
-  unfolding parse_shape block_of must ◌>>=◌ all_rules
-  block_whole h c l =
-      rw (
-        le-leb (w + 4) (length b) h,
-        c,
-        le-leb (w + 4 + 7 * f + 2 * d) (length b) l,
-        and_true
-            (fields_good (word b w) 0 (parse_fields ls b f (w + 4))),
-      ) (unfold ◌and◌ in refl)
+      pub block_whole : past ≤ length b → let l = word b w in let fs = parse_fields ls b f (w + 4) in
+          answer
+          ≡ Some (record {
+            groups = g;
+            next = past;
+            rules =
+                rules_are (ltb l 65535 and fields_good l 0 fs)
+                (fields_since version low high (field_sinces fs)
+                and rising top low (data_sinces (parse_datas b d (w + 4 + 7 * f))));
+          })
+      unfolding parse_shape block_of must ◌>>=◌
+      block_whole h = rw (le-leb (w + 4) (length b) there, counts, le-leb past (length b) h) refl
+
+pub ruleset block_laws = (known, block_short, block_counts, block_long, block_whole)

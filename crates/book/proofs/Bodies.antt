@@ -1,31 +1,30 @@
 -- A body, and the bodies of a book one after the other.
-use mathlib.Core.Path.{◌∙◌, ◌≡◌, ap, refl, sym}
+use mathlib.Core.Path.{◌≡◌, refl}
 use mathlib.Core.Bool.{Bool, false, true}
 use mathlib.Core.List.{List, ◌∷◌}
-use Prim.Native.Nat.{◌+◌, ◌-◌, ◌<◌, ◌≤◌, suc, ℕ}
+use Prim.Native.Nat.{◌*◌, ◌+◌, ◌<◌, ◌≤◌, suc, ℕ}
 use native.Mathlib.Omega.{arith}
-use lib.Dec.{leb, ltb}
-use lib.ListN.{drop, length, take}
-use borrow.Author.Tests.{eq-eqb, lt-ltb, ne_eqb}
+use lib.Dec.{eqb, leb}
+use lib.ListN.{length}
 use Rattle.layout.specs.Result.{Result, ◌>>=◌, as_refusal, done, when◌then◌else◌, must, refused}
 use Rattle.layout.specs.Lists.{NameList}
 use Rattle.layout.specs.Book.{Format, Groups, Shape, Template}
-use Rattle.layout.specs.BookRules.{each_must, layout_good, least_length, length_kept, parse_bodies, parse_body, parse_contents}
+use Rattle.layout.specs.BookRules.{each_must, format_of, head_size, layout_good, least_length, length_kept, list_good, lists_of, parse_bodies, parse_body}
 use Rattle.layout.specs.BookRules.{parse_groups, parse_shape, since_good, word}
 use Rattle.layout.specs.Message.{most_message}
-use Rattle.layout.specs.Operations.{checked}
-use Rattle.book.specs.Answers.{all_rules, block_of, body_of, body_rules, first_of, groups_rules, least_at, row_of, ruled}
-use Rattle.book.specs.Answers.{seen_or, verdict_of}
-use Rattle.book.proofs.Groups.{BlockIs, RowIs, block_broken, block_is, row_broken, row_is_lem}
-use Rattle.book.proofs.Rows.{contents_step}
+use Rattle.book.specs.Answers.{all_rules, block_of, body_of, first_of, groups_rules, least_at, row_of, ruled}
+use Rattle.book.specs.Answers.{seen_or, shape_rules, verdict_of}
+use Rattle.book.specs.Rows.{body_at as row_body}
+use Rattle.book.proofs.Rows.{known, rows_left, rows_more, rows_none, template_lies}
 use Rattle.layout.proofs.Accepted.{groups_length, shape_counts}
-use Rattle.layout.proofs.Results.{bind_done, none_left}
-use Rattle.layout.specs.declared.Refusal.{Refusal}
-use Rattle.layout.specs.declared.Checked.TheVariants as Checked
-use Rattle.book.specs.declared.Rules.{Rules}
-use Rattle.book.specs.declared.Row.TheVariants as Row
-use Rattle.book.specs.declared.Block.TheVariants as Block
+use Rattle.layout.proofs.Results.{bind_done}
+use Rattle.layout.specs.declared.Reason.{Reason}
+use Rattle.book.specs.declared.Row.{Row}
+use Rattle.book.specs.declared.Block.{Block}
 use Rattle.book.specs.declared.Body.{Body}
+use Rattle.book.proofs.Tests.{◌>>>◌, binds}
+use Rattle.std.specs.Prelude.{None, Option, Some}
+use Rattle.layout.specs.declared.Reason.TheVariants.{BookBlock, BookLayout, BookSince, BookUnsendable}
 
 -- What 7 measures is what a body's words say.
 least_is : (ls : List NameList) (b : List ℕ) (format : Format) (g x y : ℕ) (s : Shape) (gs : Groups)
@@ -40,169 +39,148 @@ module _ (ls : List NameList) (b : List ℕ) (format : Format) (version : ℕ) w
   abbrev counted : Bool
   counted = format.in_groups
 
-  abbrev root : Result (Shape × ℕ × ℕ)
-  root = parse_shape ls b 0 0
+  abbrev root : Option Block
+  root = block_of version 0 version version (parse_shape ls b 0 0)
 
-  abbrev answer : Body
+  abbrev row_in : Block → Option Row
+  row_in block = row_of counted version 0 version (parse_groups ls b 4 block.groups block.next)
+
+  abbrev answer : Option Body
   answer = body_of format version (parse_body ls b)
 
-  pub body_block : Block.Broken ≡ block_of version 0 version version root → answer ≡ Body.Broken
-  unfolding parse_body body_of ◌>>=◌
-  body_block e = rw (block_broken version 0 version version root e).2 refl
+  abbrev whole : Block → Row → Body
+  whole block row =
+      record { rules = all_rules block.rules row.rules; short = leb (least_at counted b) most_message }
 
-  module _ (g x : ℕ) (q : Rules) (block : Block.Whole g x q ≡ block_of version 0 version version root) where
-    abbrev groups : Result (Groups × ℕ)
-    groups = parse_groups ls b 4 g x
+  -- What the body comes to by its block, and by the row of its groups.
+  abbrev by_row : Block → Row → Option Body
+  by_row block row = when eqb row.next (length b) then Some (whole block row) else None
 
-    is_block : BlockIs version 0 version version g x q root
-    is_block = block_is version 0 version version g x q root block
+  pub body_step : answer ≡ (root >>> λ block. row_in block >>> by_row block)
+  unfolding parse_body body_of block_of row_of must when◌then◌else◌ ◌>>=◌ ◌>>>◌
+  body_step = from_root (parse_shape ls b 0 0) refl
+    where
+      checked_end : Shape → Groups → ℕ → Result (Shape × Groups)
+      checked_end s gs y = must (eqb y (length b)) BookBlock 0 >>= λ _. done (s, gs)
 
-    pub body_groups : Row.Broken ≡ row_of counted version 0 version groups → answer ≡ Body.Broken
-    unfolding parse_body body_of ◌>>=◌
-    body_groups e = rw (is_block.is, (row_broken counted version 0 version groups e).2) refl
+      from_row : (r : Shape × ℕ × ℕ) → parse_shape ls b 0 0 ≡ done r
+          → (x : Result (Groups × ℕ)) → parse_groups ls b 4 r.1 r.2 ≡ x
+          → body_of format version (x >>= λ g. checked_end r.0 g.0 g.1)
+          ≡ (row_of counted version 0 version x
+          >>> by_row (record { groups = r.1; next = r.2; rules = shape_rules version 0 version version r.0 }))
+      from_row r e (refused n p) i = refl
+      from_row r e (done g) i = ends (eqb g.1 (length b))
+        where
+          ends : (t : Bool)
+              → body_of format version (must t BookBlock 0 >>= λ _. done (r.0, g.0))
+              ≡ (when t then Some (whole
+              (record { groups = r.1; next = r.2; rules = shape_rules version 0 version version r.0 })
+              (record { next = g.1; rules = groups_rules counted version 0 version g.0 })) else None)
+          ends true = rw (least_is ls b format r.1 r.2 g.1 r.0 g.0 e i) refl
+          ends false = refl
 
-    module _ (y : ℕ) (p : Rules) (row : Row.Whole y p ≡ row_of counted version 0 version groups) where
-      is_row : RowIs counted version 0 version y p groups
-      is_row = row_is_lem counted version 0 version y p groups row
+      from_root : (x : Result (Shape × ℕ × ℕ)) → parse_shape ls b 0 0 ≡ x
+          → body_of format version
+          (x >>= λ s. parse_groups ls b 4 s.1 s.2 >>= λ g. checked_end s.0 g.0 g.1)
+          ≡ (block_of version 0 version version x >>> λ block. row_in block >>> by_row block)
+      from_root (refused n p) e = refl
+      from_root (done r) e = from_row r e (parse_groups ls b 4 r.1 r.2) refl
 
-      pub body_left : (y ≡ length b → ⊥) → answer ≡ Body.Broken
-      unfolding parse_body body_of must ◌>>=◌
-      body_left h = rw (is_block.is, is_row.is, ne_eqb y (length b) h) refl
-
-      pub body_whole : y ≡ length b → answer ≡ Body.Whole (all_rules q p) (leb (least_at counted b) most_message)
-      unfolding parse_body body_of must ◌>>=◌
-      body_whole h =
-          let short = leb (least_at counted b) most_message in
-          let least = least_is ls b format g x y is_block.shape is_row.groups is_block.is is_row.is in
-          rw (is_block.is, is_row.is, eq-eqb y (length b) h, least)
-          (ap (λ (r : Rules). Body.Whole (all_rules r (groups_rules counted version 0 version is_row.groups)) short)
-          (sym is_block.rules)
-          ∙ ap (λ (r : Rules). Body.Whole (all_rules q r) short) (sym is_row.rules))
-
--- ---- one check after the other
-
-pub goes_on : {A : Type 0} (x : Result (Unit {0})) (k : Unit {0} → Result A) → Checked.Accepted ≡ checked x
-    → checked (x >>= k) ≡ checked (k tt)
-unfolding checked ◌>>=◌
-goes_on (done u) k e = refl
-goes_on (refused n p) k e = absurd (let z : ◌≡◌ {A = ℕ} 0 1 = cc in omega arith)
-
-pub stops : {A : Type 0} (x : Result (Unit {0})) (k : Unit {0} → Result A) (r : Refusal) → Checked.Refused r ≡ checked x
-    → checked (x >>= k) ≡ Checked.Refused r
-unfolding checked ◌>>=◌
-stops (done u) k r e = absurd (let z : ◌≡◌ {A = ℕ} 0 1 = cc in omega arith)
-stops (refused n p) k r e = sym e
+pub ruleset body_laws = (known, body_step)
 
 -- ---- all bodies
 
-body_broken : (format : Format) (version : ℕ) (x : Result (Shape × Groups)) → Body.Broken ≡ body_of format version x
-    → (n : ℕ) × (p : ℕ) × (x ≡ refused n p)
-unfolding body_of
-body_broken format version (done r) e = absurd (let z : ◌≡◌ {A = ℕ} 0 1 = cc in omega arith)
-body_broken format version (refused n p) e = (n, p, refl)
+pub seen_some : (t : ℕ) (r : Reason) (x : Result (Unit {0})) → seen_or (Some t) r x ≡ refused r t
+unfolding seen_or
+seen_some t r x = refl
 
--- A whole body keeps these rules.
-record BodyIs (format : Format) (version : ℕ) (q : Rules) (short : Bool) (x : Result (Shape × Groups)) : Type 0 where
-  body : Shape × Groups
-  is : x ≡ done body
-  rules : q ≡ body_rules format.in_groups version body
-  length : short ≡ leb (least_length format body.0 body.1) most_message
+pub seen_none : (r : Reason) (x : Result (Unit {0})) → seen_or None r x ≡ x
+unfolding seen_or
+seen_none r x = refl
 
-body_is : (format : Format) (version : ℕ) (q : Rules) (short : Bool) (x : Result (Shape × Groups))
-    → Body.Whole q short ≡ body_of format version x
-    → BodyIs format version q short x
-unfolding body_of
-body_is format version q short (done r) e = record { body = r; is = refl; rules = cc; length = cc }
-body_is format version q short (refused n p) e = absurd (let z : ◌≡◌ {A = ℕ} 0 1 = cc in omega arith)
+pub ruleset verdicts = (known, binds, seen_some, seen_none)
 
 -- One template more: it is the first to break a rule, or another was before it.
-seen_next : (seen n t : ℕ) (keeps : Bool) (x : Result (Unit {0})) → t < 64
-    → seen_or seen n (must keeps n t >>= λ _. x) ≡ seen_or (first_of seen keeps t) n x
-unfolding seen_or first_of
-seen_next seen n t keeps x h = go (ltb seen 64) refl keeps
+each_next : (f : Template → Bool) (seen : Option ℕ) (r : Reason) (t : ℕ) (x : Template) (xs : List Template)
+    → seen_or seen r (each_must f r t (x ∷ xs)) ≡ seen_or (first_of seen (f x) t) r (each_must f r (suc t) xs)
+unfolding each_must seen_or first_of must when◌then◌else◌ ◌>>=◌
+each_next f (Some s) r t x xs = refl
+each_next f None r t x xs = go (f x)
   where
-    go : (s : Bool) → ltb seen 64 ≡ s → (k : Bool) → (when s then refused n seen else must k n t >>= λ _. x)
-        ≡ (when ltb (when s then seen else when k then 64 else t) 64 then refused n
-        (when s then seen else when k then 64 else t) else x)
-    go true e k = unfold when◌then◌else◌ in rw e refl
-    go false e true = unfold when◌then◌else◌ must ◌>>=◌ in refl
-    go false e false = unfold when◌then◌else◌ must ◌>>=◌ in rw (lt-ltb t 64 h) refl
+    go : (k : Bool) → (must k r t >>= λ _. each_must f r (suc t) xs)
+        ≡ seen_or (when k then None else Some t) r (each_must f r (suc t) xs)
+    go true = refl
+    go false = refl
 
-each_next : (f : Template → Bool) (seen n t : ℕ) (x : Template) (xs : List Template) → t < 64
-    → seen_or seen n (each_must f n t (x ∷ xs)) ≡ seen_or (first_of seen (f x) t) n (each_must f n (suc t) xs)
-unfolding each_must
-each_next f seen n t x xs h = seen_next seen n t (f x) (each_must f n (suc t) xs) h
-
-ruled_next : (lists : Result (Unit {0})) (format : Format) (version t five six seven : ℕ) (x : Template)
-    (y : Result (List Template)) → t < 64
+ruled_next : (lists : Result (Unit {0})) (format : Format) (version t : ℕ) (five six seven : Option ℕ) (x : Template)
+    (y : Result (List Template))
     → ruled lists format version t five six seven (y >>= λ xs. done (x ∷ xs))
     ≡ ruled lists format version (suc t) (first_of five (layout_good x) t)
     (first_of six (since_good format.in_groups version x) t) (first_of seven (length_kept format x) t) y
 unfolding ruled
-ruled_next lists format version t five six seven x (done xs) h =
+ruled_next lists format version t five six seven x (done xs) =
     rw (
       bind_done,
       bind_done,
       bind_done,
-      each_next layout_good five 5 t x xs h,
-      each_next (since_good format.in_groups version) six 6 t x xs h,
-      each_next (length_kept format) seven 7 t x xs h,
+      each_next layout_good five BookLayout t x xs,
+      each_next (since_good format.in_groups version) six BookSince t x xs,
+      each_next (length_kept format) seven BookUnsendable t x xs,
     ) refl
-ruled_next lists format version t five six seven x (refused n p) h = unfold ◌>>=◌ in refl
+ruled_next lists format version t five six seven x (refused n p) = unfold ◌>>=◌ in refl
 
-module _ (ls : List NameList) (b : List ℕ) (lists : Result (Unit {0})) (format : Format)
-    (version t five six seven left w : ℕ)
-  where
-    abbrev verdict : Result (Unit {0})
-    verdict = ruled lists format version t five six seven (parse_bodies ls b t (parse_contents b left w))
+-- What comes of the bodies of a book from template t on.
+abbrev pub bodies_from : List ℕ → ℕ → Option ℕ → Option ℕ → Option ℕ → Result (Unit {0})
+bodies_from b t five six seven =
+    ruled (each_must list_good BookBlock (word b 2) (lists_of b)) (format_of b) (word b 1) t five six seven
+    (parse_bodies (lists_of b) b t (rows_left b head_size (word b 2) t))
 
-    -- Where no body is left, the lists verdict, or else what was seen.
-    module _ (h : left ≤ 0) where
-      rows_end : verdict
-          ≡ (lists >>= λ _. seen_or five 5 (done tt) >>= λ _. seen_or six 6 (done tt) >>= λ _. seen_or seven 7 (done tt))
-      unfolding parse_contents parse_bodies ruled each_must
-      rows_end = rw (none_left h, bind_done) refl
+module _ (b : List ℕ) (t : ℕ) (five six seven : Option ℕ) where
+  -- Where no body is left, the lists verdict, or else what was seen.
+  pub bodies_end : word b 2 ≤ t
+      → bodies_from b t five six seven
+      ≡ (each_must list_good BookBlock (word b 2) (lists_of b) >>= λ _. verdict_of five six seven)
+  unfolding parse_bodies ruled verdict_of each_must
+  bodies_end h = rw (rows_none b head_size (word b 2) t h, bind_done) refl
 
-      pub bodies_end : Checked.Accepted ≡ checked lists → checked verdict ≡ verdict_of five six seven
-      unfolding verdict_of
-      bodies_end e = rw rows_end (goes_on lists _ e)
+  abbrev body_at : Option Body
+  body_at =
+      body_of (format_of b) (word b 1) (parse_body (lists_of b) (row_body b (head_size + 3 * t)))
 
-      pub bodies_stop : (r : Refusal) → Checked.Refused r ≡ checked lists → checked verdict ≡ Checked.Refused r
-      bodies_stop r e = rw rows_end (stops lists _ r e)
+  -- What it comes to by the body.
+  unfoldable pub by_body : Option Body → Result (Unit {0})
+  by_body None = refused BookBlock t
+  by_body (Some x) =
+      bodies_from b (t + 1) (first_of five x.rules.layout t) (first_of six x.rules.since t) (first_of seven x.short t)
 
-    module _ (h : 0 < left) where
-      abbrev body : List ℕ
-      body = take (word b (w + 2)) (drop (word b (w + 1)) b)
+  pub body_none : by_body None ≡ refused BookBlock t
+  unfolding by_body
+  body_none = refl
 
-      pub bodies_broken : Body.Broken ≡ body_of format version (parse_body ls body) → verdict ≡ refused 4 t
-      unfolding parse_bodies ruled as_refusal ◌>>=◌
-      bodies_broken e =
-          let k = body_broken format version (parse_body ls body) e in
-          rw (contents_step b left w h, k.2) refl
+  pub body_some : (x : Body)
+      → by_body (Some x)
+      ≡ bodies_from b (t + 1) (first_of five x.rules.layout t) (first_of six x.rules.since t)
+      (first_of seven x.short t)
+  unfolding by_body
+  body_some x = refl
 
-      -- What comes of the bodies after one that keeps these rules.
-      abbrev others : Rules → Bool → ℕ → Result (Unit {0})
-      others q short n =
-          ruled lists format version n (first_of five q.layout t) (first_of six q.since t) (first_of seven short t)
-          (parse_bodies ls b n (parse_contents b (left - 1) (w + 3)))
+  pub bodies_more : t < word b 2 → bodies_from b t five six seven ≡ by_body body_at
+  unfolding all_rules parse_bodies as_refusal body_of by_body ruled ◌>>=◌
+  bodies_more more =
+      rw (rows_more b head_size (word b 2) t more) (go (parse_body (lists_of b) _))
+    where
+      go : (x : Result (Shape × Groups))
+          → ruled (each_must list_good BookBlock (word b 2) (lists_of b)) (format_of b) (word b 1) t five six seven
+          (as_refusal x BookBlock t
+          >>= λ r. parse_bodies (lists_of b) b (suc t) (rows_left b head_size (word b 2) (t + 1))
+          >>= λ xs. done (record { id = word b (head_size + 3 * t); shape = r.0; groups = r.1 } ∷ xs))
+          ≡ by_body (body_of (format_of b) (word b 1) x)
+      go (refused n p) = refl
+      go (done r) =
+          let q : t + 1 ≡ suc t = omega arith in
+          let x : Template = record { id = word b (head_size + 3 * t); shape = r.0; groups = r.1 } in
+          rw q
+          (ruled_next (each_must list_good BookBlock (word b 2) (lists_of b)) (format_of b) (word b 1) t five six seven x
+          (parse_bodies (lists_of b) b (suc t) (rows_left b head_size (word b 2) (suc t))))
 
-      pub bodies_next : t < 64 → (q : Rules) (short : Bool)
-          → Body.Whole q short ≡ body_of format version (parse_body ls body)
-          → verdict ≡ others q short (t + 1)
-      bodies_next few q short e =
-          let k = body_is format version q short (parse_body ls body) e in
-          let i : t + 1 ≡ suc t = omega arith in
-          let kept = leb (least_length format k.body.0 k.body.1) most_message in
-          rw i
-          (next k.body k.is ∙ ap (λ (r : Rules). others r kept (suc t)) (sym k.rules)
-          ∙ ap (λ (x : Bool). others q x (suc t)) (sym k.length))
-        where
-          next : (r : Shape × Groups) → parse_body ls body ≡ done r
-              → verdict ≡ others (body_rules format.in_groups version r)
-              (leb (least_length format r.0 r.1) most_message) (suc t)
-          next r e =
-              unfold parse_bodies as_refusal all_rules in
-              rw (contents_step b left w h, e, bind_done)
-              (ruled_next lists format version t five six seven
-              (record { id = word b w; shape = r.0; groups = r.1 })
-              (parse_bodies ls b (suc t) (parse_contents b (left - 1) (w + 3))) few)
+pub ruleset bodies_laws = (verdicts, template_lies, bodies_end, body_none, body_some, bodies_more)

@@ -1,5 +1,5 @@
+pub mod Tests
 pub mod Words
-pub mod Search
 pub mod Rows
 pub mod RuleLaws
 pub mod NameLists

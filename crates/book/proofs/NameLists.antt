@@ -1,44 +1,25 @@
 -- A list's words, what its rule and a field's rule say of them, and the lists of a book one after the other.
-use mathlib.Core.Path.{◌∙◌, ◌≡◌, ap, refl, sym}
-use mathlib.Core.Logic.{inl, inr}
+use mathlib.Core.Path.{◌∙◌, ◌≡◌, ap, refl}
 use mathlib.Core.Bool.{Bool, false, not, true}
 use mathlib.Core.List.{List, [], ◌∷◌, map}
-use Prim.Native.Nat.{◌+◌, ◌-◌, ◌<◌, ◌≤◌, suc, zero, ℕ}
+use Prim.Native.Nat.{◌+◌, ◌*◌, ◌-◌, ◌<◌, ◌≤◌, suc, zero, ℕ}
 use native.Mathlib.Omega.{arith}
 use lib.Dec.{eqb, leb, ltb}
 use lib.ListN.{drop, length, length-drop, take}
 use lib.Seq.{drop-cons, drop-drop, get_or-drop, get_or-take, length-take-le, take-nil}
-use types.Run.{OneOf}
-use borrow.Author.Tests.{eq-eqb, le-leb, le-ltb, leb-false, leb-true, lt-leb, lt-ltb, ne_eqb}
-use Rattle.layout.specs.Result.{◌>>=◌, ◌and◌, ◌or◌, done, when◌then◌else◌, must, refused}
-use Rattle.layout.specs.Lists.{NameList, Names, enumeration, is_one_of, missing, names_of, no_names, set}
+use borrow.Author.Tests.{le-leb, lt-leb}
+use Rattle.layout.specs.Result.{Result, ◌>>=◌, ◌and◌, done, when◌then◌else◌, must, refused}
+use Rattle.layout.specs.Lists.{NameList, enumeration, find_names, names_of, set}
 use Rattle.layout.specs.Book.{Field, is_array}
 use Rattle.layout.specs.BookRules.{climbing, each_must, greatest, kind_good, list_good, name_list_of, names_good}
-use Rattle.layout.specs.BookRules.{parse_contents, word}
-use Rattle.book.specs.Rows.{list_at, list_fits}
-use Rattle.book.proofs.Rows.{contents_step}
+use Rattle.layout.specs.BookRules.{field_at, head_size, lists_of, word}
+use Rattle.std.specs.Prelude.{None, Option, Some}
+use Rattle.book.specs.Rows.{list_at, list_fits, listed_of}
+use Rattle.book.proofs.Rows.{known, list_lies, list_row, list_row_lem, listed_at, listed_below, not_listed, rows_left, rows_more, rows_none}
+use Rattle.layout.proofs.TypeLaws.{width_few}
+use Rattle.layout.specs.declared.Reason.TheVariants.{BookBlock}
 
 -- ---- the list whose row is at word w
-
-or_true : (a b : Bool) → b ≡ true → (a or b) ≡ true
-unfolding ◌or◌
-or_true true b e = refl
-or_true false b e = e
-
-leb_same : (a b c d : ℕ) → (a ≤ b → c ≤ d) → (b < a → d < c) → leb a b ≡ leb c d
-leb_same a b c d f g = go (leb a b) refl
-  where
-    go : (t : Bool) → leb a b ≡ t → t ≡ leb c d
-    go true e = sym (le-leb c d (f (leb-true a b e)))
-    go false e = sym (lt-leb c d (g (leb-false a b e)))
-
-tests_moved : (k a b c : Bool) → (k and a and b and c) ≡ ((a and b) and k and c)
-unfolding ◌and◌
-tests_moved true true b c = refl
-tests_moved true false b c = refl
-tests_moved false true true c = refl
-tests_moved false true false c = refl
-tests_moved false false b c = refl
 
 but_first : (n : ℕ) (l : List ℕ) → drop 1 (take n l) ≡ take (n - 1) (drop 1 l)
 but_first zero l = refl
@@ -51,9 +32,6 @@ module _ (b : List ℕ) (w : ℕ) where
 
   abbrev n : ℕ
   n = word b (w + 2)
-
-  pub no_kind : n ≡ 0 → (list_at b w).kind ≡ 0
-  no_kind e = rw e refl
 
   pub kind_is : (n ≡ 0 → ⊥) → (list_at b w).kind ≡ word b first
   kind_is h =
@@ -78,25 +56,11 @@ module _ (b : List ℕ) (w : ℕ) where
         rw (numbers_length, numbers_are)
         (get_or-take (n - 1) _ (n - 1 - 1) 0 (omega arith) ∙ get_or-drop (first + 1) b _ 0 ∙ ap (word b) q)
 
-    list_rule : list_good (list_at b w) ≡ ((leb 2 n and leb n 65) and (ltb (list_at b w).kind 2
-        and climbing 0 (take (n - 1) (drop (first + 1) b))))
-    list_rule =
-        rw (
-          numbers_length,
-          numbers_are,
-          leb_same 1 (n - 1) 2 n (λ h. omega arith) (λ h. omega arith),
-          leb_same (n - 1) 64 n 65 (λ h. omega arith) (λ h. omega arith),
-        ) (tests_moved (ltb (list_at b w).kind 2) (leb 2 n) (leb n 65) _)
+    pub list_rule : list_good (list_at b w)
+        ≡ ((leb 2 n and leb n 65) and ltb (list_at b w).kind 2 and climbing 0 (take (n - 1) (drop (first + 1) b)))
+    list_rule = rw (numbers_length, numbers_are) (grind (arith, known))
 
-    pub list_climbs : (leb 2 n and leb n 65) ≡ true → (list_at b w).kind < 2
-        → list_good (list_at b w) ≡ climbing 0 (take (n - 1) (drop (first + 1) b))
-    list_climbs e k = list_rule ∙ rw (e, lt-ltb _ _ k) (unfold ◌and◌ in refl)
-
-    pub list_of_kind : (leb 2 n and leb n 65) ≡ true → 2 ≤ (list_at b w).kind → list_good (list_at b w) ≡ false
-    list_of_kind e k = list_rule ∙ rw (e, le-ltb _ _ k) (unfold ◌and◌ in refl)
-
-    pub list_of_size : (leb 2 n and leb n 65) ≡ false → list_good (list_at b w) ≡ false
-    list_of_size e = list_rule ∙ rw e (unfold ◌and◌ in refl)
+pub ruleset list_laws = (known, none_greatest, greatest_is, list_rule, width_few)
 
 -- Numbers that rise, one at a time: the `left` numbers from word w on.
 pub numbers_step : (b : List ℕ) (left w : ℕ) → 0 < left → w + left ≤ length b
@@ -107,84 +71,119 @@ numbers_step b (suc left) w h f =
     let r : w + 1 ≡ suc w = omega arith in
     rw (drop-cons b w 0 (omega arith), q, r) refl
 
-module _ (b : List ℕ) (low left w : ℕ) (some_left : 0 < left) (fits : w + left ≤ length b) where
-  pub climb_next : low ≤ word b w
-      → climbing low (take left (drop w b)) ≡ climbing (word b w + 1) (take (left - 1) (drop (w + 1) b))
-  unfolding climbing
-  climb_next h =
-      let q : word b w + 1 ≡ suc (word b w) = omega arith in
-      rw (numbers_step b left w some_left fits, le-leb low (word b w) h, q) (unfold ◌and◌ in refl)
+-- Of n numbers from word `from` on, those from number i on.
+abbrev pub numbers_left : List ℕ → ℕ → ℕ → ℕ → List ℕ
+numbers_left b from n i = take (n - i) (drop (from + i) b)
 
-  pub climb_fall : word b w < low → climbing low (take left (drop w b)) ≡ false
+module _ (b : List ℕ) (low from n i : ℕ) where
+  pub climb_end : n ≤ i → climbing low (numbers_left b from n i) ≡ true
   unfolding climbing
-  climb_fall h = rw (numbers_step b left w some_left fits, lt-leb low (word b w) h) (unfold ◌and◌ in refl)
+  climb_end h = let q : n - i ≡ 0 = omega arith in rw q refl
 
-pub climb_end : (b : List ℕ) (low left w : ℕ) → left ≤ 0 → climbing low (take left (drop w b)) ≡ true
-unfolding climbing
-climb_end b low zero w h = refl
-climb_end b low (suc left) w h = absurd (omega arith)
+  module _ (fits : from + n ≤ length b) (more : i < n) where
+    numbers_more : numbers_left b from n i ≡ word b (from + i) ∷ numbers_left b from n (i + 1)
+    numbers_more =
+        let q : n - i - 1 ≡ n - (i + 1) = omega arith in
+        let r : from + i + 1 ≡ from + (i + 1) = omega arith in
+        rw (q, r) at (numbers_step b (n - i) (from + i) (omega arith) (omega arith))
+
+    pub climb_next : low ≤ word b (from + i)
+        → climbing low (numbers_left b from n i) ≡ climbing (word b (from + i) + 1) (numbers_left b from n (i + 1))
+    unfolding climbing
+    climb_next h =
+        let q : word b (from + i) + 1 ≡ suc (word b (from + i)) = omega arith in
+        rw (numbers_more, le-leb low (word b (from + i)) h, q) (unfold ◌and◌ in refl)
+
+    pub climb_fall : word b (from + i) < low → climbing low (numbers_left b from n i) ≡ false
+    unfolding climbing
+    climb_fall h = rw (numbers_more, lt-leb low (word b (from + i)) h) (unfold ◌and◌ in refl)
+
+pub ruleset climbs = (known, climb_end, climb_next, climb_fall)
 
 -- ---- a field's list
 
--- The keys of a match are the numbers that the definition names.
-pub key_is : (x k : ℕ) (ks : List ℕ) → OneOf (k ∷ ks) x → is_one_of x (k ∷ ks) ≡ true
-unfolding is_one_of ◌or◌
-key_is x k [] e = rw (eq-eqb x k e) refl
-key_is x k (j ∷ ks) (inl e) = rw (eq-eqb x k e) refl
-key_is x k (j ∷ ks) (inr h) = or_true (eqb x k) _ (key_is x j ks h)
+-- An array takes no list, and a number one that fits its type.
+names_by : (f : Field) (l : NameList) → f.names ≡ names_of l → (a t : Bool) → is_array f ≡ a → eqb l.kind 0 ≡ t
+    → names_good f ≡ (not a and list_fits l f.type)
+unfolding kind_good list_fits when◌then◌else◌
+names_by f l is a true e t =
+    let k : f.names.kind ≡ enumeration = rw (is, t) refl in
+    rw (k, t, e) refl
+names_by f l is a false e t =
+    let k : f.names.kind ≡ set = rw (is, t) refl in
+    let ns : f.names.numbers ≡ l.numbers = rw is refl in
+    rw (k, t, e, ns) refl
 
-pub key_is_not : (x k : ℕ) (ks : List ℕ) → (OneOf (k ∷ ks) x → ⊥) → is_one_of x (k ∷ ks) ≡ false
-unfolding is_one_of ◌or◌
-key_is_not x k [] n = rw (ne_eqb x k n) refl
-key_is_not x k (j ∷ ks) n = rw (ne_eqb x k (λ e. n (inl e))) (key_is_not x j ks (λ h. n (inr h)))
+-- The last word of the field leads to no list, to a missing one, or to the list whose row is found.
+module _ (b body : List ℕ) (w : ℕ) where
+  abbrev this_field : Field
+  this_field = field_at (lists_of b) body w
 
-module _ (f : Field) where
-  pub names_free : f.names ≡ no_names → names_good f ≡ true
-  unfolding kind_good
-  names_free e = rw (ap (λ (x : Names). x.kind) e) refl
+  abbrev list : ℕ
+  list = word body (w + 6)
 
-  pub names_missing : f.names ≡ record { kind = missing; numbers = [] } → names_good f ≡ false
-  unfolding kind_good
-  names_missing e = rw (ap (λ (x : Names). x.kind) e) refl
+  pub names_none : list ≡ 0 → names_good this_field ≡ true
+  unfolding find_names kind_good
+  names_none e = rw e refl
 
-  module _ (l : NameList) (is : f.names ≡ names_of l) where
-    -- An array takes no list, and a number one that fits its type.
-    names_of_lem : (a t : Bool) → is_array f ≡ a → eqb l.kind 0 ≡ t → names_good f ≡ (not a and list_fits l f.type)
-    unfolding kind_good list_fits when◌then◌else◌
-    names_of_lem a true e t =
-        let k : f.names.kind ≡ enumeration = rw (is, t) refl in
-        rw (k, t, e) refl
-    names_of_lem a false e t =
-        let k : f.names.kind ≡ set = rw (is, t) refl in
-        let ns : f.names.numbers ≡ l.numbers = rw is refl in
-        rw (k, t, e, ns) refl
+  module _ (named : 0 < list) where
+    abbrev same : suc (list - 1) ≡ list
+    same = omega arith
 
-    pub names_array : 1 < f.length → names_good f ≡ false
-    unfolding ◌and◌
-    names_array h = names_of_lem true (eqb l.kind 0) (lt-ltb 1 f.length h) refl
+    pub names_missing : listed_of b (list - 1) ≡ None → names_good this_field ≡ false
+    unfolding kind_good
+    names_missing e = rw (rw same at (not_listed b (list - 1) e)) refl
 
-    pub names_fit : f.length ≤ 1 → names_good f ≡ list_fits l f.type
-    unfolding ◌and◌
-    names_fit h = names_of_lem false (eqb l.kind 0) (le-ltb 1 f.length h) refl
+    names_found : (i : ℕ) → listed_of b (list - 1) ≡ Some i
+        → names_good this_field
+        ≡ (leb this_field.length 1 and list_fits (list_at b (list_row b i)) this_field.type)
+    names_found i e =
+        let is = rw same at (listed_at b (list - 1) i e) in
+        let q : not (is_array this_field) ≡ leb this_field.length 1 = grind (arith, known) in
+        rw q at (names_by this_field (list_at b (list_row b i)) is (is_array this_field) (eqb (list_at b (list_row b i)).kind 0) refl refl)
+
+    pub names_fit : (i : ℕ) → this_field.length ≤ 1 → listed_of b (list - 1) ≡ Some i
+        → list_fits (list_at b (list_row b i)) this_field.type ≡ names_good this_field
+    names_fit i one e = grind (arith, known, names_found i e)
+
+    pub names_array : 1 < this_field.length → names_good this_field ≡ false
+    names_array more = go (listed_of b (list - 1)) refl
+      where
+        go : (r : Option ℕ) → listed_of b (list - 1) ≡ r → names_good this_field ≡ false
+        go None e = names_missing e
+        go (Some i) e = grind (arith, known, names_found i e)
+
+pub ruleset names_laws = (known, names_none, names_missing, names_fit, names_array, listed_below, list_lies)
 
 -- ---- all lists
 
-pub lists_end : (b : List ℕ) (place left w : ℕ) → left ≤ 0
-    → each_must list_good 4 place (map (name_list_of b) (parse_contents b left w)) ≡ done tt
-unfolding parse_contents each_must
-lists_end b place zero w h = refl
-lists_end b place (suc left) w h = absurd (omega arith)
+-- The rule of the book's lists from list i on.
+abbrev pub lists_from : List ℕ → ℕ → Result (Unit {0})
+lists_from b i =
+    each_must list_good BookBlock (word b 2 + i)
+    (map (name_list_of b) (rows_left b (head_size + 3 * word b 2) (word b 4) i))
 
-module _ (b : List ℕ) (place left w : ℕ) (some_left : 0 < left) where
-  pub lists_next : list_good (list_at b w) ≡ true
-      → each_must list_good 4 place (map (name_list_of b) (parse_contents b left w))
-      ≡ each_must list_good 4 (place + 1) (map (name_list_of b) (parse_contents b (left - 1) (w + 3)))
-  unfolding each_must must ◌>>=◌
-  lists_next e =
-      let q : place + 1 ≡ suc place = omega arith in
-      rw (contents_step b left w some_left, e, q) refl
+module _ (b : List ℕ) (i : ℕ) where
+  pub lists_end : word b 4 ≤ i → lists_from b i ≡ done tt
+  unfolding each_must
+  lists_end h = rw (rows_none b (head_size + 3 * word b 2) (word b 4) i h) refl
 
-  pub lists_bad : list_good (list_at b w) ≡ false
-      → each_must list_good 4 place (map (name_list_of b) (parse_contents b left w)) ≡ refused 4 place
-  unfolding each_must must ◌>>=◌
-  lists_bad e = rw (contents_step b left w some_left, e) refl
+  module _ (more : i < word b 4) where
+    abbrev this : NameList
+    this = list_at b (list_row b i)
+
+    lists_step : lists_from b i ≡ (must (list_good this) BookBlock (word b 2 + i) >>= λ _. lists_from b (i + 1))
+    unfolding each_must
+    lists_step =
+        let q : word b 2 + (i + 1) ≡ suc (word b 2 + i) = omega arith in
+        rw (rows_more b (head_size + 3 * word b 2) (word b 4) i more, list_row_lem (word b 2) i, q) refl
+
+    pub lists_next : list_good this ≡ true → lists_from b i ≡ lists_from b (i + 1)
+    unfolding must ◌>>=◌
+    lists_next e = rw (lists_step, e) refl
+
+    pub lists_bad : list_good this ≡ false → lists_from b i ≡ refused BookBlock (word b 2 + i)
+    unfolding must ◌>>=◌
+    lists_bad e = rw (lists_step, e) refl
+
+pub ruleset lists_laws = (known, lists_end, lists_next, lists_bad, list_lies)

@@ -1,75 +1,98 @@
 -- The rows of a book's contents: where they and their bodies lie, and which list has a number.
-use mathlib.Core.Path.{◌∙◌, ◌≡◌, ap, refl}
+use mathlib.Core.Path.{◌∙◌, ◌≡◌, ap, refl, sym}
 use mathlib.Core.Bool.{Bool, false, true}
 use mathlib.Core.List.{List, [], ◌∷◌, map}
 use Prim.Native.Nat.{◌*◌, ◌+◌, ◌-◌, ◌/◌, ◌<◌, ◌≤◌, suc, zero, ℕ}
 use native.Mathlib.Omega.{arith}
 use lib.Dec.{eqb, leb, ltb}
 use lib.ListN.{length}
-use borrow.Author.Tests.{eq-eqb, eqb-true, leb-true, ne_eqb}
-use Rattle.layout.specs.Result.{Result, ◌>>=◌, ◌and◌, done, when◌then◌else◌, must, refused}
+use borrow.Author.Tests.{eqb-true, leb-true}
+use Rattle.layout.specs.Result.{◌>>=◌, ◌and◌, done, when◌then◌else◌, must, refused}
 use Rattle.layout.specs.Octets.{words_of}
-use Rattle.layout.specs.Lists.{find_names, missing, names_of}
+use Rattle.layout.specs.Lists.{Names, find_names, missing, names_of}
 use Rattle.layout.specs.BookRules.{ContentsRow, check_contents, contents_end, contents_size, head_good, head_size, list_rows}
 use Rattle.layout.specs.BookRules.{lists_of, name_list_of, parse_contents, template_rows, word}
 use Rattle.layout.specs.Message.{dimension_size}
-use Rattle.layout.proofs.Results.{and_left, and_right, done_inj, each_way, inv_bind, inv_must, or_left}
-use Rattle.book.specs.Rows.{BookHead, HasLists, IsListRow, counted_in, end_of, list_at, listed_among, listed_of}
-use Rattle.book.proofs.Words.{length_words}
-use Rattle.book.specs.declared.Contents.TheVariants as Contents
-use Rattle.book.specs.declared.Listed.TheVariants.{At, Missing}
+use Rattle.layout.proofs.Results.{and_left, and_right, done_inj, inv_bind, inv_must}
+use Rattle.bisect.proofs.Rising.{IsPlace}
+use Rattle.book.specs.Rows.{BookHead, HasLists, IsListRow, counted_in, list_at, listed_among, listed_of}
+use Rattle.book.proofs.Tests.{tests}
+use Rattle.book.proofs.Words.{length_words, word_at, words_between}
+use Rattle.std.specs.Prelude.{None, Option, Some}
+use Rattle.layout.specs.declared.Reason.TheVariants.{BookContents}
+
+-- What a good head says of the contents: the templates are few, and the rows lie in the book.
+pub record Head (s : List ℕ) : Type 0 where
+  pub few : word (words_of s) 2 ≤ 64
+  pub fits : head_size + contents_size (words_of s) ≤ length s / 2
+
+pub head_says : (s : List ℕ) → BookHead s → Head s
+head_says s h =
+    record { few = grind (arith, tests, h.good); fits = grind (arith, tests, length_words, h.good) }
+
+pub head_fits : (s : List ℕ) → BookHead s → head_size + contents_size (words_of s) ≤ length s / 2
+head_fits s h = (head_says s h).fits
+
+pub lists_fit : (s : List ℕ) → HasLists s → head_size + contents_size (words_of s) ≤ length s / 2
+lists_fit s h = head_fits s h.head
+
+-- What `grind` is to know at every goal of the crate.
+pub ruleset known = (tests, length_words, head_fits, lists_fit)
+
+pub ruleset parts = (known, word_at, words_between)
 
 shifted : (w i : ℕ) → w + 3 * suc i ≡ w + 3 + 3 * i
 shifted w i = omega arith
 
+next_row : (w k : ℕ) → w + 3 * k + 3 ≡ w + 3 * suc k
+next_row w k = omega arith
+
 unshifted : (w : ℕ) → w + 3 * 0 ≡ w
 unshifted w = omega arith
 
-pub contents_step : (b : List ℕ) (n w : ℕ) → 0 < n
-    → parse_contents b n w ≡ record { id = word b w; first = word b (w + 1); words = word b (w + 2) }
-    ∷ parse_contents b (n - 1) (w + 3)
-unfolding parse_contents
-contents_step b zero w h = absurd (omega arith)
-contents_step b (suc n) w h = let q : suc n - 1 ≡ n = omega arith in rw q refl
+-- Of n rows from word `from` on, those from row i on.
+abbrev pub rows_left : List ℕ → ℕ → ℕ → ℕ → List ContentsRow
+rows_left b from n i = parse_contents b (n - i) (from + 3 * i)
 
-module _ (b : List ℕ) (low at n w : ℕ) (some_left : 0 < n) where
-  abbrev row_good : Bool
-  row_good = leb low (word b w) and ltb (word b w) 65535 and eqb (word b (w + 1)) at
+module _ (b : List ℕ) (from n i : ℕ) where
+  pub rows_more : i < n
+      → rows_left b from n i ≡ (let w = from + 3 * i in
+      record { id = word b w; first = word b (w + 1); words = word b (w + 2) }) ∷ rows_left b from n (i + 1)
+  unfolding parse_contents
+  rows_more h =
+      let q : n - i ≡ suc (n - (i + 1)) = omega arith in
+      let r : from + 3 * (i + 1) ≡ from + 3 * i + 3 = omega arith in
+      rw (q, r) refl
 
-  pub contents_next : row_good ≡ true
-      → contents_end low at (parse_contents b n w)
-      ≡ contents_end (word b w + 1) (at + word b (w + 2)) (parse_contents b (n - 1) (w + 3))
-  unfolding contents_end must ◌>>=◌
-  contents_next e =
-      let q : word b w + 1 ≡ suc (word b w) = omega arith in
-      rw (contents_step b n w some_left, e, q) refl
+  pub rows_none : n ≤ i → rows_left b from n i ≡ []
+  unfolding parse_contents
+  rows_none h = let q : n - i ≡ 0 = omega arith in rw q refl
 
-  pub contents_bad : row_good ≡ false → contents_end low at (parse_contents b n w) ≡ refused 3 0
-  unfolding contents_end must ◌>>=◌
-  contents_bad e = rw (contents_step b n w some_left, e) refl
+  module _ (low at : ℕ) where
+    pub contents_stop : n ≤ i → contents_end low at (rows_left b from n i) ≡ done at
+    unfolding contents_end
+    contents_stop h = rw (rows_none h) refl
 
-pub contents_stop : (b : List ℕ) (low at n w : ℕ) → n ≤ 0 → contents_end low at (parse_contents b n w) ≡ done at
-unfolding contents_end parse_contents
-contents_stop b low at zero w h = refl
-contents_stop b low at (suc n) w h = absurd (omega arith)
+    module _ (more : i < n) where
+      abbrev w : ℕ
+      w = from + 3 * i
 
--- What an end says of the rows.
-pub end_is : (x : Result ℕ) (at : ℕ) → Contents.Whole at ≡ end_of x → x ≡ done at
-unfolding end_of
-end_is (done e) at h = let q : e ≡ at = cc in ap done q
-end_is (refused n p) at h = absurd (let z : ◌≡◌ {A = ℕ} 0 1 = cc in omega arith)
+      abbrev row_good : Bool
+      row_good = leb low (word b w) and ltb (word b w) 65535 and eqb (word b (w + 1)) at
 
-pub end_broken : (low at : ℕ) (rows : List ContentsRow) → Contents.Broken ≡ end_of (contents_end low at rows)
-    → contents_end low at rows ≡ refused 3 0
-unfolding contents_end end_of
-end_broken low at [] h = absurd (let z : ◌≡◌ {A = ℕ} 0 1 = cc in omega arith)
-end_broken low at (r ∷ rs) h =
-    go _ (contents_end (suc r.id) (at + r.words) rs) (end_broken (suc r.id) (at + r.words) rs) h
-  where
-    go : (t : Bool) (x : Result ℕ) → (Contents.Broken ≡ end_of x → x ≡ refused 3 0)
-        → Contents.Broken ≡ end_of (must t 3 0 >>= λ _. x) → (must t 3 0 >>= λ _. x) ≡ refused 3 0
-    go true x rest h = unfold must ◌>>=◌ in rest h
-    go false x rest h = unfold must ◌>>=◌ in refl
+      pub contents_next : row_good ≡ true
+          → contents_end low at (rows_left b from n i)
+          ≡ contents_end (word b w + 1) (at + word b (w + 2)) (rows_left b from n (i + 1))
+      unfolding contents_end must ◌>>=◌
+      contents_next e =
+          let q : word b w + 1 ≡ suc (word b w) = omega arith in
+          rw (rows_more more, e, q) refl
+
+      pub contents_bad : row_good ≡ false → contents_end low at (rows_left b from n i) ≡ refused BookContents 0
+      unfolding contents_end must ◌>>=◌
+      contents_bad e = rw (rows_more more, e) refl
+
+pub ruleset contents_laws = (known, contents_stop, contents_next, contents_bad)
 
 -- ---- n rows from word w on that keep rule 3: their bodies lie from word `at` to word e
 
@@ -152,43 +175,21 @@ module _ (b : List ℕ) (e : ℕ) where
 
 -- ---- the rows of a book
 
--- What a good head says of the contents: the templates are few, and the rows lie in the book.
-pub record Head (s : List ℕ) : Type 0 where
-  pub few : word (words_of s) 2 ≤ 64
-  pub fits : head_size + contents_size (words_of s) ≤ length s / 2
-
-pub head_says : (s : List ℕ) → BookHead s → Head s
-head_says s h =
-    let g = and_right _ _ (and_right _ _ (and_right _ _ (and_right _ _ h.good))) in
-    record {
-      few = leb-true _ _ (and_left _ _ g);
-      fits = rw (← (length_words s)) (leb-true _ _ (and_left _ _ (and_right _ _ (and_right _ _ g))));
-    }
-
 -- A dimension has as many numbers as the head's last word says.
 pub dimension_is : (s : List ℕ) → BookHead s → 2 * word (words_of s) 6 ≡ dimension_size (counted_in s)
-dimension_is s h =
-    let n = word (words_of s) 6 in
-    let g = and_right _ _ (and_right _ _ (and_right _ _ (and_right _ _ h.good))) in
-    let two-or-four = and_right _ _ (and_right _ _ (and_right _ _ g)) in
-    each_way (eqb n 4) (λ e. rw (e, eqb-true n 4 e) refl)
-    (λ e. rw (e, eqb-true n 2 (or_left _ _ two-or-four e)) refl)
+dimension_is s h = grind (arith, tests, h.good)
 
 -- A book that is too short for a head has none that is good.
 pub head_short : (b : List ℕ) → length b < head_size → head_good b ≡ false
-head_short b h = go (head_good b) refl
-  where
-    go : (t : Bool) → head_good b ≡ t → head_good b ≡ false
-    go true e =
-        let g = and_right _ _ (and_right _ _ (and_right _ _ (and_right _ _ (and_right _ _ (and_right _ _ e))))) in
-        absurd (omega (arith, leb-true (head_size + contents_size b) (length b) (and_left _ _ g)))
-    go false e = e
+head_short b h = grind (arith, tests)
+
+pub ruleset head_laws = (known, head_short, dimension_is)
 
 -- Where the row of list i stands.
 abbrev pub list_row : List ℕ → ℕ → ℕ
 list_row b i = head_size + 3 * (word b 2 + i)
 
-list_row_lem : (n i : ℕ) → head_size + 3 * (n + i) ≡ head_size + 3 * n + 3 * i
+pub list_row_lem : (n i : ℕ) → head_size + 3 * (n + i) ≡ head_size + 3 * n + 3 * i
 list_row_lem n i = omega arith
 
 module _ (s : List ℕ) (has : HasLists s) where
@@ -221,6 +222,9 @@ module _ (s : List ℕ) (has : HasLists s) where
             bodies.templates t h,
       )
 
+  pub template_lies : (t : ℕ) → t < word b 2 → IsListRow s (head_size + 3 * t)
+  template_lies t h = record { fits = omega (arith, (head_says s has.head).fits); lies = body_lies t h }
+
   -- So do a list's row and its body.
   pub list_lies : (i : ℕ) → i < word b 4 → IsListRow s (list_row b i)
   list_lies i h =
@@ -244,117 +248,99 @@ module _ (s : List ℕ) (has : HasLists s) where
 
 -- ---- the lists of rows
 
-module _ (b : List ℕ) where
-  pub lists_length : (n w : ℕ) → length (map (name_list_of b) (parse_contents b n w)) ≡ n
-  unfolding parse_contents
-  lists_length zero w = refl
-  lists_length (suc n) w = ap suc (lists_length n (w + 3))
+pub lists_length : (b : List ℕ) (n w : ℕ) → length (map (name_list_of b) (parse_contents b n w)) ≡ n
+unfolding parse_contents
+lists_length b zero w = refl
+lists_length b (suc n) w = ap suc (lists_length b n (w + 3))
 
-  module _ (id : ℕ) where
-    -- The first of n rows from word w on that has the number.
-    record Found (n w i : ℕ) : Type 0 where
-      below : i < n
-      number : word b (w + 3 * i) ≡ id
-      names : find_names (suc id) (map (name_list_of b) (parse_contents b n w)) ≡ names_of (list_at b (w + 3 * i))
+module _ (b : List ℕ) (id w : ℕ) where
+  -- What a field has that names the list of a row, or none, of those from word w on.
+  leads : Option ℕ → Names
+  leads None = record { kind = missing; numbers = [] }
+  leads (Some i) = names_of (list_at b (w + 3 * i))
 
-    found_among : (n w k i : ℕ) → listed_among id (parse_contents b n w) k ≡ At i → (j : ℕ) × (i ≡ k + j) × Found n w j
-    unfolding listed_among parse_contents
-    found_among zero w k i e = absurd (let z : ◌≡◌ {A = ℕ} 0 1 = cc in omega arith)
-    found_among (suc n) w k i e = go (found_among n (w + 3) (suc k) i) (eqb (word b w) id) refl
-      where
-        go : (listed_among id (parse_contents b n (w + 3)) (suc k) ≡ At i
-            → (j : ℕ) × (i ≡ suc k + j) × Found n (w + 3) j)
-            → (t : Bool) → eqb (word b w) id ≡ t
-            → (j : ℕ) × (i ≡ k + j) × Found (suc n) w j
-        go others true t =
-            let q : k ≡ i = unfold when◌then◌else◌ in let f = rw t at e in cc in (
-              0,
-              omega arith,
-              record {
-                below = omega arith;
-                number = rw (unshifted w) (eqb-true _ _ t);
-                names = unfold find_names when◌then◌else◌ in rw (t, unshifted w) refl;
-              },
-            )
-        go others false t =
-            let f = others (unfold when◌then◌else◌ in rw t at e) in (
-              suc f.0,
-              omega (arith, f.1),
-              record {
-                below = omega (arith, f.2.below);
-                number = rw (shifted w f.0) f.2.number;
-                names = unfold find_names when◌then◌else◌ in rw (t, shifted w f.0) f.2.names;
-              },
-            )
+  -- The list with the number among n rows from row k on.
+  listed_from : ℕ → ℕ → Option ℕ
+  listed_from n k = listed_among id (parse_contents b n (w + 3 * k)) k
 
-    none_among : (n w k : ℕ) → listed_among id (parse_contents b n w) k ≡ Missing
-        → find_names (suc id) (map (name_list_of b) (parse_contents b n w)) ≡ record { kind = missing; numbers = [] }
-    unfolding listed_among parse_contents find_names when◌then◌else◌
-    none_among zero w k e = refl
-    none_among (suc n) w k e = go (none_among n (w + 3) (suc k)) (eqb (word b w) id) refl
-      where
-        go : (listed_among id (parse_contents b n (w + 3)) (suc k) ≡ Missing
-            → find_names (suc id) (map (name_list_of b) (parse_contents b n (w + 3)))
-            ≡ record { kind = missing; numbers = [] })
-            → (t : Bool) → eqb (word b w) id ≡ t
-            → find_names (suc id) (map (name_list_of b) (parse_contents b (suc n) w))
-            ≡ record { kind = missing; numbers = [] }
-        go others true t = absurd (let f = rw t at e in let z : ◌≡◌ {A = ℕ} 0 1 = cc in omega arith)
-        go others false t = rw t (others (rw t at e))
+  none_left : (k : ℕ) → listed_from 0 k ≡ None
+  unfolding listed_from listed_among parse_contents
+  none_left k = refl
 
-    -- A position leads to the list with the number, and a field that names it has its names.
-    pub record Listed (i : ℕ) : Type 0 where
-      pub below : i < word b 4
-      pub number : word b (list_row b i) ≡ id
-      pub names : find_names (suc id) (lists_of b) ≡ names_of (list_at b (list_row b i))
+  one_more : (n k : ℕ) → listed_from (suc n) k
+      ≡ (when eqb (word b (w + 3 * k)) id then Some k else listed_from n (suc k))
+  unfolding listed_from listed_among parse_contents
+  one_more n k = rw (next_row w k) refl
 
-    pub listed_at : (i : ℕ) → listed_of b id ≡ At i → Listed i
-    listed_at i e =
-        let f = found_among (word b 4) _ 0 i e in
-        let q : i ≡ f.0 = omega (arith, f.1) in
-        record {
-          below = omega (arith, f.2.below);
-          number = rw (q, list_row_lem (word b 2) f.0) f.2.number;
-          names = rw (q, list_row_lem (word b 2) f.0) f.2.names;
-        }
+  leads_from : (n k : ℕ) → find_names (suc id) (map (name_list_of b) (parse_contents b n (w + 3 * k)))
+      ≡ leads (listed_from n k)
+  unfolding leads find_names parse_contents
+  leads_from zero k = rw (none_left k) refl
+  leads_from (suc n) k = rw (one_more n k) (go (eqb (word b (w + 3 * k)) id) (leads_from n (suc k)))
+    where
+      go : (t : Bool) → find_names (suc id) (map (name_list_of b) (parse_contents b n (w + 3 * suc k)))
+          ≡ leads (listed_from n (suc k))
+          → (when t then names_of (list_at b (w + 3 * k)) else
+          find_names (suc id) (map (name_list_of b) (parse_contents b n (w + 3 * k + 3))))
+          ≡ leads (when t then Some k else listed_from n (suc k))
+      go true others = unfold when◌then◌else◌ in refl
+      go false others = unfold when◌then◌else◌ in rw (next_row w k) others
 
-    pub not_listed : listed_of b id ≡ Missing
-        → find_names (suc id) (lists_of b) ≡ record { kind = missing; numbers = [] }
-    not_listed e = none_among (word b 4) _ 0 e
+  below_from : (n k i : ℕ) → listed_from n k ≡ Some i → i < k + n
+  below_from zero k i e = grind (arith, none_left k)
+  below_from (suc n) k i e = grind (arith, tests, one_more n k, below_from n (suc k) i)
 
-    -- ---- where the list with the number is found
+  -- Row i has another number.
+  abbrev Other : ℕ → Type 0
+  Other i = word b (w + 3 * i) ≡ id → ⊥
 
-    -- Row i of those from word w on has another number.
-    abbrev Other : ℕ → ℕ → Type 0
-    Other w i = word b (w + 3 * i) ≡ id → ⊥
+  at_from : (n k i : ℕ) → k ≤ i → i < k + n → ((j : ℕ) → j < i → Other j) → word b (w + 3 * i) ≡ id
+      → listed_from n k ≡ Some i
+  at_from zero k i l h others is = absurd (omega arith)
+  at_from (suc n) k i l h others is = grind (arith, tests, one_more n k, at_from n (suc k) i, others k)
 
-    at_among : (n w k i : ℕ) → i < n → ((j : ℕ) → j < i → Other w j) → word b (w + 3 * i) ≡ id
-        → listed_among id (parse_contents b n w) k ≡ At (k + i)
-    unfolding listed_among parse_contents when◌then◌else◌
-    at_among zero w k i h others is = absurd (omega arith)
-    at_among (suc n) w k zero h others is =
-        let q : k + 0 ≡ k = omega arith in
-        rw (eq-eqb (word b w) id (rw (unshifted w) at is), q) refl
-    at_among (suc n) w k (suc i) h others is =
-        let q : k + suc i ≡ suc k + i = omega arith in
-        rw (ne_eqb (word b w) id (rw (unshifted w) at (others 0 (omega arith))), q)
-        (at_among n (w + 3) (suc k) i (omega arith) (λ j l e. others (suc j) (omega arith) (rw (shifted w j) e))
-        (rw (shifted w i) at is))
+  missing_from : (n k : ℕ) → ((j : ℕ) → j < k + n → Other j) → listed_from n k ≡ None
+  missing_from zero k others = none_left k
+  missing_from (suc n) k others =
+      let rest = missing_from n (suc k) (λ j l. others j (omega arith)) in
+      grind (arith, tests, one_more n k, rest, others k)
 
-    missing_among : (n w k : ℕ) → ((j : ℕ) → j < n → Other w j) → listed_among id (parse_contents b n w) k ≡ Missing
-    unfolding listed_among parse_contents when◌then◌else◌
-    missing_among zero w k others = refl
-    missing_among (suc n) w k others =
-        rw (ne_eqb (word b w) id (rw (unshifted w) at (others 0 (omega arith))))
-        (missing_among n (w + 3) (suc k) (λ j l e. others (suc j) (omega arith) (rw (shifted w j) e)))
+-- The number of list i.
+abbrev pub list_id : List ℕ → ℕ → ℕ
+list_id b i = word b (list_row b i)
 
-    pub is_at : (i : ℕ) → i < word b 4 → ((j : ℕ) → j < i → word b (list_row b j) ≡ id → ⊥) → word b (list_row b i) ≡ id
-        → listed_of b id ≡ At i
-    is_at i h others is =
-        let q : 0 + i ≡ i = omega arith in
-        at_among (word b 4) _ 0 i h (λ j l e. others j l (rw (list_row_lem (word b 2) j) e))
-        (rw (list_row_lem (word b 2) i) at is)
-        ∙ ap At q
+module _ (b : List ℕ) (id : ℕ) where
+  abbrev lists_at : ℕ
+  lists_at = head_size + 3 * word b 2
 
-    pub is_missing : ((j : ℕ) → j < word b 4 → word b (list_row b j) ≡ id → ⊥) → listed_of b id ≡ Missing
-    is_missing others = missing_among (word b 4) _ 0 (λ j l e. others j l (rw (list_row_lem (word b 2) j) e))
+  listed_is : listed_of b id ≡ listed_from b id lists_at (word b 4) 0
+  unfolding listed_from
+  listed_is = rw (unshifted lists_at) refl
+
+  names_listed : find_names (suc id) (lists_of b) ≡ leads b id lists_at (listed_of b id)
+  names_listed = rw (listed_is, ← (leads_from b id lists_at (word b 4) 0), unshifted lists_at) refl
+
+  -- A field that names a missing list has no names, and one that names a list has its names.
+  pub not_listed : listed_of b id ≡ None → find_names (suc id) (lists_of b) ≡ record { kind = missing; numbers = [] }
+  unfolding leads
+  not_listed e = rw (names_listed, e) refl
+
+  pub listed_at : (i : ℕ) → listed_of b id ≡ Some i
+      → find_names (suc id) (lists_of b) ≡ names_of (list_at b (list_row b i))
+  unfolding leads
+  listed_at i e = rw (names_listed, e, list_row_lem (word b 2) i) refl
+
+  pub listed_below : (i : ℕ) → listed_of b id ≡ Some i → i < word b 4
+  listed_below i e = omega (arith, below_from b id lists_at (word b 4) 0 i (sym listed_is ∙ e))
+
+  -- The list with this number is where a search finds it.
+  pub listed_as : ((i j : ℕ) → i < j → j < word b 4 → list_id b i < list_id b j) → (r : Option ℕ)
+      → IsPlace (list_id b) (word b 4) id r → r ≡ listed_of b id
+  listed_as rising (Some i) (inside, is) =
+      let others : (j : ℕ) → j < i → list_id b j ≡ id → ⊥ = λ j l o. omega (arith, rising j i l inside) in
+      sym (listed_is ∙ at_from b id lists_at (word b 4) 0 i (omega arith) (omega arith)
+      (λ j l o. others j l (rw (← (list_row_lem (word b 2) j)) at o))
+      (rw (list_row_lem (word b 2) i) at is))
+  listed_as rising None none =
+      sym (listed_is ∙ missing_from b id lists_at (word b 4) 0
+      (λ j l o. none j (omega arith) (rw (← (list_row_lem (word b 2) j)) at o)))

@@ -2,7 +2,7 @@
 use mathlib.Core.Path.{◌≡◌, refl}
 use mathlib.Core.Bool.{Bool, false, true}
 use mathlib.Core.List.{List, [], ◌∷◌}
-use Prim.Native.Nat.{◌+◌, ◌-◌, ◌<◌, ◌≤◌, suc, zero, ℕ}
+use Prim.Native.Nat.{◌*◌, ◌+◌, ◌-◌, ◌<◌, ◌≤◌, suc, ℕ}
 use native.Mathlib.Omega.{arith}
 use lib.Dec.{leb}
 use Rattle.layout.proofs.Results.{and_assoc}
@@ -12,6 +12,7 @@ use Rattle.layout.specs.Book.{Field, data_sinces, end, field_sinces}
 use Rattle.layout.specs.BookRules.{field_at, fields_good, fields_since, parse_datas, parse_fields, rising, word}
 use Rattle.book.specs.Answers.{all_rules, field_of, fields_rules, rules_are}
 use Rattle.book.specs.declared.Rules.{Rules}
+use Rattle.book.proofs.Rows.{known}
 
 pub rules_assoc : (a b c : Rules) → all_rules (all_rules a b) c ≡ all_rules a (all_rules b c)
 unfolding all_rules
@@ -36,23 +37,36 @@ unfolding fields_good fields_since all_rules
 fields_rules_lem version low high l e f fs =
     rw (← (later_fields version f.since (field_sinces fs)), and_assoc (leb low f.since)) refl
 
-fields_step : (ls : List NameList) (b : List ℕ) (n w : ℕ) → 0 < n
-    → parse_fields ls b n w ≡ field_at ls b w ∷ parse_fields ls b (n - 1) (w + 7)
+-- Of n fields from word `from` on, those from field i on.
+abbrev pub fields_left : List NameList → List ℕ → ℕ → ℕ → ℕ → List Field
+fields_left ls b from n i = parse_fields ls b (n - i) (from + 7 * i)
+
+fields_step : (ls : List NameList) (b : List ℕ) (from n i : ℕ) → i < n
+    → fields_left ls b from n i ≡ field_at ls b (from + 7 * i) ∷ fields_left ls b from n (i + 1)
 unfolding parse_fields
-fields_step ls b zero w h = absurd (omega arith)
-fields_step ls b (suc n) w h = let q : suc n - 1 ≡ n = omega arith in rw q refl
+fields_step ls b from n i h =
+    let q : n - i ≡ suc (n - (i + 1)) = omega arith in
+    let r : from + 7 * (i + 1) ≡ from + 7 * i + 7 = omega arith in
+    rw (q, r) refl
+
+pub fields_start : (ls : List NameList) (b : List ℕ) (version low high l e from n : ℕ)
+    → fields_rules version low high l e (parse_fields ls b n from)
+    ≡ all_rules (rules_are true true) (fields_rules version low high l e (fields_left ls b from n 0))
+fields_start ls b version low high l e from n =
+    let q : n - 0 ≡ n = omega arith in
+    let r : from + 7 * 0 ≡ from = omega arith in
+    rw (rules_start, q, r) refl
 
 -- A field more: `so_far` are the rules of the fields before it.
-pub fields_more : (ls : List NameList) (b : List ℕ) (version low high l e n w : ℕ) (so_far : Rules) → 0 < n
-    → let f = field_at ls b w in
-    all_rules so_far (fields_rules version low high l e (parse_fields ls b n w))
+pub fields_more : (ls : List NameList) (b : List ℕ) (version low high l e from n i : ℕ) (so_far : Rules) → i < n
+    → let f = field_at ls b (from + 7 * i) in
+    all_rules so_far (fields_rules version low high l e (fields_left ls b from n i))
     ≡ all_rules (all_rules so_far (field_of l e low high f).rules)
-    (fields_rules version f.since version l (end f) (parse_fields ls b (n - 1) (w + 7)))
-fields_more ls b version low high l e n w so_far h =
+    (fields_rules version f.since version l (end f) (fields_left ls b from n (i + 1)))
+fields_more ls b version low high l e from n i so_far h =
     rw (
-      fields_step ls b n w h,
-      fields_rules_lem version low high l e (field_at ls b w)
-          (parse_fields ls b (n - 1) (w + 7)),
+      fields_step ls b from n i h,
+      fields_rules_lem version low high l e (field_at ls b (from + 7 * i)) (fields_left ls b from n (i + 1)),
       ← rules_assoc,
     ) refl
 
@@ -61,34 +75,33 @@ unfolding ◌and◌
 and_true true = refl
 and_true false = refl
 
-pub fields_end_lem : (ls : List NameList) (b : List ℕ) (version low high l e n w : ℕ) (so_far : Rules) → n ≤ 0
-    → all_rules so_far (fields_rules version low high l e (parse_fields ls b n w)) ≡ so_far
+pub fields_end_lem : (ls : List NameList) (b : List ℕ) (version low high l e from n i : ℕ) (so_far : Rules) → n ≤ i
+    → all_rules so_far (fields_rules version low high l e (fields_left ls b from n i)) ≡ so_far
 unfolding parse_fields fields_good fields_since all_rules
-fields_end_lem ls b version low high l e zero w so_far h = rw (and_true so_far.layout, and_true so_far.since) refl
-fields_end_lem ls b version low high l e (suc n) w so_far h = absurd (omega arith)
+fields_end_lem ls b version low high l e from n i so_far h =
+    let q : n - i ≡ 0 = omega arith in
+    rw (q, and_true so_far.layout, and_true so_far.since) refl
+
+pub ruleset field_laws = (known, fields_start, fields_more, fields_end_lem)
 
 -- ---- data
 
-pub datas_step : (b : List ℕ) (n w : ℕ) → 0 < n
-    → data_sinces (parse_datas b n w) ≡ word b (w + 1) ∷ data_sinces (parse_datas b (n - 1) (w + 2))
-unfolding parse_datas
-datas_step b zero w h = absurd (omega arith)
-datas_step b (suc n) w h = let q : suc n - 1 ≡ n = omega arith in rw q refl
+-- The sinces of those of n data from word `from` on that come from data i on.
+abbrev pub datas_left : List ℕ → ℕ → ℕ → ℕ → List ℕ
+datas_left b from n i = data_sinces (parse_datas b (n - i) (from + 2 * i))
 
-module _ (b : List ℕ) (high low n w : ℕ) (h : 0 < n) where
-  abbrev since : ℕ
-  since = word b (w + 1)
+module _ (b : List ℕ) (high low from n i : ℕ) where
+  pub datas_end : n ≤ i → rising high low (datas_left b from n i) ≡ true
+  unfolding rising parse_datas
+  datas_end h = let q : n - i ≡ 0 = omega arith in rw q refl
 
-  pub datas_next : (leb low since and leb since high) ≡ true
-      → rising high low (data_sinces (parse_datas b n w)) ≡ rising high since (data_sinces (parse_datas b (n - 1) (w + 2)))
-  unfolding rising
-  datas_next e = rw (datas_step b n w h, ← (and_assoc (leb low since) (leb since high) _), e) (unfold ◌and◌ in refl)
+  pub datas_more : i < n → let since = word b (from + 2 * i + 1) in
+      rising high low (datas_left b from n i)
+      ≡ ((leb low since and leb since high) and rising high since (datas_left b from n (i + 1)))
+  unfolding rising parse_datas
+  datas_more h =
+      let q : n - i ≡ suc (n - (i + 1)) = omega arith in
+      let r : from + 2 * (i + 1) ≡ from + 2 * i + 2 = omega arith in
+      rw (q, r, and_assoc (leb low (word b (from + 2 * i + 1)))) refl
 
-  pub datas_fall : (leb low since and leb since high) ≡ false → rising high low (data_sinces (parse_datas b n w)) ≡ false
-  unfolding rising
-  datas_fall e = rw (datas_step b n w h, ← (and_assoc (leb low since) (leb since high) _), e) (unfold ◌and◌ in refl)
-
-pub datas_end_lem : (b : List ℕ) (high low n w : ℕ) → n ≤ 0 → rising high low (data_sinces (parse_datas b n w)) ≡ true
-unfolding rising parse_datas
-datas_end_lem b high low zero w h = refl
-datas_end_lem b high low (suc n) w h = absurd (omega arith)
+pub ruleset data_laws = (known, datas_end, datas_more)

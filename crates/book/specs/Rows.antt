@@ -1,14 +1,10 @@
 -- The rows of a book's contents, and its lists, as the code finds them: s is the octets of a book.
-use Rattle.std.specs.Prelude.{◌≡◌, Bool, true, List, [], ◌∷◌, ℕ, suc, ◌+◌, ◌*◌, ◌/◌, ◌≤◌, eqb, ltb, length}
-use Rattle.layout.specs.Result.{Result, ◌and◌, done, when◌then◌else◌, refused}
+use Rattle.std.specs.Prelude.{◌≡◌, Bool, true, List, [], ◌∷◌, ℕ, suc, ◌+◌, ◌*◌, ◌/◌, ◌≤◌, eqb, ltb, length, take, drop, Option, Some, None}
+use Rattle.layout.specs.Result.{◌and◌, done, when◌then◌else◌}
 use Rattle.layout.specs.Octets.{words_of}
 use Rattle.layout.specs.Types.{type_at}
 use Rattle.layout.specs.Lists.{NameList, is_one_of}
 use Rattle.layout.specs.BookRules.{ContentsRow, check_contents, format_of, greatest, head_good, list_rows, name_list_of, word}
-use Rattle.book.specs.declared.Contents as Contents
-use Rattle.book.specs.declared.Contents.{Contents}
-use Rattle.book.specs.declared.Listed as Listed
-use Rattle.book.specs.declared.Listed.{Listed}
 
 -- The head is good, and so the contents lie within the book.
 pub record BookHead (s : List ℕ) : Type 0 where
@@ -23,15 +19,9 @@ pub record HasLists (s : List ℕ) : Type 0 where
 abbrev pub counted_in : List ℕ → Bool
 counted_in s = (format_of (words_of s)).in_groups
 
--- Where the bodies of rows end.
-unfoldable pub end_of : Result ℕ → Contents
-end_of (done at) = Contents.TheVariants.Whole at
-end_of (refused n p) = Contents.TheVariants.Broken
-
--- That is four times the greatest word at most.
-unfoldable pub EndsLow : Contents → Type 0
-EndsLow (Contents.TheVariants.Whole at) = at ≤ 262140
-EndsLow Contents.TheVariants.Broken = Unit {0}
+-- The words of the body of the row at word w of the words b.
+abbrev pub body_at : List ℕ → ℕ → List ℕ
+body_at b w = take (word b (w + 2)) (drop (word b (w + 1)) b)
 
 -- ---- lists
 
@@ -45,11 +35,11 @@ pub record IsListRow (s : List ℕ) (w : ℕ) : Type 0 where
   pub lies : word (words_of s) (w + 1) + word (words_of s) (w + 2) ≤ length s / 2
 
 -- The position of the list with this number among rows, of which the first has position i.
-unfoldable pub listed_among : ℕ → List ContentsRow → ℕ → Listed
-listed_among id [] i = Listed.TheVariants.Missing
-listed_among id (r ∷ rs) i = when eqb r.id id then Listed.TheVariants.At i else listed_among id rs (suc i)
+unfoldable pub listed_among : ℕ → List ContentsRow → ℕ → Option ℕ
+listed_among id [] i = None
+listed_among id (r ∷ rs) i = when eqb r.id id then Some i else listed_among id rs (suc i)
 
-abbrev pub listed_of : List ℕ → ℕ → Listed
+abbrev pub listed_of : List ℕ → ℕ → Option ℕ
 listed_of b id = listed_among id (list_rows b) 0
 
 -- Rule 5 of a list: whether it fits a number of type t.

@@ -1,8 +1,8 @@
 // Checks a schema book: accepted, or the refusal 1 to 7 with its place. One walk over the words of each body finds
 // whether the body is whole (4) and, if it is, whether it keeps the rules of 5, 6 and 7. Then the lists are judged (4).
-#![tactic(auto)]
+#![tactic(auto, using(crate::proofs::Rows::known))]
 
-ghost use Rattle.std.specs.Prelude.{◌≡◌, true, [], ◌∷◌, ◌+◌, ◌*◌, ◌/◌, ◌<◌, ◌≤◌, leb, ltb, eqb, length, take, drop};
+ghost use Rattle.std.specs.Prelude.{◌≡◌, true, [], ◌∷◌, ◌+◌, ◌*◌, ◌/◌, ◌<◌, ◌≤◌, leb, ltb, eqb, length, take, drop, IfOk, IfSome};
 ghost use Rattle.layout.specs.Result.{◌and◌, ◌or◌};
 ghost use Rattle.layout.specs.Octets.{words_of};
 ghost use Rattle.layout.specs.Types.{type_at};
@@ -12,13 +12,13 @@ ghost use Rattle.layout.specs.BookRules.{check_contents, climbing, contents_end,
 ghost use Rattle.layout.specs.BookRules.{head_good, list_good, lists_of, names_good, parse_body, parse_contents, parse_datas};
 ghost use Rattle.layout.specs.BookRules.{parse_fields, parse_groups, parse_shape, rising, size_good, word as word_of};
 ghost use Rattle.layout.specs.BookRules.{youngest as youngest_of};
-ghost use Rattle.layout.specs.Operations.{checked, refusal, ChecksBook};
+ghost use Rattle.layout.specs.Operations.{checked, counted, ChecksBook};
+ghost use Rattle.layout.specs.declared.Reason.TheVariants.{BookBlock};
 ghost use Rattle.book.specs.Answers.{IsWord, all_rules, block_of, bodies_of, body_of, field_of, fields_rules, first_of};
 ghost use Rattle.book.specs.Answers.{group_rules, least_at, row_of, verdict_of};
-ghost use Rattle.book.specs.Rows.{BookHead, EndsLow, HasLists, IsListRow, counted_in, end_of, list_at, list_fits};
-ghost use Rattle.book.specs.Rows.{listed_of};
+ghost use Rattle.book.specs.Rows.{BookHead, HasLists, IsListRow, body_at, counted_in, list_at, list_fits, listed_of};
 
-use layout::{Checked, Refusal};
+use layout::{Reason, Refusal, refuse};
 
 // Whether the rules of 5 and of 6 hold.
 #[derive(Clone, Copy)]
@@ -35,122 +35,100 @@ pub struct Field {
     pub since: usize,
 }
 
-// A block without its groups: how many they are, and the word where they start.
+// A block without its groups: how many they are, the word where they start, and what rules hold.
 #[derive(Clone, Copy)]
-pub enum Block {
-    Whole {
-        groups: usize,
-        next: usize,
-        rules: Rules,
-    },
-    Broken,
+pub struct Block {
+    pub groups: usize,
+    pub next: usize,
+    pub rules: Rules,
 }
 
 // Groups in a row: the word after them.
 #[derive(Clone, Copy)]
-pub enum Row {
-    Whole { next: usize, rules: Rules },
-    Broken,
+pub struct Row {
+    pub next: usize,
+    pub rules: Rules,
 }
 
 // A body: whether its template's shortest message is short enough, which is the rule of 7.
 #[derive(Clone, Copy)]
-pub enum Body {
-    Whole { rules: Rules, short: bool },
-    Broken,
+pub struct Body {
+    pub rules: Rules,
+    pub short: bool,
 }
 
-// Rows of the contents: the word after the last body.
+// The least and the greatest since that an element may have.
 #[derive(Clone, Copy)]
-pub enum Contents {
-    Whole(usize),
-    Broken,
+pub struct Range {
+    pub low: usize,
+    pub high: usize,
 }
 
-// The list with a number: its position among the lists.
-#[derive(Clone, Copy)]
-pub enum Listed {
-    At(usize),
-    Missing,
-}
+const ALL_KEPT: Rules = Rules {
+    layout: true,
+    since: true,
+};
 
 // How many words are the head, and a row of the contents.
 const HEAD: usize = 7;
 
 const ROW: usize = 3;
 
-// No template has this number.
-const NO_TEMPLATE: usize = 64;
-
 // How many octets a message's header has, and a message at most.
 const HEADER: usize = 12;
 
 const MOST: usize = 65535;
 
-fn refuse(number: u8, place: usize) -> Checked
-    ensures { result ≡ Checked.Refused (refusal number place) }
-{
-    Checked::Refused(Refusal { number, place })
-}
-
-fn both(a: bool, b: bool) -> bool
-    ensures { result ≡ (a and b) }
-{
-    if a { b } else { false }
-}
-
-fn either(a: bool, b: bool) -> bool
-    ensures { result ≡ (a or b) }
-{
-    if a { true } else { b }
-}
-
 fn between(low: usize, x: usize, high: usize) -> bool
     ensures { result ≡ (leb low x and leb x high) }
 {
-    both(low <= x, x <= high)
+    low <= x && x <= high
 }
 
+#[tactic(auto, using(crate::proofs::Rows::known), unfolding(crate::specs::Answers::all_rules))]
 fn all_rules(a: Rules, b: Rules) -> Rules
     ensures { result ≡ all_rules a b }
 {
     Rules {
-        layout: both(a.layout, b.layout),
-        since: both(a.since, b.since),
+        layout: a.layout && b.layout,
+        since: a.since && b.since,
     }
 }
 
 // Word w.
+#[tactic(auto, using(crate::proofs::Rows::parts))]
 pub fn word(s: &[u8], w: usize) -> usize
     requires { w + 1 ≤ length s.now / 2 }
     ensures { IsWord s.now w result }
 {
-    octets::get2(s, 2 * w) as usize
+    octets::get::<2>(s, 2 * w) as usize
+}
+
+// The body of the row of the contents at word w.
+#[tactic(auto, using(crate::proofs::Rows::parts))]
+fn body_at(book: &[u8], w: usize) -> &[u8]
+    requires { IsListRow book.now w }
+    ensures { words_of result.now ≡ body_at (words_of book.now) w }
+{
+    let start = 2 * word(book, w + 1);
+    &book[start..start + 2 * word(book, w + 2)]
 }
 
 // ---- lists
 
-// The list with this number, among those of the book: numbers rise, so half of the rows is passed at each step.
-pub fn find_list(book: &[u8], id: usize) -> Listed
+// The list with this number: its position among those of the book, along which numbers rise.
+pub fn find_list(book: &[u8], id: usize) -> Option<usize>
     requires { HasLists book.now }
     ensures { result ≡ listed_of (words_of book.now) id }
 {
-    let rows = HEAD + ROW * word(book, 2);
-    let mut low = 0;
-    let mut high = word(book, 4);
-    while low < high {
-        let mid = (low + high) / 2;
-        let here = word(book, rows + ROW * mid);
-        if here == id {
-            return Listed::At(mid);
-        }
-        if here < id {
-            low = mid + 1;
-        } else {
-            high = mid;
-        }
-    }
-    Listed::Missing
+    let templates = word(book, 2);
+    bisect::find(
+        word(book, 4),
+        id as u64,
+        |i|
+            requires { 7 + 3 * (templates + i) + 3 ≤ length book.now / 2 }
+        { word(book, HEAD + ROW * (templates + i)) as u64 },
+    )
 }
 
 // The word for the kind of the list whose row is at word w.
@@ -165,6 +143,7 @@ fn kind_of(book: &[u8], w: usize) -> usize
 }
 
 // The greatest number of that list, or 0.
+#[tactic(auto, using(crate::proofs::NameLists::list_laws))]
 fn greatest_of(book: &[u8], w: usize) -> usize
     requires { IsListRow book.now w }
     ensures { result ≡ greatest (list_at (words_of book.now) w).numbers }
@@ -177,25 +156,22 @@ fn greatest_of(book: &[u8], w: usize) -> usize
 }
 
 // Whether a type may have an enumeration, and a set: char, uint8 and uint16; an unsigned type.
+#[tactic(auto, using(crate::proofs::Rows::known), unfolding(layout::specs::Lists::is_one_of))]
 fn takes_values(t: usize) -> bool
     ensures { result ≡ is_one_of t (0 ∷ 2 ∷ 4 ∷ []) }
 {
-    match t {
-        0 | 2 | 4 => true,
-        _ => false,
-    }
+    matches!(t, 0 | 2 | 4)
 }
 
+#[tactic(auto, using(crate::proofs::Rows::known), unfolding(layout::specs::Lists::is_one_of))]
 fn takes_bits(t: usize) -> bool
     ensures { result ≡ is_one_of t (2 ∷ 4 ∷ 6 ∷ 8 ∷ []) }
 {
-    match t {
-        2 | 4 | 6 | 8 => true,
-        _ => false,
-    }
+    matches!(t, 2 | 4 | 6 | 8)
 }
 
 // Whether the list whose row is at word w fits a number of type t.
+#[tactic(auto, using(crate::proofs::NameLists::list_laws), unfolding(crate::specs::Rows::list_fits))]
 fn list_fits(book: &[u8], w: usize, t: usize) -> bool
     requires { IsListRow book.now w }
     ensures { result ≡ list_fits (list_at (words_of book.now) w) t }
@@ -203,13 +179,11 @@ fn list_fits(book: &[u8], w: usize, t: usize) -> bool
     if kind_of(book, w) == 0 {
         return takes_values(t);
     }
-    both(
-        takes_bits(t),
-        greatest_of(book, w) < 8 * number_types::width_of(t),
-    )
+    takes_bits(t) && greatest_of(book, w) < 8 * number_types::width_of(t)
 }
 
 // Whether the field at word w of a body may have the list that its last word leads to, if to one.
+#[tactic(auto, using(crate::proofs::NameLists::names_laws))]
 fn names_good(book: &[u8], body: &[u8], w: usize) -> bool
     requires { HasLists book.now × (w + 7 ≤ length body.now / 2) }
     ensures { result ≡ names_good (field_at (lists_of (words_of book.now)) (words_of body.now)
@@ -219,73 +193,60 @@ fn names_good(book: &[u8], body: &[u8], w: usize) -> bool
     if list == 0 {
         return true;
     }
-    let Listed::At(i) = find_list(book, list - 1) else {
+    let Some(i) = find_list(book, list - 1) else {
         return false;
     };
-    if 1 < word(body, w + 2) {
-        return false;
-    }
-    list_fits(book, HEAD + ROW * (word(book, 2) + i), word(body, w + 1))
+    word(body, w + 2) <= 1 && list_fits(book, HEAD + ROW * (word(book, 2) + i), word(body, w + 1))
 }
 
 // Whether the n numbers from word `from` on rise.
+#[tactic(auto, using(crate::proofs::NameLists::climbs))]
 fn numbers_rise(book: &[u8], from: usize, n: usize) -> bool
     requires { from + n ≤ length book.now / 2 }
     ensures { result ≡ climbing 0 (take n (drop from (words_of book.now))) }
 {
-    let mut w = from;
-    let mut left = n;
     let mut low = 0;
-    while 0 < left {
-        let here = word(book, w);
+    for i in 0..n {
+        let here = word(book, from + i);
         if here < low {
             return false;
         }
         low = here + 1;
-        w = w + 1;
-        left = left - 1;
     }
     true
 }
 
 // Whether the list whose row is at word w keeps its rule.
+#[tactic(auto, using(crate::proofs::NameLists::list_laws))]
 fn list_good(book: &[u8], w: usize) -> bool
     requires { IsListRow book.now w }
     ensures { result ≡ list_good (list_at (words_of book.now) w) }
 {
     let n = word(book, w + 2);
-    if between(2, n, 65) {
-        if kind_of(book, w) < 2 {
-            return numbers_rise(book, word(book, w + 1) + 1, n - 1);
-        }
-    }
-    false
+    between(2, n, 65) && kind_of(book, w) < 2 && numbers_rise(book, word(book, w + 1) + 1, n - 1)
 }
 
 // 4 at the first list that breaks its rule, counted on from the templates.
-fn check_lists(book: &[u8]) -> Checked
+#[tactic(auto, using(crate::proofs::NameLists::lists_laws))]
+fn check_lists(book: &[u8]) -> Result<(), Refusal>
     requires { HasLists book.now }
-    ensures { result ≡ checked (each_must list_good 4 (word_of (words_of book.now) 2)
+    ensures { result ≡ checked (each_must list_good BookBlock (word_of (words_of book.now) 2)
         (lists_of (words_of book.now))) }
 {
-    let mut place = word(book, 2);
-    let mut left = word(book, 4);
-    let mut w = HEAD + ROW * place;
-    while 0 < left {
-        if list_good(book, w) {
-            place = place + 1;
-            w = w + ROW;
-            left = left - 1;
-        } else {
-            return refuse(4, place);
+    let templates = word(book, 2);
+    for i in 0..word(book, 4) {
+        let place = templates + i;
+        if !list_good(book, HEAD + ROW * place) {
+            return refuse(Reason::BookBlock, place);
         }
     }
-    Checked::Accepted
+    Ok(())
 }
 
 // ---- fields and data
 
 // The end of a field of type t.
+#[tactic(auto, using(crate::proofs::NameLists::list_laws))]
 pub fn field_end(t: usize, n: usize, offset: usize) -> usize
     requires { (n < 65536) × (offset < 65536) }
     ensures { result ≡ offset + (type_at t).width * n }
@@ -296,39 +257,34 @@ pub fn field_end(t: usize, n: usize, offset: usize) -> usize
 fn length_good(t: usize, n: usize) -> bool
     ensures { result ≡ (eqb n 1 or (leb 2 n and leb n 1024 and (eqb t 0 or eqb t 2))) }
 {
-    let array = both(n <= 1024, either(t == 0, t == 2));
-    either(n == 1, both(2 <= n, array))
+    n == 1 || (2 <= n && n <= 1024 && (t == 0 || t == 2))
 }
 
-// The field at word w of a block of l octets, after one that ends at e; its since lies from `low` to `high`.
-fn check_field(
-    book: &[u8],
-    body: &[u8],
-    w: usize,
-    l: usize,
-    e: usize,
-    low: usize,
-    high: usize,
-) -> Field
+// The field at word w of a block of l octets, after one that ends at e.
+fn check_field(book: &[u8], body: &[u8], w: usize, l: usize, e: usize, sinces: Range) -> Field
     requires { HasLists book.now × (w + 7 ≤ length body.now / 2) }
-    ensures { result ≡ field_of l e low high (field_at (lists_of (words_of book.now)) (words_of body.now) w) }
+    ensures { result ≡ field_of l e sinces.low sinces.high
+        (field_at (lists_of (words_of book.now)) (words_of body.now) w) }
 {
     let t = word(body, w + 1);
     let n = word(body, w + 2);
     let offset = word(body, w + 3);
-    let presence = word(body, w + 4);
     let since = word(body, w + 5);
     let end = field_end(t, n, offset);
-    let placed = both(e <= offset, both(end <= l, names_good(book, body, w)));
-    let layout = both(t < 9, both(length_good(t, n), both(presence <= 1, placed)));
     let rules = Rules {
-        layout,
-        since: between(low, since, high),
+        layout: t < 9
+            && length_good(t, n)
+            && word(body, w + 4) <= 1
+            && e <= offset
+            && end <= l
+            && names_good(book, body, w),
+        since: between(sinces.low, since, sinces.high),
     };
     Field { rules, end, since }
 }
 
-// The n fields at word `from` of a block of l octets.
+// The n fields at word `from` of a block of l octets, the first of which has one of these sinces.
+#[tactic(auto, using(crate::proofs::RuleLaws::field_laws))]
 fn check_fields(
     book: &[u8],
     body: &[u8],
@@ -336,51 +292,40 @@ fn check_fields(
     n: usize,
     l: usize,
     version: usize,
-    low: usize,
-    high: usize,
+    sinces: Range,
 ) -> Rules
     requires { HasLists book.now × (from + 7 * n ≤ length body.now / 2) }
-    ensures { result ≡ fields_rules version low high l 0 (parse_fields (lists_of (words_of book.now)) (words_of
-        body.now) n from) }
+    ensures { result ≡ fields_rules version sinces.low sinces.high l 0
+        (parse_fields (lists_of (words_of book.now)) (words_of body.now) n from) }
 {
-    let mut w = from;
-    let mut left = n;
-    let mut e = 0;
-    let mut least = low;
-    let mut most = high;
-    let mut rules = Rules {
-        layout: true,
-        since: true,
-    };
-    while 0 < left {
-        let field = check_field(book, body, w, l, e, least, most);
+    let mut rules = ALL_KEPT;
+    let mut end = 0;
+    let mut next = sinces;
+    for i in 0..n {
+        let field = check_field(book, body, from + 7 * i, l, end, next);
         rules = all_rules(rules, field.rules);
-        e = field.end;
-        least = field.since;
-        most = version;
-        w = w + 7;
-        left = left - 1;
+        end = field.end;
+        next = Range {
+            low: field.since,
+            high: version,
+        };
     }
     rules
 }
 
-// Whether the sinces of the n data at word `from` rise from `low` to `high`.
-fn check_datas(body: &[u8], from: usize, n: usize, low: usize, high: usize) -> bool
+// Whether the sinces of the n data at word `from` rise from the least of these to the greatest.
+#[tactic(auto, using(crate::proofs::RuleLaws::data_laws))]
+fn check_datas(body: &[u8], from: usize, n: usize, sinces: Range) -> bool
     requires { from + 2 * n ≤ length body.now / 2 }
-    ensures { result ≡ rising high low (data_sinces (parse_datas (words_of body.now) n from)) }
+    ensures { result ≡ rising sinces.high sinces.low (data_sinces (parse_datas (words_of body.now) n from)) }
 {
-    let mut w = from;
-    let mut left = n;
-    let mut least = low;
-    while 0 < left {
-        let since = word(body, w + 1);
-        if between(least, since, high) {
-            least = since;
-            w = w + 2;
-            left = left - 1;
-        } else {
+    let mut least = sinces.low;
+    for i in 0..n {
+        let since = word(body, from + 2 * i + 1);
+        if !between(least, since, sinces.high) {
             return false;
         }
+        least = since;
     }
     true
 }
@@ -390,77 +335,65 @@ fn check_datas(body: &[u8], from: usize, n: usize, low: usize, high: usize) -> b
 fn counts_good(few: usize, f: usize, g: usize, d: usize) -> bool
     ensures { result ≡ (leb few f and leb f 64 and leb g 16 and leb d 16) }
 {
-    let others = both(g <= 16, d <= 16);
-    both(few <= f, both(f <= 64, others))
+    few <= f && f <= 64 && g <= 16 && d <= 16
 }
 
-// The block at word w up to its groups. It has at least `few` fields, and data with sinces up to `top`.
+// The block at word w up to its groups, if it is whole. It has at least `few` fields, and data with sinces up to `top`.
+#[tactic(auto, using(crate::proofs::Blocks::block_laws))]
 fn check_block(
     book: &[u8],
     body: &[u8],
     few: usize,
     w: usize,
     version: usize,
-    low: usize,
-    high: usize,
+    sinces: Range,
     top: usize,
-) -> Block
+) -> Option<Block>
     requires { HasLists book.now × (w ≤ length body.now / 2) }
-    ensures { result ≡ block_of version low high top (parse_shape (lists_of (words_of book.now)) (words_of body.now) few w) }
+    ensures value { result ≡ block_of version sinces.low sinces.high top
+        (parse_shape (lists_of (words_of book.now)) (words_of body.now) few w) }
+    ensures lies { IfSome result (λ block. (w + 4 ≤ block.next) × (block.next ≤ length body.now / 2)) }
 {
     let size = body.len() / 2;
     if size < w + 4 {
-        return Block::Broken;
+        return None;
     }
     let f = word(body, w + 1);
     let g = word(body, w + 2);
     let d = word(body, w + 3);
-    if counts_good(few, f, g, d) {
-        let datas = w + 4 + 7 * f;
-        let next = datas + 2 * d;
-        if size < next {
-            return Block::Broken;
-        }
-        let l = word(body, w);
-        let fields = check_fields(book, body, w + 4, f, l, version, low, high);
-        let whole = Rules {
-            layout: l < 65535,
-            since: true,
-        };
-        let others = Rules {
-            layout: true,
-            since: check_datas(body, datas, d, low, top),
-        };
-        let rules = all_rules(whole, all_rules(fields, others));
-        return Block::Whole {
-            groups: g,
-            next,
-            rules,
-        };
+    let datas = w + 4 + 7 * f;
+    let next = datas + 2 * d;
+    if !counts_good(few, f, g, d) || size < next {
+        return None;
     }
-    Block::Broken
+    let l = word(body, w);
+    let fields = check_fields(book, body, w + 4, f, l, version, sinces);
+    let low = sinces.low;
+    let rules = Rules {
+        layout: l < 65535 && fields.layout,
+        since: fields.since && check_datas(body, datas, d, Range { low, high: top }),
+    };
+    Some(Block {
+        groups: g,
+        next,
+        rules,
+    })
 }
 
 // The rules of the groups so far and of one more, which has this since: its block's and its inner groups'.
-fn more_rules(
-    before: Rules,
-    least: usize,
-    since: usize,
-    high: usize,
-    block: Rules,
-    inner: Rules,
-) -> Rules
-    ensures { result ≡ all_rules before (group_rules least since high block inner) }
+fn more_rules(before: Rules, sinces: Range, since: usize, block: Rules, inner: Rules) -> Rules
+    ensures { result ≡ all_rules before (group_rules sinces.low since sinces.high block inner) }
 {
     let own = Rules {
         layout: true,
-        since: between(least, since, high),
+        since: between(sinces.low, since, sinces.high),
     };
     all_rules(before, all_rules(own, all_rules(block, inner)))
 }
 
 // The greatest since that data and groups inside a group with this since may have: its own, or the version where
 // dimensions have counts.
+#[tactic(auto, using(crate::proofs::Rows::known), unfolding(layout::specs::BookRules::youngest))]
 fn youngest(book: &[u8], version: usize, since: usize) -> usize
     requires { HasLists book.now }
     ensures { result ≡ youngest_of (counted_in book.now) version since }
@@ -468,7 +401,8 @@ fn youngest(book: &[u8], version: usize, since: usize) -> usize
     if word(book, 6) == 4 { version } else { since }
 }
 
-// The n groups in a row at word `from`, `depth` more levels being left.
+// The n groups in a row at word `from`, if they are whole, `depth` more levels being left.
+#[tactic(auto, using(crate::proofs::Groups::row_laws))]
 fn check_groups(
     book: &[u8],
     body: &[u8],
@@ -476,51 +410,51 @@ fn check_groups(
     n: usize,
     depth: usize,
     version: usize,
-    low: usize,
-    high: usize,
-) -> Row
+    sinces: Range,
+) -> Option<Row>
     requires { HasLists book.now × (from ≤ length body.now / 2) }
-    ensures { result ≡ row_of (counted_in book.now) version low high (parse_groups (lists_of (words_of book.now)) (words_of body.now) depth n from) }
+    ensures value { result ≡ row_of (counted_in book.now) version sinces.low sinces.high
+        (parse_groups (lists_of (words_of book.now)) (words_of body.now) depth n from) }
+    ensures lies { IfSome result (λ row. row.next ≤ length body.now / 2) }
 {
-    let mut w = from;
-    let mut left = n;
-    let mut least = low;
-    let mut rules = Rules {
-        layout: true,
-        since: true,
-    };
-    while 0 < left {
-        if depth == 0 {
-            return Row::Broken;
+    let high = sinces.high;
+    let mut next = from;
+    let mut low = sinces.low;
+    let mut rules = ALL_KEPT;
+    for _ in 0..n {
+        if depth == 0 || body.len() / 2 < next + 2 {
+            return None;
         }
-        if body.len() / 2 < w + 2 {
-            return Row::Broken;
-        }
-        let since = word(body, w + 1);
+        let since = word(body, next + 1);
         let top = youngest(book, version, since);
-        let block = check_block(book, body, 1, w + 2, version, since, since, top);
-        let Block::Whole {
-            groups,
-            next: inside,
-            rules: own,
-        } = block
-        else {
-            return Row::Broken;
+        let own = Range {
+            low: since,
+            high: since,
         };
-        let inner = check_groups(book, body, inside, groups, depth - 1, version, since, top);
-        let Row::Whole { next, rules: below } = inner else {
-            return Row::Broken;
+        let block = check_block(book, body, 1, next + 2, version, own, top)?;
+        let inside = Range {
+            low: since,
+            high: top,
         };
-        rules = more_rules(rules, least, since, high, own, below);
-        least = since;
-        w = next;
-        left = left - 1;
+        let inner = check_groups(
+            book,
+            body,
+            block.next,
+            block.groups,
+            depth - 1,
+            version,
+            inside,
+        )?;
+        rules = more_rules(rules, Range { low, high }, since, block.rules, inner.rules);
+        low = since;
+        next = inner.next;
     }
-    Row::Whole { next: w, rules }
+    Some(Row { next, rules })
 }
 
 // How many octets the shortest message of a body's template has: its header, the root block, a dimension for each root
 // group and a length for each root data.
+#[tactic(auto, using(crate::proofs::Rows::head_laws))]
 fn least_length(book: &[u8], body: &[u8]) -> usize
     requires { HasLists book.now × (4 ≤ length body.now / 2) }
     ensures { result ≡ least_at (counted_in book.now) (words_of body.now) }
@@ -530,109 +464,97 @@ fn least_length(book: &[u8], body: &[u8]) -> usize
 }
 
 // A body is one block, and nothing after it.
-fn check_body(book: &[u8], body: &[u8], version: usize) -> Body
+#[tactic(auto, using(crate::proofs::Bodies::body_laws))]
+fn check_body(book: &[u8], body: &[u8], version: usize) -> Option<Body>
     requires { HasLists book.now }
-    ensures { result ≡ body_of (format_of (words_of book.now)) version (parse_body (lists_of (words_of book.now)) (words_of body.now)) }
+    ensures { result ≡ body_of (format_of (words_of book.now)) version
+        (parse_body (lists_of (words_of book.now)) (words_of body.now)) }
 {
-    let block = check_block(book, body, 0, 0, version, 0, version, version);
-    let Block::Whole {
-        groups,
-        next: inside,
-        rules: own,
-    } = block
-    else {
-        return Body::Broken;
+    let sinces = Range {
+        low: 0,
+        high: version,
     };
-    let row = check_groups(book, body, inside, groups, 4, version, 0, version);
-    let Row::Whole { next, rules: below } = row else {
-        return Body::Broken;
-    };
-    if next == body.len() / 2 {
-        return Body::Whole {
-            rules: all_rules(own, below),
-            short: least_length(book, body) <= MOST,
-        };
+    let block = check_block(book, body, 0, 0, version, sinces, version)?;
+    let row = check_groups(book, body, block.next, block.groups, 4, version, sinces)?;
+    if row.next != body.len() / 2 {
+        return None;
     }
-    Body::Broken
+    Some(Body {
+        rules: all_rules(block.rules, row.rules),
+        short: least_length(book, body) <= MOST,
+    })
 }
 
 // ---- the book
 
 // The first template that breaks a rule, `seen` being the first before template t.
-fn first_of(seen: usize, keeps: bool, t: usize) -> usize
+#[tactic(auto, using(crate::proofs::Rows::known), unfolding(crate::specs::Answers::first_of))]
+fn first_of(seen: Option<usize>, keeps: bool, t: usize) -> Option<usize>
     ensures { result ≡ first_of seen keeps t }
 {
-    if seen < NO_TEMPLATE {
-        return seen;
+    if seen.is_some() || keeps {
+        seen
+    } else {
+        Some(t)
     }
-    if keeps {
-        return NO_TEMPLATE;
-    }
-    t
 }
 
-fn verdict(five: usize, six: usize, seven: usize) -> Checked
-    ensures { result ≡ verdict_of five six seven }
+// 5 at the first template that breaks its rule, else 6, else 7.
+#[tactic(auto, using(crate::proofs::Bodies::verdicts), unfolding(crate::specs::Answers::verdict_of))]
+fn verdict(five: Option<usize>, six: Option<usize>, seven: Option<usize>) -> Result<(), Refusal>
+    ensures { result ≡ checked (verdict_of five six seven) }
 {
-    if five < NO_TEMPLATE {
-        return refuse(5, five);
+    if let Some(t) = five {
+        return refuse(Reason::BookLayout, t);
     }
-    if six < NO_TEMPLATE {
-        return refuse(6, six);
+    if let Some(t) = six {
+        return refuse(Reason::BookSince, t);
     }
-    if seven < NO_TEMPLATE {
-        return refuse(7, seven);
+    if let Some(t) = seven {
+        return refuse(Reason::BookUnsendable, t);
     }
-    Checked::Accepted
+    Ok(())
 }
 
 // The bodies of all templates: 4 where one is broken or a list is, else 5 at the first that breaks its rule, else 6,
 // else 7.
-fn check_bodies(book: &[u8]) -> Checked
+#[tactic(auto, using(crate::proofs::Bodies::bodies_laws))]
+fn check_bodies(book: &[u8]) -> Result<(), Refusal>
     requires { HasLists book.now }
     ensures { result ≡ checked (bodies_of (words_of book.now)) }
 {
     let version = word(book, 1);
-    let mut left = word(book, 2);
-    let mut t = 0;
-    let mut w = HEAD;
-    let mut five = NO_TEMPLATE;
-    let mut six = NO_TEMPLATE;
-    let mut seven = NO_TEMPLATE;
-    while 0 < left {
-        let start = 2 * word(book, w + 1);
-        let end = start + 2 * word(book, w + 2);
-        let body = check_body(book, &book[start..end], version);
-        let Body::Whole { rules, short } = body else {
-            return refuse(4, t);
+    let mut five = None;
+    let mut six = None;
+    let mut seven = None;
+    for t in 0..word(book, 2) {
+        let body = body_at(book, HEAD + ROW * t);
+        let Some(body) = check_body(book, body, version) else {
+            return refuse(Reason::BookBlock, t);
         };
-        five = first_of(five, rules.layout, t);
-        six = first_of(six, rules.since, t);
-        seven = first_of(seven, short, t);
-        t = t + 1;
-        w = w + ROW;
-        left = left - 1;
+        five = first_of(five, body.rules.layout, t);
+        six = first_of(six, body.rules.since, t);
+        seven = first_of(seven, body.short, t);
     }
-    let Checked::Refused(refusal) = check_lists(book) else {
-        return verdict(five, six, seven);
-    };
-    Checked::Refused(refusal)
+    check_lists(book)?;
+    verdict(five, six, seven)
 }
 
 fn size_good(book: &[u8]) -> bool
     ensures { result ≡ size_good book.now }
 {
     let n = book.len();
-    both(n % 2 == 0, between(8, n, 8192))
+    n % 2 == 0 && between(8, n, 8192)
 }
 
 // Whether a dimension may have n numbers.
 fn dimension_good(n: usize) -> bool
     ensures { result ≡ (eqb n 2 or eqb n 4) }
 {
-    either(n == 2, n == 4)
+    n == 2 || n == 4
 }
 
+#[tactic(auto, using(crate::proofs::Rows::head_laws))]
 fn head_good(book: &[u8]) -> bool
     requires { 8 ≤ length book.now }
     ensures { result ≡ head_good (words_of book.now) }
@@ -642,75 +564,70 @@ fn head_good(book: &[u8]) -> bool
         return false;
     }
     let n = word(book, 2);
-    let contents = HEAD + ROW * (n + word(book, 4));
-    let rest = both(contents <= size, dimension_good(word(book, 6)));
-    let room = both(1 <= n, both(n <= 64, both(word(book, 5) <= 1, rest)));
-    let whole = both(word(book, 0) < 65535, both(word(book, 1) < 65535, room));
-    both(word(book, 3) == size, whole)
+    word(book, 3) == size
+        && word(book, 0) < 65535
+        && word(book, 1) < 65535
+        && between(1, n, 64)
+        && word(book, 5) <= 1
+        && HEAD + ROW * (n + word(book, 4)) <= size
+        && dimension_good(word(book, 6))
 }
 
 fn row_good(low: usize, id: usize, at: usize, first: usize) -> bool
     ensures { result ≡ (leb low id and ltb id 65535 and eqb first at) }
 {
-    both(low <= id, both(id < 65535, first == at))
+    low <= id && id < 65535 && first == at
 }
 
-// The n rows at word `from`, the first body being at word `start`.
-fn contents_end(book: &[u8], from: usize, n: usize, start: usize) -> Contents
+// The n rows at word `from`, the first body being at word `start`: the word after the last body.
+#[tactic(auto, using(crate::proofs::Rows::contents_laws))]
+fn contents_end(book: &[u8], from: usize, n: usize, start: usize) -> Result<usize, Refusal>
     requires { (from + 3 * n ≤ length book.now / 2) × (start ≤ 262140) }
-    ensures value { result ≡ end_of (contents_end 0 start (parse_contents (words_of book.now) n from)) }
-    ensures ends_low { EndsLow result }
+    ensures value { result ≡ counted (contents_end 0 start (parse_contents (words_of book.now) n from)) }
+    ensures ends_low { IfOk result (λ at. at ≤ 262140) }
 {
-    let mut left = n;
-    let mut w = from;
     let mut low = 0;
     let mut at = start;
-    while 0 < left {
+    for i in 0..n {
+        let w = from + ROW * i;
         let id = word(book, w);
-        if row_good(low, id, at, word(book, w + 1)) {
-            low = id + 1;
-            at = at + word(book, w + 2);
-            w = w + ROW;
-            left = left - 1;
-        } else {
-            return Contents::Broken;
+        if !row_good(low, id, at, word(book, w + 1)) {
+            return refuse(Reason::BookContents, 0);
         }
+        low = id + 1;
+        at += word(book, w + 2);
     }
-    Contents::Whole(at)
+    Ok(at)
 }
 
 // The templates' rows and then those of the lists, whose bodies end with the book.
-fn check_contents(book: &[u8]) -> Checked
+#[tactic(auto, using(crate::proofs::Books::book_laws), unfolding(layout::specs::BookRules::check_contents))]
+fn check_contents(book: &[u8]) -> Result<(), Refusal>
     requires { BookHead book.now }
     ensures { result ≡ checked (check_contents (words_of book.now)) }
 {
     let n = word(book, 2);
     let k = word(book, 4);
     let rows = HEAD + ROW * n;
-    let Contents::Whole(lists) = contents_end(book, HEAD, n, rows + ROW * k) else {
-        return refuse(3, 0);
-    };
-    let Contents::Whole(end) = contents_end(book, rows, k, lists) else {
-        return refuse(3, 0);
-    };
-    if end == book.len() / 2 {
-        return Checked::Accepted;
+    let lists = contents_end(book, HEAD, n, rows + ROW * k)?;
+    let end = contents_end(book, rows, k, lists)?;
+    if end != book.len() / 2 {
+        return refuse(Reason::BookContents, 0);
     }
-    refuse(3, 0)
+    Ok(())
 }
 
 // Checks a book.
-pub fn check(book: &[u8]) -> Checked
+#[tactic(auto, using(crate::proofs::Books::book_laws), unfolding(layout::specs::BookRules::book_of, layout::specs::BookRules::tree_of))]
+pub fn check(book: &[u8]) -> Result<(), Refusal>
     ensures { ChecksBook book.now result }
 {
-    if size_good(book) {
-        if head_good(book) {
-            let Checked::Refused(refusal) = check_contents(book) else {
-                return check_bodies(book);
-            };
-            return Checked::Refused(refusal);
-        }
-        return refuse(2, 0);
+    if !size_good(book) {
+        return refuse(Reason::BookSize, 0);
     }
-    refuse(1, 0)
+    if !head_good(book) {
+        return refuse(Reason::BookHead, 0);
+    }
+    check_contents(book)?;
+    check_bodies(book)
 }

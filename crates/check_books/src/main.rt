@@ -3,52 +3,30 @@
 // written is passed over.
 #![tactic(auto)]
 
-ghost use Rattle.std.specs.Prelude.{◌≤◌, length};
-
-use layout::Checked;
+use input::{read_count, read_full};
 use std::io::{Read, Write};
-
-// Reads until `room` is full or the input ends, or fails, which counts as its end: how many octets came.
-fn read_full(input: &mut impl Read, room: &mut [u8]) -> usize
-    ensures { result ≤ length room.new }
-{
-    let mut came = 0;
-    while came < room.len() {
-        match input.read(&mut room[came..]) {
-            Ok(0) => break,
-            Ok(count) => came += count,
-            Err(_) => break,
-        }
-    }
-    came
-}
 
 fn show(output: &mut impl Write, book: &[u8]) {
     match book::check(book) {
-        Checked::Accepted => {
+        Ok(()) => {
             let _ = output.write_all(b"accepted\n");
         }
-        Checked::Refused(r) => {
-            let number = r.number;
-            let place = r.place;
-            let _ = writeln!(output, "refused {number} {place}");
+        Err(refusal) => {
+            let _ = writeln!(output, "{refusal}");
         }
     }
 }
 
 // Whether there was another book: it is read into the room and answered.
 fn answer_next(input: &mut impl Read, output: &mut impl Write, room: &mut [u8]) -> bool {
-    let mut head = [0u8; 2];
-    if read_full(input, &mut head) < 2 {
-        return false;
+    match read_count(input) {
+        Some(size) if size <= room.len() => {
+            let n = read_full(input, &mut room[..size]);
+            show(output, &room[..n]);
+            true
+        }
+        _ => false,
     }
-    let size = octets::get2(&head, 0) as usize;
-    if room.len() < size {
-        return false;
-    }
-    let n = read_full(input, &mut room[0..size]);
-    show(output, &room[0..n]);
-    true
 }
 
 fn main(rt: HostRuntime) {

@@ -1,86 +1,56 @@
 -- How many elements of a block are present.
-use mathlib.Core.Path.{◌≡◌, ◌∙◌, ap, refl, sym}
-use mathlib.Core.Bool.{Bool, false, true}
-use mathlib.Core.List.{List, ◌∷◌}
-use Prim.Native.Nat.{ℕ, zero, suc, ◌+◌, ◌-◌, ◌<◌, ◌≤◌}
+use mathlib.Core.Path.{◌≡◌, ap, refl}
+use mathlib.Core.List.{List}
+use Prim.Native.Nat.{ℕ, zero, suc, ◌+◌, ◌*◌, ◌-◌, ◌<◌, ◌≤◌}
 use native.Mathlib.Omega.{arith}
-use lib.Dec.{eqb, leb}
+use lib.Dec.{leb}
 use lib.ListN.{length}
-use borrow.Author.Tests.{eq-eqb, le-leb, lt-leb}
+use Rattle.std.specs.Prelude.{Some}
 use Rattle.layout.specs.Result.{when◌then◌else◌}
 use Rattle.layout.specs.Book.{data_sinces, group_sinces, present}
 use Rattle.layout.specs.BookRules.{parse_datas, word}
 use Rattle.layout.specs.Message.{count_good}
 use Rattle.prepared.specs.Positions.{Opened, groups_at, next_from}
-use Rattle.prepared.proofs.Open.{no_groups_at}
+use Rattle.prepared.proofs.Open.{groups_here, length_row, no_datas_at, no_groups_at}
 use Rattle.counts.specs.Counts.{left_over}
-use Rattle.counts.specs.declared.Surplus.TheVariants.{Is, Wrong}
-use Rattle.layout.proofs.Results.{none_left, one_less, some_left}
+use Rattle.wire.proofs.Steps.{steps}
 
--- ---- data
+-- ---- of n elements in a row, i being seen
 
-pub datas_step : (p : List ℕ) (n d : ℕ) → 0 < n
-    → data_sinces (parse_datas p n d) ≡ word p (d + 1) ∷ data_sinces (parse_datas p (n - 1) (d + 2))
-unfolding parse_datas
-datas_step p n d h = rw (some_left h, one_less) refl
+pub data_seen : (p : List ℕ) (v n from i : ℕ) → i < n → present v (data_sinces (parse_datas p (n - i) (from + 2 * i)))
+    ≡ (when leb (word p (from + 2 * i + 1)) v then 1 else 0)
+    + present v (data_sinces (parse_datas p (n - (i + 1)) (from + 2 * (i + 1))))
+unfolding parse_datas present
+data_seen p v n from i h =
+    let some : n - i ≡ suc (n - (i + 1)) = omega arith in
+    let next : from + 2 * (i + 1) ≡ from + 2 * i + 2 = omega arith in
+    rw (some, next) refl
 
-pub datas_end_lem : (p : List ℕ) (v seen n d : ℕ) → n ≤ 0 → seen + present v (data_sinces (parse_datas p n d)) ≡ seen
-unfolding present parse_datas
-datas_end_lem p v seen n d h = rw (none_left h) (omega arith)
+pub datas_seen : (p : List ℕ) (v n d : ℕ) → n ≤ 0 → present v (data_sinces (parse_datas p n d)) ≡ 0
+unfolding present
+datas_seen p v n d h = rw (no_datas_at p n d h) refl
+
+pub group_seen : {p : List ℕ} {depth n a : ℕ} (v : ℕ) → Opened p depth n a
+    → present v (group_sinces (groups_at p depth n a))
+    ≡ (when leb (word p (a + 1)) v then 1 else 0) + present v (group_sinces (groups_at p depth (n - 1) (next_from p a)))
+unfolding group_sinces present
+group_seen v o = rw o.tree refl
+
+pub groups_seen : (p : List ℕ) (v depth n a : ℕ) → n ≤ 0 → present v (group_sinces (groups_at p depth n a)) ≡ 0
+unfolding group_sinces present
+groups_seen p v depth n a h = rw (no_groups_at p depth n a h) refl
 
 pub length_datas : (p : List ℕ) (n d : ℕ) → length (data_sinces (parse_datas p n d)) ≡ n
 unfolding parse_datas
 length_datas p zero d = refl
 length_datas p (suc n) d = ap suc (length_datas p n (d + 2))
 
--- ---- groups
+-- ---- what is counted
 
-pub groups_step : (p : List ℕ) (depth n a : ℕ) → Opened p depth n a
-    → group_sinces (groups_at p depth n a) ≡ word p (a + 1) ∷ group_sinces (groups_at p depth (n - 1) (next_from p a))
-unfolding group_sinces
-groups_step p depth n a o = rw o.tree refl
+pub over_none : (version v n : ℕ) (ss : List ℕ) → v ≤ version → n ≡ present v ss → Some 0 ≡ left_over version v ss n
+unfolding left_over count_good
+over_none version v n ss h e = grind (arith, steps)
 
-pub groups_end_lem : (p : List ℕ) (v seen depth n a : ℕ) → n ≤ 0
-    → seen + present v (group_sinces (groups_at p depth n a)) ≡ seen
-unfolding present group_sinces
-groups_end_lem p v seen depth n a h = rw (no_groups_at p depth n a h) (omega arith)
+pub ruleset seen = (data_seen, datas_seen, group_seen, groups_seen, steps)
 
--- ---- what the header counts
-
-module _ (version v n : ℕ) (ss : List ℕ) where
-  -- To a newer version all are present, and to the book's or an older one as many as are counted.
-  pub over_newer : (all : ℕ) → version < v → all ≡ length ss → present v ss ≡ all
-      → left_over version v ss n ≡ (when leb all n then Is (n - all) else Wrong)
-  unfolding left_over count_good when◌then◌else◌
-  over_newer all h l e = rw (lt-leb v version h, ← l, e) refl
-
-  pub over_known : v ≤ version
-      → left_over version v ss n ≡ (when eqb n (present v ss) then Is (n - present v ss) else Wrong)
-  unfolding left_over count_good when◌then◌else◌
-  over_known h = rw (le-leb v version h) refl
-
-  pub over_none : v ≤ version → n ≡ present v ss → Is 0 ≡ left_over version v ss n
-  unfolding when◌then◌else◌
-  over_none h e = sym (over_known h ∙ rw (← e, eq-eqb n n refl) (ap Is (omega arith)))
-
-  -- Nothing is left over where all are present and as many are counted.
-  pub over_own : present v ss ≡ n → length ss ≡ n → Is 0 ≡ left_over version v ss n
-  unfolding left_over count_good when◌then◌else◌
-  over_own here all = go (leb v version)
-    where
-      none : n - present v ss ≡ 0
-      none = omega (arith, here)
-
-      go : (t : Bool)
-          → Is 0 ≡ (when (when t then eqb n (present v ss) else leb (length ss) n) then Is (n - present v ss) else Wrong)
-      go true = rw (none, eq-eqb n (present v ss) (sym here)) refl
-      go false = rw (none, le-leb (length ss) n (omega (arith, all))) refl
-
-  -- No more are left over than are counted.
-  pub over_most : (x : ℕ) → Is x ≡ left_over version v ss n → x ≤ n
-  unfolding left_over when◌then◌else◌
-  over_most x e = go (count_good true version v ss n) e
-    where
-      go : (t : Bool) → Is x ≡ (when t then Is (n - present v ss) else Wrong) → x ≤ n
-      go true q = let is : x ≡ n - present v ss = cc in omega arith
-      go false q = absurd (let z : ◌≡◌ {A = ℕ} 0 1 = cc in omega arith)
+pub ruleset counted = (length_datas, length_row, groups_here, steps)

@@ -145,7 +145,7 @@ module _ (counted : Bool) (version : ℕ) (big : Bool) (m : List ℕ) (v : ℕ) 
       → Sees false block_end (skip_entry big m f d place at) (read_block big m v s f' n d.length at)
   unfolding skip_entry read_block
   skips_block s f f' n d place at h e =
-      sees_bind false (λ (u : Unit {0}). u) block_end _ _ _ _ (sees_test _ 16 place 16 at) λ _.
+      sees_bind false (λ (u : Unit {0}). u) block_end _ _ _ _ (sees_test _ _ _ _ _) λ _.
       sees_bind false row_end block_end _ _ _ _ (h (at + d.length)) λ r.
       sees_after false datas_end block_end _ _ _ (skips_datas big m v false s.datas d.datas n r.1 e) λ t. refl
 
@@ -245,10 +245,10 @@ module _ (format : Format) (vo vn : ℕ) (newer : vo < vn) (m : List ℕ) (v : �
       let datas = count_beside counted vo vn v (data_sinces s.datas) (data_sinces s'.datas) d.datas newer
       good.datas_in (grown_datas v vo format counted s s' x) in
       sees_bind strict (λ (u : Unit {0}). u) (kept_group s inner) _ _ _ _
-      (sees_leb strict _ _ _ 18 at
+      (sees_leb strict _ _ _ _ _
       (need_extends v vo strict s'.length s.fields s'.fields x.fields good'.fields early)) λ _.
       sees_then strict (λ (u : Unit {0}). u) (kept_group s inner) _ _ _ _
-      (sees_must strict _ _ 21 at
+      (sees_must strict _ _ _ _
       (λ e. and_both (groups.older (and_left _ _ e)) (datas.older (and_right _ _ e)))
       (λ e. rw (groups.same (early e), datas.same (early e)) refl)) λ _ q.
       let counts = inv_must _ _ _ _ q in

@@ -17,6 +17,7 @@ use Rattle.layout.specs.BookRules.{contents_size, head_good, head_size, list_row
 use Rattle.layout.specs.BookRules.{parse_contents, template_rows, tree_of, word}
 use Rattle.layout.specs.Demands.{other_order, reordered}
 use Rattle.layout.proofs.Results.{and_left, and_right, bind_done, inv_bind, inv_both, inv_must, same_then}
+use Rattle.layout.specs.declared.Reason.TheVariants.{BookHead}
 
 -- An octet of the word i is set.
 words_set : (s : List ℕ) (i x : ℕ) → i < length (words_of s)
@@ -140,7 +141,7 @@ tree_same s s' is long head =
     let h = head_order w head in
     rw (is, long)
     (same_then _ _ _ _ refl λ _ _.
-    same_then _ _ _ _ (ap (λ t. must t 2 0) (head_same w x (omega arith) head)) λ _ _.
+    same_then _ _ _ _ (ap (λ t. must t BookHead 0) (head_same w x (omega arith) head)) λ _ _.
     same_then _ _ _ _ (contents_same w x) λ u c.
     rw (after_contents w x u c).0
     (same_then _ _ _ _ (after_contents w x u c).1 λ ts _.
@@ -171,6 +172,6 @@ pub other_book : (book : List ℕ) (b : Book) → book_of book ≡ done b → bo
 unfolding book_of tree_of check_templates
 other_book s b e =
     let p = inv_both _ _ _ _ e in
-    let head = inv_must _ 2 0 _ (inv_bind _ _ _ (inv_bind _ _ _ p.first).next).first in
+    let head = inv_must _ _ _ _ (inv_bind _ _ _ (inv_bind _ _ _ p.first).next).first in
     let t = tree_same s (reordered s) (order_set s head) (length-set s 10 _) head in
     rw (t, p.first, bind_done, bind_done, p.second, bind_done, p.is) refl

@@ -41,6 +41,7 @@ use Rattle.layout.proofs.Texts.{text_within}
 use Rattle.layout.proofs.TypeLaws.{width_listed}
 use Rattle.layout.specs.declared.Answer.{Answer}
 use Rattle.layout.specs.declared.Answer.TheVariants.{Null, Number, Octets, OutOfRange}
+use Rattle.layout.specs.declared.Reason.TheVariants.{OctetsLeftOver}
 
 module _ (big : Bool) (m : List ℕ) where
   -- What is told of m' is what was told of m.
@@ -113,7 +114,7 @@ module _ (big : Bool) (m : List ℕ) where
     unfolding skip_entry
     turned_skipped_entry f d place h at =
         let to = at + d.length in
-        turns_test (leb to) 16 place λ e.
+        turns_test (leb to) _ _ λ e.
         turns_past (keep at d.length refl (leb-true to (length m) e))
         (turns_then (turned_row d.groups f h to) λ x _. turns_on (turned_skipped_datas d.datas x))
 
@@ -209,7 +210,7 @@ module _ (big : Bool) (m : List ℕ) where
           (λ o m. read_block o m v s (f o m) n l at)
       unfolding read_block
       turned_block n l at h =
-          turns_test (leb (at + l)) 16 at λ e.
+          turns_test (leb (at + l)) _ _ λ e.
           let start : at + 0 ≡ at = omega arith in
           let fits = leb-true (at + l) (length m) e in
           turns_past (subst (λ (x : ℕ). Turned m x (at + l) (SameFields at s.fields)) start
@@ -240,7 +241,7 @@ module _ (big : Bool) (m : List ℕ) where
       turned_skipped_group : (levels : ℕ) → PassedAlike (λ o s. skip_group counted o s levels)
       unfolding skip_group
       turned_skipped_group zero at =
-          turns_then (turned_dimension at) λ d _ _ x e. absurd (let z : ◌≡◌ {A = ℕ} 0 1 = cc in omega arith)
+          turns_then (turned_dimension at) λ d _ _ x e. absurd (cc)
       turned_skipped_group (suc levels) at =
           turns_then (turned_dimension at) λ d _.
           turns_on (turned_row d.entries (λ o s. skip_entry o s (skip_group counted o s levels) d at)
@@ -258,9 +259,9 @@ module _ (big : Bool) (m : List ℕ) where
         turned_group s groups f good h at =
             let datas = data_sinces s.datas in
             turns_then (turned_dimension at) λ d _.
-            turns_test (λ _. leb (need v s) d.length) 18 at λ long.
+            turns_test (λ _. leb (need v s) d.length) _ _ λ long.
             turns_test (λ _. count_good counted version v groups d.groups
-            and count_good counted version v datas d.datas) 21 at λ _.
+            and count_good counted version v datas d.datas) _ _ λ _.
             let g = surplus v groups d.groups in
             turns_then (turned_entries s (λ o m. f o m g) good (h g) d.entries (surplus v datas d.datas)
             d.length (leb-true _ _ long) (at + dimension_size counted)) λ es _.
@@ -309,7 +310,7 @@ module _ (big : Bool) (m : List ℕ) where
       let v = version_of big m in
       let groups = read_groups counted version o s v t.groups depth_limit n.0 in
       read_block o s v t.shape groups n.1 (block_length big m) header_size >>= λ b.
-      must (eqb b.3 (length s)) 20 b.3 >>= λ _.
+      must (eqb b.3 (length s)) OctetsLeftOver b.3 >>= λ _.
       done (entry b.0 b.1 b.2 nil)
 
   turned_whole : (counted : Bool) (version : ℕ) (t : Template) (n : ℕ × ℕ) → layout_good t ≡ true
@@ -322,7 +323,7 @@ module _ (big : Bool) (m : List ℕ) where
       (and_right _ _ (and_left _ _ good))
       (turned_groups v counted version t.groups depth_limit n.0 (and_right _ _ good)) n.1
       (block_length big m) header_size h) λ b _.
-      turns_test (eqb b.3) 20 b.3 λ e.
+      turns_test (eqb b.3) _ _ λ e.
       turns_done _ _ _ (sym (eqb-true b.3 (length m) e)) λ m' o.
       (refl, four_same o.1.0 o.1.1 o.1.2 refl)
 
@@ -353,7 +354,7 @@ turned_message book m b r is e =
     let w = inv_bind _ _ _ q.next in
     let t = q.value in
     let long = (header_read big b.schema m p.value p.first).long in
-    let good = (accepted book b (template_id big m) t is (inv_found _ 13 2 t q.first)).1.layout in
+    let good = (accepted book b (template_id big m) t is (inv_found _ _ _ t q.first)).1.layout in
     let enough = root_enough big b.version t m w.value w.first in
     let a = both (turned_header big m long)
     (turned_whole big m b.format.in_groups b.version t w.value good enough long r w.next) in
@@ -378,6 +379,6 @@ pub writes_alike : (book : List ℕ) (b : Book) → book_of book ≡ done b → 
 writes_alike book b is id l pool room =
     bind_assoc _ _ _ ∙ same_then _ _ _ _ refl λ t h.
     bind_assoc _ _ _ ∙ same_then _ _ _ _ refl λ r j.
-    let good = (accepted book b id t is (inv_found _ 50 0 t h)).1.layout in
+    let good = (accepted book b id t is (inv_found _ _ _ t h)).1.layout in
     let long = written_long l pool (other_order b) t r good j ∙ sym (written_long l pool b t r good j) in
     bind_assoc _ _ _ ∙ same_then _ _ _ _ (rw long refl) λ _ _. rw (bind_done, bind_done, long) refl

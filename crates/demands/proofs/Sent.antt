@@ -21,7 +21,7 @@ use Rattle.layout.specs.Demands.{CanBeSent, HasValue, NeverSent, no_entries, sho
 use Rattle.demands.proofs.Judging.{Judges, all_judged, block_next, datas_next, datas_stop, entries_stop}
 use Rattle.demands.proofs.Judging.{fields_next, fields_stop, groups_next, groups_stop, null_judged}
 use Rattle.demands.proofs.Judging.{null_text_judged, number_judged, octets_judged, record_is}
-use Rattle.demands.proofs.Numbers.{refuses_with, tree_refuses}
+use Rattle.demands.proofs.Numbers.{tree_refuses}
 use Rattle.demands.proofs.Outcomes.{writes_on}
 use Rattle.layout.proofs.Accepted.{Accepted, each_good}
 use Rattle.layout.proofs.Fields.{field_good_lem}
@@ -34,6 +34,9 @@ use Rattle.layout.proofs.Said.{number_said}
 use Rattle.layout.proofs.Stands.{Stands, all_stands, below_then, split_to}
 use Rattle.layout.specs.declared.Answer.{Answer}
 use Rattle.layout.specs.declared.Answer.TheVariants.{Null, Number, Octets}
+use Rattle.layout.specs.Reasons.{number_of}
+use Rattle.layout.specs.declared.Reason.{Reason}
+use Rattle.layout.specs.declared.Reason.TheVariants.{BookLayout, BookSince, BookUnsendable}
 
 -- ---- something for each field, of a pool of zeros
 
@@ -317,10 +320,11 @@ record FaultIn {A : Type 0} (f : A → Bool) (k : ℕ) (xs : List A) (p : ℕ) :
   first : Each (λ x. f x ≡ true) before
   fails : f at ≡ false
 
-fault_in_lem : {A : Type 0} (f : A → Bool) (n k : ℕ) (xs : List A) (m p : ℕ) → each_must f n k xs ≡ refused m p
+fault_in_lem : {A : Type 0} (f : A → Bool) (n : Reason) (k : ℕ) (xs : List A) (m : Reason) (p : ℕ)
+    → each_must f n k xs ≡ refused m p
     → (m ≡ n) × FaultIn f k xs p
 unfolding each_must must ◌>>=◌ Each
-fault_in_lem f n k [] m p e = absurd (let z : ◌≡◌ {A = ℕ} 0 1 = cc in omega arith)
+fault_in_lem f n k [] m p e = absurd (cc)
 fault_in_lem {A = A} f n k (x ∷ xs) m p e =
     each_way (f x)
     (λ t.
@@ -339,9 +343,8 @@ fault_in_lem {A = A} f n k (x ∷ xs) m p e =
     ))
     (λ t.
     let is : refused n k ≡ refused m p = rw t at e in
-    let i : n ≡ m = cc in
     let j : k ≡ p = cc in (
-      sym i,
+      cc,
       record { before = []; at = x; after = xs; all = refl; place = omega arith; first = tt; fails = t },
     ))
 
@@ -376,16 +379,17 @@ fault_never_sent book b n is good q =
           );
     }
 
-pub never_sent : (book : List ℕ) (n : ℕ) → book_of book ≡ refused 7 n → NeverSent book n
-unfolding book_of check_templates
+pub never_sent : (book : List ℕ) (n : ℕ) → book_of book ≡ refused BookUnsendable n → NeverSent book n
+unfolding book_of check_templates number_of
 never_sent book n e =
-    inv_refused (tree_of book) _ 7 n e (λ no. absurd (omega (arith, refuses_with 1 4 _ 7 n (tree_refuses book) no)))
+    inv_refused (tree_of book) _ BookUnsendable n e (λ no. absurd (omega (arith, tree_refuses book _ _ no)))
     λ b is e₁.
-    inv_refused _ _ 7 n e₁ (λ e₂.
-    inv_refused (each_must layout_good 5 0 b.templates) _ 7 n e₂
-    (λ no. absurd (omega (arith, (fault_in_lem layout_good 5 0 b.templates 7 n no).0)))
+    inv_refused _ _ BookUnsendable n e₁ (λ e₂.
+    inv_refused (each_must layout_good BookLayout 0 b.templates) _ BookUnsendable n e₂
+    (λ no. let wrong = fault_in_lem layout_good BookLayout 0 b.templates BookUnsendable n no in absurd (cc))
     λ u good e₃.
-    inv_refused _ _ 7 n e₃ (λ no. absurd (omega (arith, (fault_in_lem _ 6 0 b.templates 7 n no).0))) λ _ _ e₄.
-    fault_never_sent book b n is (each_good layout_good 5 0 b.templates u good)
-    (fault_in_lem _ 7 0 b.templates 7 n e₄).1)
-    λ _ _ no. absurd (let z : ◌≡◌ {A = ℕ} 0 1 = cc in omega arith)
+    inv_refused _ _ BookUnsendable n e₃
+    (λ no. let wrong = fault_in_lem _ BookSince 0 b.templates BookUnsendable n no in absurd (cc)) λ _ _ e₄.
+    fault_never_sent book b n is (each_good layout_good BookLayout 0 b.templates u good)
+    (fault_in_lem _ BookUnsendable 0 b.templates BookUnsendable n e₄).1)
+    λ _ _ no. absurd (cc)

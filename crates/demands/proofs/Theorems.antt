@@ -1,6 +1,6 @@
 -- The theorems, over the definitions of document 01 in crates/layout/specs. Octets, words and numbers are natural
 -- numbers; a book, a message and a pool are lists of octets, a listing is a list of numbers. An operation comes to
--- `done` with its result or `refused` with number and place.
+-- `done` with its result or `refused` with reason and place.
 use mathlib.Core.Path.{◌∙◌, ◌≡◌, ap, sym}
 use mathlib.Core.Bool.{false, true}
 use mathlib.Core.List.{List}
@@ -35,6 +35,7 @@ use Rattle.layout.proofs.Accepted.{EachField, accepted}
 use Rattle.layout.proofs.Bits.{bits_within}
 use Rattle.layout.proofs.Results.{and_left, and_right, bind_done, done_inj}
 use Rattle.layout.specs.declared.Element.{Element}
+use Rattle.layout.specs.declared.Reason.TheVariants.{BookUnsendable}
 
 -- ---- an accepted book
 
@@ -93,7 +94,7 @@ pub none_is_shorter : (l pool : List ℕ) (b : Book) (t : Template) (r : Values)
 none_is_shorter = least_written
 
 -- Where a book is refused by 7, no listing of the template at that place has a message of at most 65,535 octets.
-pub refused_is_never_sent : (book : List ℕ) (n : ℕ) → book_of book ≡ refused 7 n → NeverSent book n
+pub refused_is_never_sent : (book : List ℕ) (n : ℕ) → book_of book ≡ refused BookUnsendable n → NeverSent book n
 refused_is_never_sent = never_sent
 
 -- For a required number whose list has values, and none in range, there is nothing to write.

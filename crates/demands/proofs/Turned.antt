@@ -13,6 +13,7 @@ use Rattle.layout.specs.Demands.{Runs, kept, row, turned}
 use Rattle.layout.proofs.Lengths.{span_long}
 use Rattle.layout.proofs.Results.{bind_done, done_inj, inv_bind, inv_must}
 use Rattle.layout.proofs.Stands.{Stands, all_stands, order_turned, split_to}
+use Rattle.layout.specs.declared.Reason.{Reason}
 
 module _ (m : List ℕ) where
   -- Octets for those of m from `at` to `to`, and what holds of every message of m's length in which they stand.
@@ -128,13 +129,13 @@ module _ {m : List ℕ} {A : Type 0} {H : List ℕ → Type 0} {at : ℕ} {end :
   turns_past t u h a e = so (both t (u t.fits a e)) λ m' _ o i. o.1 (i, o.0)
 
   -- A test of the message's length.
-  pub turns_test : (t : ℕ → Bool) (n p : ℕ) {x : Result A} {y : List ℕ → Result A}
+  pub turns_test : (t : ℕ → Bool) (n : Reason) (p : ℕ) {x : Result A} {y : List ℕ → Result A}
       → (t (length m) ≡ true → TurnsIf m H at end P x y)
       → TurnsIf m H at end P (must (t (length m)) n p >>= λ _. x) (λ m'. must (t (length m')) n p >>= λ _. y m')
   unfolding must ◌>>=◌
   turns_test t n p u h a e =
       let q = inv_bind _ _ _ e in
-      let good = inv_must _ n p _ q.first in
+      let good = inv_must _ _ _ _ q.first in
       so (u good h a q.next) λ m' l o i. rw (l, good) (o i)
 
   pub turns_if : (t : Bool) {x x₂ : Result A} {y y₂ : List ℕ → Result A} → TurnsIf m H at end P x y

@@ -28,6 +28,8 @@ use Rattle.layout.proofs.Present.{GoodGroups, GoodShape, groups_in_lem, writable
 use Rattle.layout.proofs.Results.{bind_assoc, bind_done, inv_bind, inv_must}
 use Rattle.layout.specs.declared.Element.{Element}
 use Rattle.layout.specs.declared.Element as Element
+use Rattle.layout.specs.declared.Reason.{Reason}
+use Rattle.layout.specs.declared.Reason.TheVariants.{PlaceUnknown}
 
 -- ---- the root
 
@@ -36,14 +38,14 @@ sees_equal : {A B : Type 0} (strict : Bool) (f : A → B) {x x' : Result B} {y y
 sees_equal strict f ex ey s = rw (sym ex, sym ey) s
 
 -- Three tests, a value, and what comes of it.
-three_tests : {A B : Type 0} (a b c : Bool) (n₁ p₁ n₂ p₂ n₃ p₃ : ℕ) (x : A) (k : A → Result B)
+three_tests : {A B : Type 0} (a b c : Bool) (n₁ n₂ n₃ : Reason) (p₁ p₂ p₃ : ℕ) (x : A) (k : A → Result B)
     → (must a n₁ p₁ >>= λ _. must b n₂ p₂ >>= λ _. must c n₃ p₃ >>= λ _. k x)
     ≡ ((must a n₁ p₁ >>= λ _. must b n₂ p₂ >>= λ _. must c n₃ p₃ >>= λ _. done x) >>= k)
 unfolding must ◌>>=◌
-three_tests false b c n₁ p₁ n₂ p₂ n₃ p₃ x k = refl
-three_tests true false c n₁ p₁ n₂ p₂ n₃ p₃ x k = refl
-three_tests true true false n₁ p₁ n₂ p₂ n₃ p₃ x k = refl
-three_tests true true true n₁ p₁ n₂ p₂ n₃ p₃ x k = refl
+three_tests false b c n₁ n₂ n₃ p₁ p₂ p₃ x k = refl
+three_tests true false c n₁ n₂ n₃ p₁ p₂ p₃ x k = refl
+three_tests true true false n₁ n₂ n₃ p₁ p₂ p₃ x k = refl
+three_tests true true true n₁ n₂ n₃ p₁ p₂ p₃ x k = refl
 
 module _ (format : Format) (vo vn : ℕ) (newer : vo < vn) (old : Template) (news : List Template) (m : List ℕ)
     (strict : Bool) (x : StandsIn vo format old news)
@@ -62,15 +64,15 @@ module _ (format : Format) (vo vn : ℕ) (newer : vo < vn) (old : Template) (new
       let datas = count_beside true vo vn v (data_sinces old.shape.datas) (data_sinces new.shape.datas)
       (data_count big m) newer shape.datas_in
       (grown_datas v vo format true old.shape new.shape x.shape) in
-      sees_equal strict _ (three_tests _ _ _ 14 0 15 8 15 10 _ (read_whole format vo old m))
-      (three_tests _ _ _ 14 0 15 8 15 10 _ (read_whole format vn new m))
+      sees_equal strict _ (three_tests _ _ _ _ _ _ _ _ _ _ (read_whole format vo old m))
+      (three_tests _ _ _ _ _ _ _ _ _ _ (read_whole format vn new m))
       (sees_bind strict (λ (u : Unit {0}). u) _ _ _ _ _
-      (sees_leb strict _ _ _ 14 0 (need_extends v vo strict new.shape.length old.shape.fields
+      (sees_leb strict _ _ _ _ _ (need_extends v vo strict new.shape.length old.shape.fields
       new.shape.fields x.shape.fields shape'.fields early)) λ _.
       sees_then strict (λ (u : Unit {0}). u) _ _ _ _ _
-      (sees_must strict _ _ 15 8 counted.older (λ e. counted.same (early e))) λ _ cg.
+      (sees_must strict _ _ _ _ counted.older (λ e. counted.same (early e))) λ _ cg.
       sees_then strict (λ (u : Unit {0}). u) _ _ _ _ _
-      (sees_must strict _ _ 15 10 datas.older (λ e. datas.same (early e))) λ _ cd.
+      (sees_must strict _ _ _ _ datas.older (λ e. datas.same (early e))) λ _ cd.
       sees_bind strict (kept_block old.shape old.groups) _ _ _ _ _
       (sees_block big m v strict vo old.shape new.shape old.groups _ _ _ _ (block_length big m) header_size
       x.shape.fields x.shape.datas (datas.whole (inv_must _ _ _ _ cd)) λ y.
@@ -194,7 +196,7 @@ module _ (o n : List ℕ) (old new : Book) (ao : book_of o ≡ done old) (an : b
       let has = has_place_lem old.version old.format p y true true t.shape newer.shape t.groups
       newer.groups s.shape s.groups h in
       rw (ao, an, older_reads r.0 r.1, r.1, e, found, h, has, kept_answer p y t.shape t.groups r.0 h)
-      (sym (bind_assoc (must (whole and leb (length p) 4 and true) 30 0) (λ _. answer_at p y r.0)
+      (sym (bind_assoc (must (whole and leb (length p) 4 and true) PlaceUnknown 0) (λ _. answer_at p y r.0)
       (λ z. done (beside (names_at p y t.shape t.groups) z))))
 
   pub same_verdict : version_of old.format.big m ≤ old.version → check_of o m ≡ check_of n m

@@ -7,8 +7,7 @@ ghost use Rattle.prepared.specs.Positions.{IsField, field_at, is_big};
 ghost use Rattle.fields.specs.Readable.{Readable, class_of, plain};
 
 use layout::Answer;
-use prepared::{number, value};
-use std::num::wrapping_sub_u64;
+use prepared::{Message, number, value};
 
 // The array that the field at place f is, with its len octets at `start`: of char it is text.
 fn read_array(p: &[u64], f: usize, m: &[u8], start: usize, len: usize) -> Answer
@@ -34,40 +33,43 @@ fn class_of(p: &[u64], f: usize, t: usize, x: u64) -> Answer
     requires { IsField p.now f t }
     ensures { result ≡ class_of p.now f x }
 {
-    if wrapping_sub_u64(x, value(p, t + 1)) <= value(p, t + 2) {
+    if x.wrapping_sub(value(p, t + 1)) <= value(p, t + 2) {
         return Answer::Number(x);
     }
-    if number(p, f + 4) == 1 {
-        if x == value(p, t + 3) {
-            return Answer::Null;
-        }
+    if number(p, f + 4) == 1 && x == value(p, t + 3) {
+        return Answer::Null;
     }
     Answer::OutOfRange(x)
 }
 
-// The field at place f of the prepared book, whose table is at t, without its list, in the block at `at` of a message
-// of version v.
+// The field at place f of the prepared book, whose table is at t, without its list, in the block at `at` of a message.
 #[inline(always)]
-pub fn read_plain(p: &[u64], f: usize, t: usize, m: &[u8], v: usize, at: usize) -> Answer
-    requires { Readable p.now f t m.now v at }
-    ensures { result ≡ read_field (is_big p.now) m.now v at (plain (field_at p.now
+pub fn read_plain(m: &Message, f: usize, t: usize, at: usize) -> Answer
+    requires { Readable m.now.book.now f t m.now.octets.now m.now.version at }
+    ensures { result ≡ read_field (is_big m.now.book.now) m.now.octets.now m.now.version at (plain (field_at m.now.book.now
         f)) }
 {
-    if v < number(p, f + 5) {
+    let p = m.book;
+    if m.version < number(p, f + 5) {
         return Answer::Absent;
     }
     let len = number(p, f + 2);
     let start = at + number(p, f + 3);
     if len <= 1 {
-        return class_of(p, f, t, number_types::value_at(m, start, number(p, t)));
+        return class_of(
+            p,
+            f,
+            t,
+            number_types::value_at(m.octets, start, number(p, t)),
+        );
     }
-    read_array(p, f, m, start, len)
+    read_array(p, f, m.octets, start, len)
 }
 
 // The same, beside its list.
-pub fn read_field(p: &[u64], f: usize, t: usize, m: &[u8], v: usize, at: usize) -> Answer
-    requires { Readable p.now f t m.now v at }
-    ensures { result ≡ read_field (is_big p.now) m.now v at (field_at p.now f) }
+pub fn read_field(m: &Message, f: usize, t: usize, at: usize) -> Answer
+    requires { Readable m.now.book.now f t m.now.octets.now m.now.version at }
+    ensures { result ≡ read_field (is_big m.now.book.now) m.now.octets.now m.now.version at (field_at m.now.book.now f) }
 {
-    names::beside(p, t, read_plain(p, f, t, m, v, at))
+    names::beside(m.book, t, read_plain(m, f, t, at))
 }

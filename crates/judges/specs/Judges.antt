@@ -1,20 +1,18 @@
 -- What judging a part of a listing by a prepared book comes to: the definition's answer, the next record, and the
 -- octets of what was judged, which stop at a limit.
 use Rattle.std.specs.Prelude.{ℕ, ◌+◌, ◌/◌, min, Bool, List, length}
-use Rattle.layout.specs.Result.{Result, done, refused}
+use Rattle.layout.specs.Result.{Result}
 use Rattle.layout.specs.Book.{Groups, Shape}
-use Rattle.layout.specs.Operations.{refusal}
+use Rattle.layout.specs.Operations.{Told, told}
 use Rattle.layout.specs.Values.{Values}
 use Rattle.layout.specs.Writing.{datas_length, judge_block, judge_entries, judge_groups, row_length, span_of}
 use Rattle.layout.specs.declared.Answer.{Answer}
 use Rattle.prepared.specs.Positions.{inner_at, shape_at}
 use Rattle.judges.specs.declared.Judged.{Judged}
-use Rattle.judges.specs.declared.Judged.TheVariants.{To, Refused}
 
 -- `end` gives the record after what was judged, and its octets.
-unfoldable pub judged : {A : Type 0} → (A → ℕ × ℕ) → Result A → Judged
-judged end (done a) = To (end a).0 (end a).1
-judged end (refused n p) = Refused (refusal n p)
+abbrev pub judged : {A : Type 0} → (A → ℕ × ℕ) → Result A → Told Judged
+judged end = told (λ a. record { next = (end a).0; length = (end a).1 })
 
 -- One more than a message may have.
 abbrev pub limit : ℕ
@@ -30,16 +28,16 @@ entries_at p depth a l pool k i =
 
 -- ---- where each ends and how many octets it has, `seen` having been counted before
 
--- Octets of the pool, at record i.
-abbrev pub octets_end : ℕ → Answer → ℕ × ℕ
-octets_end i a = (i + 1, (span_of a).1)
+-- Octets of the pool: how many they are.
+abbrev pub octets_end : Answer → ℕ
+octets_end a = (span_of a).1
 
--- A field's octets are the block's.
-abbrev pub field_end : ℕ → Answer → ℕ × ℕ
-field_end i a = (i + 1, 0)
+-- The record after a field, whose octets are the block's, and after a block's fields.
+abbrev pub field_end : ℕ → Answer → ℕ
+field_end i a = i + 1
 
-abbrev pub fields_end : List Answer × ℕ → ℕ × ℕ
-fields_end (fs, x) = (x, 0)
+abbrev pub fields_end : List Answer × ℕ → ℕ
+fields_end (fs, x) = x
 
 abbrev pub datas_end : ℕ → List Answer × ℕ → ℕ × ℕ
 datas_end seen (ds, x) = (x, capped (seen + datas_length ds))

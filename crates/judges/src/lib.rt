@@ -3,7 +3,7 @@
 #![tactic(auto)]
 
 ghost use Rattle.std.specs.Prelude.{◌≡◌, ◌+◌, ◌*◌, ◌^◌, ◌<◌, ◌≤◌, true, length};
-ghost use Rattle.layout.specs.Operations.{refusal};
+ghost use Rattle.layout.specs.Operations.{told};
 ghost use Rattle.layout.specs.Writing.{is_group, is_null, is_number, judge_array, judge_datas, judge_field, judge_fields};
 ghost use Rattle.layout.specs.Writing.{judge_groups, judge_listing, judge_number, judge_octets, judge_text, number_fits};
 ghost use Rattle.layout.specs.Writing.{second, text_fits, third};
@@ -13,414 +13,300 @@ ghost use Rattle.prepared.specs.Positions.{BlockAt, IsBlock, IsField, field_at, 
 ghost use Rattle.judges.specs.Judges.{capped, datas_end, entries_at, field_end, fields_end, judged};
 ghost use Rattle.judges.specs.Judges.{limit, listing_end, octets_end, row_end};
 
-use layout::Refusal;
+use layout::{Reason, Refusal, refuse};
 use prepared::{number, value};
-use std::num::wrapping_sub_u64;
+use records::{Kind, Listing};
 
 // What judging comes to: the number of the next record and the octets of what was judged, which stop at LIMIT.
 #[derive(Clone, Copy)]
-pub enum Judged {
-    To { next: usize, length: usize },
-    Refused(Refusal),
+pub struct Judged {
+    pub next: usize,
+    pub length: usize,
 }
 
 // One more than a message may have.
 const LIMIT: usize = 65536;
-
-fn refuse(number: u8, place: usize) -> Judged
-    ensures { result ≡ Judged.Refused (refusal number place) }
-{
-    Judged::Refused(Refusal { number, place })
-}
 
 // So many octets and n more.
 fn plus(length: usize, n: usize) -> usize
     requires { length ≤ limit }
     ensures { result ≡ capped (length + n) }
 {
-    if LIMIT - length < n {
-        return LIMIT;
-    }
-    length + n
+    length.saturating_add(n).min(LIMIT)
 }
 
-// Octets of the pool: the length is theirs.
-fn judge_octets(listing: &[u64], pool: &[u8], i: usize) -> Judged
-    ensures { result ≡ judged (octets_end i) (judge_octets listing.now pool.now true i) }
+// Octets of the pool: how many they are.
+#[tactic(auto, using(crate::proofs::Steps::steps), unfolding(layout::specs::Writing::judge_octets, layout::specs::Writing::span_of))]
+fn judge_octets(l: &Listing, i: usize) -> Result<usize, Refusal>
+    ensures { result ≡ told octets_end (judge_octets l.now.numbers.now l.now.pool.now true i) }
 {
-    if listing.len() / 3 <= i {
-        return refuse(51, i);
+    if !(l.has(i) && l.is(i, Kind::Octets)) {
+        return refuse(Reason::RecordWrong, i);
     }
-    if listing[3 * i] != 2 {
-        return refuse(51, i);
+    let start = l.second(i);
+    let len = l.third(i);
+    let end = l.pool.len() as u64;
+    if end < start || end - start < len {
+        return refuse(Reason::OctetsWrong, i);
     }
-    let start = listing[3 * i + 1];
-    let len = listing[3 * i + 2];
-    let end = pool.len() as u64;
-    if end < start {
-        return refuse(53, i);
-    }
-    if end - start < len {
-        return refuse(53, i);
-    }
-    Judged::To {
-        next: i + 1,
-        length: len as usize,
-    }
+    Ok(len as usize)
 }
 
 // Whether record i is there and is a number or null.
-fn is_number(listing: &[u64], i: usize) -> bool
-    ensures { result ≡ is_number listing.now i }
+#[tactic(auto, using(crate::proofs::Steps::steps))]
+fn is_number(l: &Listing, i: usize) -> bool
+    ensures { result ≡ is_number l.now.numbers.now i }
 {
-    if listing.len() / 3 <= i {
-        return false;
-    }
-    if listing[3 * i + 2] != 0 {
-        return false;
-    }
-    if listing[3 * i] == 0 {
-        return true;
-    }
-    if listing[3 * i] == 1 {
-        return listing[3 * i + 1] == 0;
-    }
-    false
+    l.has(i)
+        && l.third(i) == 0
+        && (l.is(i, Kind::Number) || l.is(i, Kind::Null) && l.second(i) == 0)
 }
 
 // Whether the number or null that record i is fits the field at f, whose table is at t: null an optional field, and a
 // number one whose least it is no farther from than the greatest is, and whose list, if any, has it. `listed` is
 // whether the book has lists.
-fn number_fits(p: &[u64], f: usize, t: usize, listed: bool, listing: &[u64], i: usize) -> bool
-    requires { IsField p.now f t × (listed ≡ has_lists p.now) × (3 * i + 3 ≤ length listing.now) }
-    ensures { result ≡ number_fits listing.now (field_at p.now f) i }
+#[tactic(auto, using(crate::proofs::Steps::steps))]
+fn number_fits(l: &Listing, f: usize, t: usize, listed: bool, i: usize) -> bool
+    requires { IsField l.now.book.now f t × (listed ≡ has_lists l.now.book.now) × (3 * i + 3 ≤ length l.now.numbers.now) }
+    ensures { result ≡ number_fits l.now.numbers.now (field_at l.now.book.now f) i }
 {
-    if listing[3 * i] == 1 {
+    let p = l.book;
+    if l.is(i, Kind::Null) {
         return number(p, f + 4) == 1;
     }
-    let x = listing[3 * i + 1];
-    if value(p, t + 2) < wrapping_sub_u64(x, value(p, t + 1)) {
+    let x = l.second(i);
+    if value(p, t + 2) < x.wrapping_sub(value(p, t + 1)) {
         return false;
     }
     if !listed {
         return true;
     }
     let list = number(p, t + 5);
-    if list == 0 {
-        return true;
-    }
-    names::has(p, list, x)
+    list == 0 || names::has(p, list, x)
 }
 
-// A number or null for the field at f, whose table is at t.
-fn judge_number(p: &[u64], f: usize, t: usize, listed: bool, listing: &[u64], i: usize) -> Judged
-    requires { IsField p.now f t × (listed ≡ has_lists p.now) }
-    ensures { result ≡ judged (field_end i) (judge_number listing.now (field_at p.now f) i) }
+// A number or null for the field at f, whose table is at t: the record after it.
+#[tactic(auto, using(crate::proofs::Steps::steps), unfolding(layout::specs::Writing::judge_number))]
+fn judge_number(l: &Listing, f: usize, t: usize, listed: bool, i: usize) -> Result<usize, Refusal>
+    requires { IsField l.now.book.now f t × (listed ≡ has_lists l.now.book.now) }
+    ensures { result ≡ told (field_end i) (judge_number l.now.numbers.now (field_at l.now.book.now f) i) }
 {
-    if !is_number(listing, i) {
-        return refuse(51, i);
+    if !is_number(l, i) {
+        return refuse(Reason::RecordWrong, i);
     }
-    if !number_fits(p, f, t, listed, listing, i) {
-        return refuse(52, i);
+    if !number_fits(l, f, t, listed, i) {
+        return refuse(Reason::ValueWrong, i);
     }
-    Judged::To {
-        next: i + 1,
-        length: 0,
-    }
+    Ok(i + 1)
 }
 
 // Whether record i is there and is null.
-fn is_null(listing: &[u64], i: usize) -> bool
-    ensures { result ≡ is_null listing.now i }
+#[tactic(auto, using(crate::proofs::Steps::steps))]
+fn is_null(l: &Listing, i: usize) -> bool
+    ensures { result ≡ is_null l.now.numbers.now i }
 {
-    if listing.len() / 3 <= i {
-        return false;
-    }
-    if listing[3 * i] != 1 {
-        return false;
-    }
-    if listing[3 * i + 1] != 0 {
-        return false;
-    }
-    listing[3 * i + 2] == 0
+    l.has(i) && l.is(i, Kind::Null) && l.second(i) == 0 && l.third(i) == 0
 }
 
 // Whether the octets of the pool that record i is fit the array of char at f: no more than it has, no NUL among them,
 // and some where it is optional.
-fn text_fits(p: &[u64], f: usize, listing: &[u64], pool: &[u8], i: usize) -> bool
-    requires { (f + 7 ≤ length p.now) × (3 * i + 3 ≤ length listing.now)
-        × (second listing.now i + third listing.now i ≤ length pool.now) }
-    ensures { result ≡ text_fits listing.now pool.now (field_at p.now f) i }
+#[tactic(auto, using(crate::proofs::Steps::steps))]
+fn text_fits(l: &Listing, f: usize, i: usize) -> bool
+    requires { (f + 7 ≤ length l.now.book.now) × (3 * i + 3 ≤ length l.now.numbers.now)
+        × (second l.now.numbers.now i + third l.now.numbers.now i ≤ length l.now.pool.now) }
+    ensures { result ≡ text_fits l.now.numbers.now l.now.pool.now (field_at l.now.book.now f) i }
 {
-    let start = listing[3 * i + 1] as usize;
-    let len = listing[3 * i + 2] as usize;
-    if number(p, f + 2) < len {
+    let p = l.book;
+    let start = l.second(i) as usize;
+    let len = l.third(i) as usize;
+    if number(p, f + 2) < len || !texts::is_text(l.pool, start, len) {
         return false;
     }
-    if !texts::is_text(pool, start, len) {
-        return false;
-    }
-    if number(p, f + 4) != 1 {
-        return true;
-    }
-    len != 0
+    number(p, f + 4) != 1 || len != 0
 }
 
 // Text or null for the array of char at f.
-fn judge_text(p: &[u64], f: usize, listing: &[u64], pool: &[u8], i: usize) -> Judged
-    requires { f + 7 ≤ length p.now }
-    ensures { result ≡ judged (field_end i) (judge_text listing.now pool.now (field_at
-        p.now f) i) }
+#[tactic(auto, using(crate::proofs::Judging::texts))]
+fn judge_text(l: &Listing, f: usize, i: usize) -> Result<usize, Refusal>
+    requires { f + 7 ≤ length l.now.book.now }
+    ensures { result ≡ told (field_end i) (judge_text l.now.numbers.now l.now.pool.now (field_at l.now.book.now f) i) }
 {
-    if is_null(listing, i) {
-        if number(p, f + 4) == 1 {
-            return Judged::To {
-                next: i + 1,
-                length: 0,
-            };
+    if is_null(l, i) {
+        if number(l.book, f + 4) == 1 {
+            return Ok(i + 1);
         }
-        return refuse(52, i);
+        return refuse(Reason::ValueWrong, i);
     }
-    let octets = judge_octets(listing, pool, i);
-    let Judged::To { next, .. } = octets else {
-        return octets;
-    };
-    if !text_fits(p, f, listing, pool, i) {
-        return refuse(53, i);
+    judge_octets(l, i)?;
+    if !text_fits(l, f, i) {
+        return refuse(Reason::OctetsWrong, i);
     }
-    Judged::To { next, length: 0 }
+    Ok(i + 1)
 }
 
 // What the array at f, which has len octets, takes.
-fn judge_array(p: &[u64], f: usize, len: usize, listing: &[u64], pool: &[u8], i: usize) -> Judged
-    requires { (f + 7 ≤ length p.now) × (len ≡ (field_at p.now f).length) }
-    ensures { result ≡ judged (field_end i) (judge_array listing.now pool.now (field_at
-        p.now f) i) }
+#[tactic(auto, using(crate::proofs::Judging::octets), unfolding(layout::specs::Writing::judge_array))]
+fn judge_array(l: &Listing, f: usize, len: usize, i: usize) -> Result<usize, Refusal>
+    requires { (f + 7 ≤ length l.now.book.now) × (len ≡ (field_at l.now.book.now f).length) }
+    ensures { result ≡ told (field_end i) (judge_array l.now.numbers.now l.now.pool.now (field_at l.now.book.now f) i) }
 {
-    if number(p, f + 1) == 0 {
-        return judge_text(p, f, listing, pool, i);
+    if number(l.book, f + 1) == 0 {
+        return judge_text(l, f, i);
     }
-    let octets = judge_octets(listing, pool, i);
-    let Judged::To { next, length } = octets else {
-        return octets;
-    };
-    if length != len {
-        return refuse(53, i);
+    if judge_octets(l, i)? != len {
+        return refuse(Reason::OctetsWrong, i);
     }
-    Judged::To { next, length: 0 }
+    Ok(i + 1)
 }
 
-// The field at f, whose table is at t. Its octets are the block's.
-fn judge_field(
-    p: &[u64],
-    f: usize,
-    t: usize,
-    listed: bool,
-    listing: &[u64],
-    pool: &[u8],
-    i: usize,
-) -> Judged
-    requires { IsField p.now f t × (listed ≡ has_lists p.now) }
-    ensures { result ≡ judged (field_end i) (judge_field listing.now pool.now (field_at
-        p.now f) i) }
+// The field at f, whose table is at t.
+#[tactic(auto, using(crate::proofs::Steps::steps))]
+fn judge_field(l: &Listing, f: usize, t: usize, listed: bool, i: usize) -> Result<usize, Refusal>
+    requires { IsField l.now.book.now f t × (listed ≡ has_lists l.now.book.now) }
+    ensures { result ≡ told (field_end i) (judge_field l.now.numbers.now l.now.pool.now (field_at l.now.book.now f) i) }
 {
-    let len = number(p, f + 2);
+    let len = number(l.book, f + 2);
     if len <= 1 {
-        return judge_number(p, f, t, listed, listing, i);
+        return judge_number(l, f, t, listed, i);
     }
-    judge_array(p, f, len, listing, pool, i)
+    judge_array(l, f, len, i)
 }
 
-// The fields of the block at a.
-fn judge_fields(p: &[u64], a: usize, listing: &[u64], pool: &[u8], start: usize) -> Judged
-    requires { IsBlock p.now a }
-    ensures { result ≡ judged fields_end (judge_fields listing.now pool.now
-        (shape_at p.now a).fields start) }
+// The fields of the block at a: the record after theirs. Their octets are the block's.
+#[tactic(auto, using(crate::proofs::Judging::fields))]
+fn judge_fields(l: &Listing, a: usize, start: usize) -> Result<usize, Refusal>
+    requires { IsBlock l.now.book.now a }
+    ensures { result ≡ told fields_end (judge_fields l.now.numbers.now l.now.pool.now
+        (shape_at l.now.book.now a).fields start) }
 {
+    let p = l.book;
     let listed = prepared::has_lists(p);
-    let mut left = number(p, a + 3);
+    // As in `store`.
     let mut f = a + 12;
     let mut t = number(p, a + 11);
     let mut i = start;
-    while 0 < left {
-        let field = judge_field(p, f, t, listed, listing, pool, i);
-        let Judged::To { next, .. } = field else {
-            return field;
-        };
-        i = next;
-        f = f + 7;
-        t = t + 6;
-        left = left - 1;
+    for _ in (0..number(p, a + 3)).rev() {
+        i = judge_field(l, f, t, listed, i)?;
+        f += 7;
+        t += 6;
     }
-    Judged::To { next: i, length: 0 }
+    Ok(i)
 }
 
 // As many data as the block at a has.
-fn judge_datas(p: &[u64], a: usize, listing: &[u64], pool: &[u8], start: usize) -> Judged
-    requires { IsBlock p.now a }
-    ensures { result ≡ judged (datas_end 0) (judge_datas listing.now pool.now
-        (shape_at p.now a).datas start) }
+#[tactic(auto, using(crate::proofs::Judging::datas))]
+fn judge_datas(l: &Listing, a: usize, start: usize) -> Result<Judged, Refusal>
+    requires { IsBlock l.now.book.now a }
+    ensures { result ≡ judged (datas_end 0) (judge_datas l.now.numbers.now l.now.pool.now
+        (shape_at l.now.book.now a).datas start) }
 {
-    let mut left = number(p, a + 5);
     let mut i = start;
     let mut seen = 0;
-    while 0 < left {
-        let data = judge_octets(listing, pool, i);
-        let Judged::To { next, length } = data else {
-            return data;
-        };
+    for _ in 0..number(l.book, a + 5) {
+        let length = judge_octets(l, i)?;
         if 65535 <= length {
-            return refuse(53, i);
+            return refuse(Reason::OctetsWrong, i);
         }
-        i = next;
+        i += 1;
         seen = plus(seen, 2 + length);
-        left = left - 1;
     }
-    Judged::To {
+    Ok(Judged {
         next: i,
         length: seen,
-    }
+    })
 }
 
 // Whether record i is there and is a group.
-fn is_group(listing: &[u64], i: usize) -> bool
-    ensures { result ≡ is_group listing.now i }
+#[tactic(auto, using(crate::proofs::Steps::steps))]
+fn is_group(l: &Listing, i: usize) -> bool
+    ensures { result ≡ is_group l.now.numbers.now i }
 {
-    if listing.len() / 3 <= i {
-        return false;
-    }
-    if listing[3 * i] == 4 {
-        return listing[3 * i + 2] == 0;
-    }
-    false
-}
-
-// The entries of the group that record i is. The record after it has a number too.
-fn entries_in(listing: &[u64], i: usize) -> u64
-    requires { is_group listing.now i ≡ true }
-    ensures { (result ≡ second listing.now i) × (i + 1 < 2 ^ 64) }
-{
-    listing[3 * i + 1]
+    l.has(i) && l.is(i, Kind::Group) && l.third(i) == 0
 }
 
 // k entries of the block at a, `depth` more levels being left: of each its fields, its groups, its data. The
 // octets of the blocks are added at the end, for all entries at once.
 #[cycle(judge_entries_judge_row)]
+#[tactic(auto, using(crate::proofs::Judging::entries))]
 fn judge_entries(
-    p: &&[u64],
+    l: &Listing,
     a: usize,
     depth: usize,
-    listing: &&[u64],
-    pool: &&[u8],
     k: u64,
     start: usize,
-) -> Judged
-    requires { BlockAt p.now.now depth a × (k ≤ 65535) }
-    ensures { result ≡ judged (row_end (is_counted p.now.now) (shape_at p.now.now a)
-        (inner_at p.now.now depth a) 0)
-        (entries_at p.now.now depth a listing.now.now pool.now.now k start) }
+) -> Result<Judged, Refusal>
+    requires { BlockAt l.now.book.now depth a × (k ≤ 65535) }
+    ensures { result ≡ judged (row_end (is_counted l.now.book.now) (shape_at l.now.book.now a)
+        (inner_at l.now.book.now depth a) 0)
+        (entries_at l.now.book.now depth a l.now.numbers.now l.now.pool.now k start) }
 {
-    let s = *p;
-    let t = *listing;
-    let o = *pool;
-    let mut due = k;
+    // Taken anew: so its numbers are loaded once, and not after each call.
+    let listing = *l;
+    let p = listing.book;
     let mut i = start;
     let mut seen = 0;
-    while 0 < due {
-        due = due - 1;
-        let fields = judge_fields(s, a, t, o, i);
-        let Judged::To { next, .. } = fields else {
-            return fields;
-        };
-        if number(s, a + 7) == 0 {
-            i = next;
+    for _ in 0..k {
+        i = judge_fields(&listing, a, i)?;
+        if number(p, a + 7) == 0 {
             continue;
         }
-        let row = judge_row(p, a, depth, listing, pool, next);
-        let Judged::To { next: on, length } = row else {
-            return row;
-        };
-        seen = plus(seen, length);
-        let datas = judge_datas(s, a, t, o, on);
-        let Judged::To {
-            next: end,
-            length: more,
-        } = datas
-        else {
-            return datas;
-        };
-        i = end;
-        seen = plus(seen, more);
+        let row = judge_row(l, a, depth, i)?;
+        let datas = judge_datas(&listing, a, row.next)?;
+        i = datas.next;
+        seen = plus(plus(seen, row.length), datas.length);
     }
-    Judged::To {
+    Ok(Judged {
         next: i,
-        length: plus(seen, number(s, a + 2) * k as usize),
-    }
+        length: plus(seen, number(p, a + 2) * k as usize),
+    })
 }
 
 // The groups of the block at a, `depth` more levels being left: of each its dimension and its entries.
 #[cycle(judge_entries_judge_row)]
-fn judge_row(
-    p: &&[u64],
-    a: usize,
-    depth: usize,
-    listing: &&[u64],
-    pool: &&[u8],
-    start: usize,
-) -> Judged
-    requires { BlockAt p.now.now depth a }
-    ensures { result ≡ judged (row_end (is_counted p.now.now) (shape_at p.now.now a)
-        (inner_at p.now.now depth a) 0)
-        (judge_groups listing.now.now pool.now.now (inner_at p.now.now depth a)
+#[tactic(auto, using(crate::proofs::Judging::row))]
+fn judge_row(l: &Listing, a: usize, depth: usize, start: usize) -> Result<Judged, Refusal>
+    requires { BlockAt l.now.book.now depth a }
+    ensures { result ≡ judged (row_end (is_counted l.now.book.now) (shape_at l.now.book.now a)
+        (inner_at l.now.book.now depth a) 0)
+        (judge_groups l.now.numbers.now l.now.pool.now (inner_at l.now.book.now depth a)
         start) }
 {
-    let s = *p;
-    let t = *listing;
-    let mut g = number(s, a + 9);
-    let mut left = number(s, a + 4);
+    let p = l.book;
+    let mut g = number(p, a + 9);
     let mut i = start;
     let mut seen = 0;
-    while 0 < left {
-        prepared::open_row(s, g, left, depth);
-        left = left - 1;
-        if !is_group(t, i) {
-            return refuse(51, i);
+    for left in (1..=number(p, a + 4)).rev() {
+        prepared::open_row(p, g, left, depth);
+        if !is_group(l, i) {
+            return refuse(Reason::RecordWrong, i);
         }
-        let k = entries_in(t, i);
+        let k = l.second(i);
         if 65535 <= k {
-            return refuse(54, i);
+            return refuse(Reason::EntriesTooMany, i);
         }
-        let entries = judge_entries(p, g, depth - 1, listing, pool, k, i + 1);
-        let Judged::To { next, length } = entries else {
-            return entries;
-        };
-        i = next;
-        seen = plus(plus(seen, prepared::dimension_size(s)), length);
-        g = number(s, g + 8);
+        let entries = judge_entries(l, g, depth - 1, k, i + 1)?;
+        i = entries.next;
+        seen = plus(plus(seen, prepared::dimension_size(p)), entries.length);
+        g = number(p, g + 8);
     }
-    Judged::To {
+    Ok(Judged {
         next: i,
         length: seen,
-    }
+    })
 }
 
 // A whole listing by the template whose block stands at a: the octets of the message without its header.
-pub fn judge_listing(p: &&[u64], a: usize, listing: &&[u64], pool: &&[u8]) -> Judged
-    requires { BlockAt p.now.now 4 a }
-    ensures { result ≡ judged (listing_end (is_counted p.now.now) (shape_at p.now.now a)
-        (inner_at p.now.now 4 a) listing.now.now) (judge_listing listing.now.now
-        pool.now.now (template_at p.now.now a)) }
+#[tactic(auto, using(crate::proofs::Judging::listing))]
+pub fn judge_listing(l: &Listing, a: usize) -> Result<Judged, Refusal>
+    requires { BlockAt l.now.book.now 4 a }
+    ensures { result ≡ judged (listing_end (is_counted l.now.book.now) (shape_at l.now.book.now a)
+        (inner_at l.now.book.now 4 a) l.now.numbers.now) (judge_listing l.now.numbers.now
+        l.now.pool.now (template_at l.now.book.now a)) }
 {
-    let t = *listing;
-    let root = judge_entries(p, a, 4, listing, pool, 1, 0);
-    let Judged::To { next, .. } = root else {
-        return root;
-    };
-    if t.len() / 3 != next {
-        return refuse(51, next);
+    let root = judge_entries(l, a, 4, 1, 0)?;
+    let n = l.numbers.len();
+    if n / 3 != root.next || n % 3 != 0 {
+        return refuse(Reason::RecordWrong, root.next);
     }
-    if t.len() % 3 != 0 {
-        return refuse(51, next);
-    }
-    root
+    Ok(root)
 }

@@ -11,11 +11,12 @@ use borrow.Author.Tests.{le-leb, leb-false, leb-true, lt-leb}
 use Rattle.layout.specs.Result.{Result, ◌>>=◌, done, when◌then◌else◌, must}
 use Rattle.layout.specs.Message.{Dimension, dimension_size, in_row, read_dimension, skip_entry, skip_group}
 use Rattle.layout.proofs.Results.{bind_done, done_inj, inv_bind, inv_must}
+use Rattle.layout.specs.declared.Reason.TheVariants.{PastTheEnd}
 
 module _ (big : Bool) (m : List ℕ) where
   -- n octets from `at` on, or 16 at `place`.
   abbrev pub passed : ℕ → ℕ → ℕ → Result ℕ
-  passed n place at = must (leb (at + n) (length m)) 16 place >>= λ _. done (at + n)
+  passed n place at = must (leb (at + n) (length m)) PastTheEnd place >>= λ _. done (at + n)
 
   module _ (f : ℕ → Result ℕ) (d : Dimension) (place : ℕ) (no_groups : d.groups ≡ 0) (no_datas : d.datas ≡ 0) where
     entry_at_once : (at : ℕ) → skip_entry big m f d place at ≡ passed d.length place at

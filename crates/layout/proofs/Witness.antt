@@ -28,6 +28,7 @@ use Rattle.layout.specs.Demands.{reordered, row, turned}
 use Rattle.layout.proofs.ListLaws.{or_either}
 use Rattle.layout.proofs.Results.{and_left, and_right}
 use Rattle.layout.specs.declared.Answer.TheVariants.{Group, Null, Number, Octets, Unlisted}
+use Rattle.layout.specs.declared.Reason.TheVariants.{BookHead, BookSince, DimensionNull, GroupBlockShort, GroupCountsWrong, GroupTooDeep, OctetsWrong, PastTheEnd, RecordWrong, ValueWrong}
 
 -- ---- A and B as trees
 
@@ -521,24 +522,24 @@ counted_table =
     -- "surplus groups are skipped depth first by their own counts"
     ∷ (listed book_c message_d says done (0 ∷ 5 ∷ 0 ∷ 4 ∷ 1 ∷ 0 ∷ 0 ∷ 7 ∷ 0 ∷ []))
     ∷ (listed book_c message_e says done (0 ∷ 5 ∷ 0 ∷ 4 ∷ 1 ∷ 0 ∷ 0 ∷ 7 ∷ 0 ∷ []))
-    ∷ (listed book_c (take 35 message_d) says refused 16 32)
-    ∷ (listed book_c (take 31 message_d) says refused 16 22)
+    ∷ (listed book_c (take 35 message_d) says refused PastTheEnd 32)
+    ∷ (listed book_c (take 31 message_d) says refused PastTheEnd 22)
     -- "17 covers all four numbers"
-    ∷ (listed book_c (with16 message_d 17 65535) says refused 17 13)
-    ∷ (listed book_c (with16 message_d 19 65535) says refused 17 13)
-    ∷ (listed book_c (with16 message_d 26 65535) says refused 17 22)
+    ∷ (listed book_c (with16 message_d 17 65535) says refused DimensionNull 13)
+    ∷ (listed book_c (with16 message_d 19 65535) says refused DimensionNull 13)
+    ∷ (listed book_c (with16 message_d 26 65535) says refused DimensionNull 22)
     -- "the header's rule on counts holds for every known group, empty or not", "after 18": version 0 with D's counts
-    ∷ (listed book_c (with16 (with16 message_d 6 0) 19 0) says refused 21 13)
-    ∷ (listed book_c (with16 (with16 message_d 6 0) 17 0) says refused 21 13)
-    ∷ (listed book_c (with16 (with16 message_d 6 0) 15 0) says refused 21 13)
-    ∷ (listed book_c (with16 (with16 message_d 6 0) 13 0) says refused 18 13)
+    ∷ (listed book_c (with16 (with16 message_d 6 0) 19 0) says refused GroupCountsWrong 13)
+    ∷ (listed book_c (with16 (with16 message_d 6 0) 17 0) says refused GroupCountsWrong 13)
+    ∷ (listed book_c (with16 (with16 message_d 6 0) 15 0) says refused GroupCountsWrong 13)
+    ∷ (listed book_c (with16 (with16 message_d 6 0) 13 0) says refused GroupBlockShort 13)
     -- "22 for any group on the wire below depth four", after its 16 and 17: one at depth four may count groups
     ∷ (listed book_c (deep (words (1 ∷ 0 ∷ 1 ∷ 0 ∷ []))) says done (0 ∷ 5 ∷ 0 ∷ 4 ∷ 1 ∷ 0 ∷ 0 ∷ 7 ∷ 0 ∷ []))
-    ∷ (listed book_c (deep (seven 1 0 (seven 0 0 []))) says refused 22 49)
-    ∷ (listed book_c (deep (seven 1 0 (1 ∷ []))) says refused 16 49)
+    ∷ (listed book_c (deep (seven 1 0 (seven 0 0 []))) says refused GroupTooDeep 49)
+    ∷ (listed book_c (deep (seven 1 0 (1 ∷ []))) says refused PastTheEnd 49)
     -- "2 also for a word other than 2 and 4"; only with four data and groups inside a group may be younger than it
-    ∷ (listed (with16 book_c 12 3) message_d says refused 2 0)
-    ∷ (listed (with16 book_d 12 2) message_d says refused 6 0)
+    ∷ (listed (with16 book_c 12 3) message_d says refused BookHead 0)
+    ∷ (listed (with16 book_d 12 2) message_d says refused BookSince 0)
     ∷ []
 
 pub counts_hold : map (λ (r : Row). answer r.case) counted_table ≡ map (λ (r : Row). r.says) counted_table
@@ -686,7 +687,7 @@ pub listed_written : write_of book_many 1 (listing values_m) message_m 32 ≡ do
 unfolding all values_m
 listed_written = refl
 
-pub unlisted_not_written : write_of book_few 1 (listing values_m) message_m 32 ≡ refused 52 0
+pub unlisted_not_written : write_of book_few 1 (listing values_m) message_m 32 ≡ refused ValueWrong 0
 unfolding all values_m
 unlisted_not_written = refl
 
@@ -704,7 +705,7 @@ pub unlisted_not_as_written : ¬ AsWritten tree_few template_few message_m value
 unfolding values_few Each Sound AllSound
 unlisted_not_as_written a = a.sound.0.0
 
-pub kind_6_not_written : write_of book_few 1 (6 ∷ 1000 ∷ 0 ∷ []) message_m 32 ≡ refused 51 0
+pub kind_6_not_written : write_of book_few 1 (6 ∷ 1000 ∷ 0 ∷ []) message_m 32 ≡ refused RecordWrong 0
 unfolding all
 kind_6_not_written = refl
 
@@ -821,19 +822,19 @@ tail_not_as_written a = omega (arith, ap (λ (s : List ℕ). get_or s 1 0) (a.bl
 
 -- "53 for a text longer than its field, with a NUL in it, or empty for an optional field, which now takes null; 52 for
 -- null in a required one".
-pub text_too_long : write_of book_t 1 (2 ∷ 0 ∷ 5 ∷ []) (0x41 ∷ 0x42 ∷ 0x43 ∷ 0x44 ∷ 0x45 ∷ []) 20 ≡ refused 53 0
+pub text_too_long : write_of book_t 1 (2 ∷ 0 ∷ 5 ∷ []) (0x41 ∷ 0x42 ∷ 0x43 ∷ 0x44 ∷ 0x45 ∷ []) 20 ≡ refused OctetsWrong 0
 unfolding all
 text_too_long = refl
 
-pub text_with_nul : write_of book_t 1 (2 ∷ 0 ∷ 2 ∷ []) (0x41 ∷ 0 ∷ []) 20 ≡ refused 53 0
+pub text_with_nul : write_of book_t 1 (2 ∷ 0 ∷ 2 ∷ []) (0x41 ∷ 0 ∷ []) 20 ≡ refused OctetsWrong 0
 unfolding all
 text_with_nul = refl
 
-pub text_empty : write_of book_t 1 (2 ∷ 0 ∷ 0 ∷ 2 ∷ 0 ∷ 0 ∷ []) [] 20 ≡ refused 53 1
+pub text_empty : write_of book_t 1 (2 ∷ 0 ∷ 0 ∷ 2 ∷ 0 ∷ 0 ∷ []) [] 20 ≡ refused OctetsWrong 1
 unfolding all
 text_empty = refl
 
-pub text_null : write_of book_t 1 (1 ∷ 0 ∷ 0 ∷ []) [] 20 ≡ refused 52 0
+pub text_null : write_of book_t 1 (1 ∷ 0 ∷ 0 ∷ []) [] 20 ≡ refused ValueWrong 0
 unfolding all
 text_null = refl
 

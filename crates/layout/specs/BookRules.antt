@@ -8,6 +8,8 @@ use Rattle.layout.specs.Lists.{Kind, NameList, enumeration, find_names, free, is
 use Rattle.layout.specs.Book.{Book, Data, Field, Format, Groups, Shape, Template, data_sinces, end, field_sinces}
 use Rattle.layout.specs.Book.{group_sinces, is_array, more, none}
 use Rattle.layout.specs.Message.{dimension_size, header_size, most_message}
+use Rattle.layout.specs.declared.Reason.{Reason}
+use Rattle.layout.specs.declared.Reason.TheVariants.{BookBlock, BookContents, BookHead, BookLayout, BookSince, BookSize, BookUnsendable}
 
 abbrev pub word : List ℕ → ℕ → ℕ
 word b w = get_or b w 0
@@ -41,22 +43,22 @@ parse_datas b (suc n) w = record { id = word b w; since = word b (w + 1) } ∷ p
 -- has at least `few` fields.
 unfoldable pub parse_shape : List NameList → List ℕ → ℕ → ℕ → Result (Shape × ℕ × ℕ)
 parse_shape ls b few w = do
-  _ ← must (leb (w + 4) (length b)) 4 0
+  _ ← must (leb (w + 4) (length b)) BookBlock 0
   let f = word b (w + 1)
   let g = word b (w + 2)
   let d = word b (w + 3)
   let fields_at = w + 4
   let datas_at = fields_at + 7 * f
   let groups_at = datas_at + 2 * d
-  _ ← must (leb few f and leb f 64 and leb g 16 and leb d 16) 4 0
-  _ ← must (leb groups_at (length b)) 4 0
+  _ ← must (leb few f and leb f 64 and leb g 16 and leb d 16) BookBlock 0
+  _ ← must (leb groups_at (length b)) BookBlock 0
   done (record { length = word b w; fields = parse_fields ls b f fields_at; datas = parse_datas b d datas_at }, g, groups_at)
 
 -- n groups in a row, `depth` more levels being left, and the word after them. "A group has at least one field."
 unfoldable pub parse_groups : List NameList → List ℕ → ℕ → ℕ → ℕ → Result (Groups × ℕ)
 parse_groups ls b zero zero w = done (none, w)
 parse_groups ls b (suc depth) zero w = done (none, w)
-parse_groups ls b zero (suc n) w = refused 4 0
+parse_groups ls b zero (suc n) w = refused BookBlock 0
 parse_groups ls b (suc depth) (suc n) w = do
   (s, g, x) ← parse_shape ls b 1 (w + 2)
   (inner, y) ← parse_groups ls b depth g x
@@ -68,7 +70,7 @@ unfoldable pub parse_body : List NameList → List ℕ → Result (Shape × Grou
 parse_body ls b = do
   (s, g, x) ← parse_shape ls b 0 0
   (groups, y) ← parse_groups ls b 4 g x
-  _ ← must (eqb y (length b)) 4 0
+  _ ← must (eqb y (length b)) BookBlock 0
   done (s, groups)
 
 -- From `low` on, each above the one before.
@@ -191,7 +193,7 @@ parse_contents b (suc n) w =
 unfoldable pub contents_end : ℕ → ℕ → List ContentsRow → Result ℕ
 contents_end low at [] = done at
 contents_end low at (r ∷ rs) = do
-  _ ← must (leb low r.id and ltb r.id null16 and eqb r.first at) 3 0
+  _ ← must (leb low r.id and ltb r.id null16 and eqb r.first at) BookContents 0
   contents_end (suc r.id) (at + r.words) rs
 
 abbrev pub body_of : List ℕ → ContentsRow → List ℕ
@@ -201,14 +203,14 @@ body_of b r = take r.words (drop r.first b)
 unfoldable pub parse_bodies : List NameList → List ℕ → ℕ → List ContentsRow → Result (List Template)
 parse_bodies ls b t [] = done []
 parse_bodies ls b t (r ∷ rs) = do
-  (s, gs) ← as_refusal (parse_body ls (body_of b r)) 4 t
+  (s, gs) ← as_refusal (parse_body ls (body_of b r)) BookBlock t
   xs ← parse_bodies ls b (suc t) rs
   done (record { id = r.id; shape = s; groups = gs } ∷ xs)
 
--- Refusal n at the first that fails the test, the first of these having number t.
-unfoldable pub each_must : {A : Type 0} → (A → Bool) → ℕ → ℕ → List A → Result (Unit {0})
-each_must f n t [] = done tt
-each_must f n t (x ∷ xs) = must (f x) n t >>= λ _. each_must f n (suc t) xs
+-- The refusal for r at the first that fails the test, the first of these having number t.
+unfoldable pub each_must : {A : Type 0} → (A → Bool) → Reason → ℕ → List A → Result (Unit {0})
+each_must f r t [] = done tt
+each_must f r t (x ∷ xs) = must (f x) r t >>= λ _. each_must f r (suc t) xs
 
 -- "Head, four words: schema id, schema version, number of templates (1 to 64), number of words in the book"; "The head
 -- gains a fifth word, the number of lists", "a sixth word, 0 little or 1 big", and "a further head word, 2 or 4".
@@ -249,27 +251,27 @@ unfoldable pub check_contents : List ℕ → Result (Unit {0})
 check_contents b = do
   lists_at ← contents_end 0 (head_size + contents_size b) (template_rows b)
   e ← contents_end 0 lists_at (list_rows b)
-  must (eqb e (length b)) 3 0
+  must (eqb e (length b)) BookContents 0
 
 -- The tree that a book's octets are of, by 1 to 4. 4 of a list is "placed at the number of templates plus the list's
 -- position".
 unfoldable pub tree_of : List ℕ → Result Book
 tree_of octets = do
-  _ ← must (size_good octets) 1 0
+  _ ← must (size_good octets) BookSize 0
   let b = words_of octets
-  _ ← must (head_good b) 2 0
+  _ ← must (head_good b) BookHead 0
   _ ← check_contents b
   let ls = lists_of b
   ts ← parse_bodies ls b 0 (template_rows b)
-  _ ← each_must list_good 4 (word b 2) ls
+  _ ← each_must list_good BookBlock (word b 2) ls
   done (record { schema = word b 0; version = word b 1; format = format_of b; lists = ls; templates = ts })
 
 -- 5, 6 and 7 of its templates.
 unfoldable pub check_templates : Book → Result (Unit {0})
 check_templates b = do
-  _ ← each_must layout_good 5 0 b.templates
-  _ ← each_must (since_good b.format.in_groups b.version) 6 0 b.templates
-  each_must (length_kept b.format) 7 0 b.templates
+  _ ← each_must layout_good BookLayout 0 b.templates
+  _ ← each_must (since_good b.format.in_groups b.version) BookSince 0 b.templates
+  each_must (length_kept b.format) BookUnsendable 0 b.templates
 
 unfoldable pub book_of : List ℕ → Result Book
 book_of octets = do

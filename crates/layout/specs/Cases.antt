@@ -6,6 +6,7 @@ use Rattle.layout.specs.Octets.{number_at}
 use Rattle.layout.specs.Types.{TypeRow, type_at, value_of, classify}
 use Rattle.layout.specs.Values.{record_of}
 use Rattle.layout.specs.Reading.{list_of}
+use Rattle.layout.specs.declared.Reason.TheVariants.{BookBlock, BookHead, BookLayout, BookSince, BookUnsendable, CountsWrong, DataLengthNull, HeaderNull, MessageSize, OctetsLeftOver, PastTheEnd, RootBlockShort, SchemaDiffers}
 
 -- The octets of a book's words.
 abbrev pub words : List ℕ → List ℕ
@@ -191,34 +192,34 @@ table =
     done (6 ∷ 1000 ∷ 0 ∷ 0 ∷ minus5 ∷ 0 ∷ 4 ∷ 2 ∷ 0 ∷ 0 ∷ 1 ∷ 0 ∷ 6 ∷ 3 ∷ 0 ∷ 2 ∷ 30 ∷ 2 ∷ []))
     ∷ (listed book_many message_m says
     done (0 ∷ 1000 ∷ 0 ∷ 0 ∷ minus5 ∷ 0 ∷ 4 ∷ 2 ∷ 0 ∷ 0 ∷ 1 ∷ 0 ∷ 0 ∷ 3 ∷ 0 ∷ 2 ∷ 30 ∷ 2 ∷ []))
-    ∷ (listed (book_l 0 (3 ∷ 3 ∷ []) (1 ∷ [])) message_m says refused 4 1)
-    ∷ (listed (book_l 0 (3 ∷ 32 ∷ []) (1 ∷ [])) message_m says refused 5 0)
+    ∷ (listed (book_l 0 (3 ∷ 3 ∷ []) (1 ∷ [])) message_m says refused BookBlock 1)
+    ∷ (listed (book_l 0 (3 ∷ 32 ∷ []) (1 ∷ [])) message_m says refused BookLayout 0)
     ∷ (listed book_t (message_t (0x4d ∷ 0x53 ∷ 0x46 ∷ 0x54 ∷ 0x42 ∷ 0 ∷ 0x43 ∷ 0 ∷ [])) says
     done (2 ∷ 12 ∷ 4 ∷ 2 ∷ 16 ∷ 1 ∷ []))
     ∷ (listed book_t (message_t (0 ∷ 0x53 ∷ 0 ∷ 0 ∷ 0 ∷ 0x42 ∷ 0 ∷ 0 ∷ [])) says done (2 ∷ 12 ∷ 0 ∷ 1 ∷ 0 ∷ 0 ∷ []))
-    ∷ (listed book_a (take 31 message_m) says refused 16 28)
-    ∷ (listed book_a (message_m ++ (0 ∷ [])) says refused 20 32)
-    ∷ (listed book_a [] says refused 10 0)
-    ∷ (listed book_a (with16 message_m 0 5) says refused 14 0)
-    ∷ (listed book_a (with16 message_m 6 65535) says refused 11 6)
-    ∷ (listed book_a (with16 message_m 8 2) says refused 15 8)
-    ∷ (listed book_a (with16 message_m 28 65535) says refused 19 28)
-    ∷ (listed book_a (with16 message_m 28 65534) says refused 16 28)
+    ∷ (listed book_a (take 31 message_m) says refused PastTheEnd 28)
+    ∷ (listed book_a (message_m ++ (0 ∷ [])) says refused OctetsLeftOver 32)
+    ∷ (listed book_a [] says refused MessageSize 0)
+    ∷ (listed book_a (with16 message_m 0 5) says refused RootBlockShort 0)
+    ∷ (listed book_a (with16 message_m 6 65535) says refused HeaderNull 6)
+    ∷ (listed book_a (with16 message_m 8 2) says refused CountsWrong 8)
+    ∷ (listed book_a (with16 message_m 28 65535) says refused DataLengthNull 28)
+    ∷ (listed book_a (with16 message_m 28 65534) says refused PastTheEnd 28)
     ∷ (holds false 6 false (0x10 ∷ 0x27 ∷ 0x00 ∷ 0x00 ∷ []) says done (0 ∷ 10000 ∷ 0 ∷ []))
     ∷ (holds false 1 true (128 ∷ []) says done (1 ∷ 0 ∷ 0 ∷ []))
     ∷ (holds false 1 true (129 ∷ []) says done (0 ∷ minus 127 ∷ 0 ∷ []))
     -- the order: M turned lists alike; neither message is the other book's; "2 also for another order word"
     ∷ (listed big_a big_m says
     done (0 ∷ 1000 ∷ 0 ∷ 0 ∷ minus5 ∷ 0 ∷ 4 ∷ 2 ∷ 0 ∷ 0 ∷ 1 ∷ 0 ∷ 0 ∷ 3 ∷ 0 ∷ 2 ∷ 30 ∷ 2 ∷ []))
-    ∷ (listed big_a message_m says refused 12 4)
-    ∷ (listed book_a big_m says refused 12 4)
-    ∷ (listed big_a (with16 big_m 28 65535) says refused 19 28)
-    ∷ (listed (ordered_a 2) message_m says refused 2 0)
+    ∷ (listed big_a message_m says refused SchemaDiffers 4)
+    ∷ (listed book_a big_m says refused SchemaDiffers 4)
+    ∷ (listed big_a (with16 big_m 28 65535) says refused DataLengthNull 28)
+    ∷ (listed (ordered_a 2) message_m says refused BookHead 0)
     ∷ (holds true 6 false (0x00 ∷ 0x00 ∷ 0x27 ∷ 0x10 ∷ []) says done (0 ∷ 10000 ∷ 0 ∷ []))
     -- "exceed 65,535 together": exactly so many, and one more; "7, .. after 6 and before 10"
-    ∷ (listed (long_book 2 65517) [] says refused 10 0)
-    ∷ (listed (long_book 2 65518) [] says refused 7 0)
-    ∷ (listed (long_book 4 65513) [] says refused 10 0)
-    ∷ (listed (long_book 4 65514) [] says refused 7 0)
-    ∷ (listed (with16 (long_book 2 65518) 30 1) [] says refused 6 0)
+    ∷ (listed (long_book 2 65517) [] says refused MessageSize 0)
+    ∷ (listed (long_book 2 65518) [] says refused BookUnsendable 0)
+    ∷ (listed (long_book 4 65513) [] says refused MessageSize 0)
+    ∷ (listed (long_book 4 65514) [] says refused BookUnsendable 0)
+    ∷ (listed (with16 (long_book 2 65518) 30 1) [] says refused BookSince 0)
     ∷ []

@@ -1,5 +1,5 @@
 -- The words in which demands 2 and 3 are said, what rule 7 is good for, and what the two orders have in common.
-use Rattle.std.specs.Prelude.{◌≡◌, Bool, false, not, true, List, [], ◌++◌, ◌∷◌, map, reverse, ◌*◌, ◌+◌, ◌-◌, ◌<◌, ◌^◌, ◌≤◌, suc, zero, ℕ, eqb, drop, get_or, length, replicate, set, take}
+use Rattle.std.specs.Prelude.{◌≡◌, Bool, false, not, true, List, [], ◌++◌, ◌∷◌, map, reverse, ◌*◌, ◌+◌, ◌-◌, ◌<◌, ◌^◌, ◌≤◌, suc, zero, ℕ, eqb, drop, get_or, length, replicate, set, take, Ok, Err}
 use Rattle.layout.specs.Result.{Each, ◌or◌, done, when◌then◌else◌}
 use Rattle.layout.specs.Octets.{AllOctets, Numbers64, number16, text_length}
 use Rattle.layout.specs.Types.{in_range, is_width, type_at}
@@ -10,12 +10,7 @@ use Rattle.layout.specs.Values.{Step, Values, entry, group, listing, nil}
 use Rattle.layout.specs.Message.{block_length, dimension_size, header_size, most_message, read_message, template_id}
 use Rattle.layout.specs.Message.{version_of}
 use Rattle.layout.specs.Writing.{judge_listing, message_octets, row_length, takes, write_of}
-use Rattle.layout.specs.Operations.{AnswersPlace, Checks, Lists}
-use Rattle.layout.specs.declared.Checked.{Checked}
-use Rattle.layout.specs.declared.Counted as Counted
-use Rattle.layout.specs.declared.Counted.{Counted}
-use Rattle.layout.specs.declared.Found as Found
-use Rattle.layout.specs.declared.Found.{Found}
+use Rattle.layout.specs.Operations.{AnswersPlace, Checks, Lists, Told}
 use Rattle.layout.specs.declared.Element as Element
 use Rattle.layout.specs.declared.Element.{Element}
 use Rattle.layout.specs.declared.Answer.{Answer}
@@ -154,9 +149,9 @@ names_at [] x s gs = element_names x s
 names_at (p ∷ ps) x s gs = of_group no_names gs p.group (names_at ps x)
 
 -- What was found, seen beside these names.
-unfoldable pub found_beside : Names → Found → Found
-found_beside l (Found.TheVariants.Is a) = Found.TheVariants.Is (beside l a)
-found_beside l (Found.TheVariants.Refused z) = Found.TheVariants.Refused z
+unfoldable pub found_beside : Names → Told Answer → Told Answer
+found_beside l (Ok a) = Ok (beside l a)
+found_beside l (Err z) = Err z
 
 -- "the same answer", or "kind 6 with the same number where only its list lacks it": what an older book says of a place
 -- that has the names l in it, by what the newer says of it. `is` is how an answer is told.
@@ -199,12 +194,12 @@ pub record OtherWay (b : Book) (m : List ℕ) (r : Values) (m' : List ℕ) : Typ
 -- Every call answers alike, starts included: it returns the same for m by `book` and for m' by book', and leaves the
 -- same in the room that it was lent. The octets that a listing leads to are the same too.
 pub record CallsAlike (book m book' m' : List ℕ) : Type 0 where
-  pub checks : (r r' : Checked) → Checks book m r → Checks book' m' r' → r ≡ r'
-  pub lists : (before after after' : List ℕ) (r r' : Counted) → Lists book m before r after
+  pub checks : (r r' : Told (Unit {0})) → Checks book m r → Checks book' m' r' → r ≡ r'
+  pub lists : (before after after' : List ℕ) (r r' : Told ℕ) → Lists book m before r after
       → Lists book' m' before r' after'
       → (r ≡ r') × (after ≡ after')
-  pub answers : (steps : List ℕ) (x : Element) (r r' : Found) → AnswersPlace book m steps x r
+  pub answers : (steps : List ℕ) (x : Element) (r r' : Told Answer) → AnswersPlace book m steps x r
       → AnswersPlace book' m' steps x r'
       → r ≡ r'
-  pub octets : (before after : List ℕ) (n : ℕ) → Lists book m before (Counted.TheVariants.Count n) after
+  pub octets : (before after : List ℕ) (n : ℕ) → Lists book m before (Ok n) after
       → contents m (take (3 * n) after) ≡ contents m' (take (3 * n) after)

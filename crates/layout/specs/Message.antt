@@ -10,6 +10,7 @@ use Rattle.layout.specs.Book.{group_sinces, is_array, is_char, is_optional, more
 use Rattle.layout.specs.Values.{Values, nil, entry, group}
 use Rattle.layout.specs.declared.Answer.{Answer}
 use Rattle.layout.specs.declared.Answer.TheVariants.{Null, Octets, Absent, Group}
+use Rattle.layout.specs.declared.Reason.TheVariants.{CountsWrong, DataLengthNull, DimensionNull, GroupBlockShort, GroupCountsWrong, GroupTooDeep, HeaderNull, MessageSize, OctetsLeftOver, PastTheEnd, RootBlockShort, SchemaDiffers, TemplateUnknown}
 
 -- The number of groups and the number of data of a block stand in the header for the root and, where the book's format
 -- says so, in a group's dimension: how many numbers that is.
@@ -95,10 +96,10 @@ module _ (big : Bool) (m : List ℕ) where
   -- for the octets"
   unfoldable pub read_data : ℕ → Result (Answer × ℕ)
   read_data at = do
-    _ ← must (leb (at + 2) (length m)) 16 at
+    _ ← must (leb (at + 2) (length m)) PastTheEnd at
     let n = number16 big m at
-    _ ← must (ltb n null16) 19 at
-    _ ← must (leb (at + 2 + n) (length m)) 16 at
+    _ ← must (ltb n null16) DataLengthNull at
+    _ ← must (leb (at + 2 + n) (length m)) PastTheEnd at
     done (Octets (at + 2) n, at + 2 + n)
 
   -- "surplus data by their lengths"
@@ -109,7 +110,7 @@ module _ (big : Bool) (m : List ℕ) where
   -- runs out is placed at its dimension."
   unfoldable pub skip_entry : (ℕ → Result ℕ) → Dimension → ℕ → ℕ → Result ℕ
   skip_entry f d place at = do
-    _ ← must (leb (at + d.length) (length m)) 16 place
+    _ ← must (leb (at + d.length) (length m)) PastTheEnd place
     x ← in_row d.groups f (at + d.length)
     skip_datas d.datas x
 
@@ -118,18 +119,18 @@ module _ (counted big : Bool) (m : List ℕ) where
   -- "at a dimension 16, 17"; "17 covers all four numbers", of which a book that uses two lacks the counts.
   unfoldable pub read_dimension : ℕ → Result Dimension
   read_dimension at = do
-    _ ← must (leb (at + dimension_size counted) (length m)) 16 at
+    _ ← must (leb (at + dimension_size counted) (length m)) PastTheEnd at
     let l = number16 big m at
     let k = number16 big m (at + 2)
     let g = count_at counted big m (at + 4)
     let d = count_at counted big m (at + 4 + 2)
-    _ ← must (ltb l null16 and ltb k null16 and ltb g null16 and ltb d null16) 17 at
+    _ ← must (ltb l null16 and ltb k null16 and ltb g null16 and ltb d null16) DimensionNull at
     done (record { length = l; entries = k; groups = g; datas = d })
 
   -- "surplus groups are skipped depth first by their own counts"; without counts that is "as dimension plus block
   -- length times entries" (proofs/Skipped). "22 for any group on the wire below depth four": `levels` levels are left.
   unfoldable pub skip_group : ℕ → ℕ → Result ℕ
-  skip_group zero at = read_dimension at >>= λ _. refused 22 at
+  skip_group zero at = read_dimension at >>= λ _. refused GroupTooDeep at
   skip_group (suc levels) at = do
     d ← read_dimension at
     in_row d.entries (skip_entry big m (skip_group levels) d at) (at + dimension_size counted)
@@ -188,7 +189,7 @@ module _ (big : Bool) (m : List ℕ) (v : ℕ) where
   -- the data with n surplus ones.
   unfoldable pub read_block : Shape → (ℕ → Result (Values × ℕ)) → ℕ → ℕ → ℕ → Result Entry
   read_block s f n l at = do
-    _ ← must (leb (at + l) (length m)) 16 at
+    _ ← must (leb (at + l) (length m)) PastTheEnd at
     (gs, x) ← f (at + l)
     (ds, y) ← read_datas s.datas n x
     done (map (read_field at) s.fields, gs, ds, y)
@@ -202,8 +203,8 @@ module _ (counted : Bool) (version : ℕ) (big : Bool) (m : List ℕ) (v : ℕ) 
   read_group s groups f at = do
     let datas = data_sinces s.datas
     d ← read_dimension counted big m at
-    _ ← must (leb (need v s) d.length) 18 at
-    _ ← must (count_good counted version v groups d.groups and count_good counted version v datas d.datas) 21 at
+    _ ← must (leb (need v s) d.length) GroupBlockShort at
+    _ ← must (count_good counted version v groups d.groups and count_good counted version v datas d.datas) GroupCountsWrong at
     let block = read_block big m v s (f (surplus v groups d.groups)) (surplus v datas d.datas) d.length
     (es, x) ← read_entries d.entries block (at + dimension_size counted)
     done (Group d.entries, es, x)
@@ -224,18 +225,18 @@ module _ (counted : Bool) (version : ℕ) (big : Bool) (m : List ℕ) (v : ℕ) 
 -- "11: a header number is 65535 | offset of the first such": n numbers from `at` on.
 unfoldable pub header_whole : Bool → List ℕ → ℕ → ℕ → Result (Unit {0})
 header_whole big m zero at = done tt
-header_whole big m (suc n) at = must (ltb (number16 big m at) null16) 11 at >>= λ _. header_whole big m n (at + 2)
+header_whole big m (suc n) at = must (ltb (number16 big m at) null16) HeaderNull at >>= λ _. header_whole big m n (at + 2)
 
 -- 10 to 12: "message under 12 or over 65,535 octets", 11, "schema id differs".
 unfoldable pub check_header : Bool → ℕ → List ℕ → Result (Unit {0})
 check_header big schema m = do
-  _ ← must (leb header_size (length m) and leb (length m) most_message) 10 0
+  _ ← must (leb header_size (length m) and leb (length m) most_message) MessageSize 0
   _ ← header_whole big m header_numbers 0
-  must (eqb (schema_id big m) schema) 12 4
+  must (eqb (schema_id big m) schema) SchemaDiffers 4
 
 -- 13: "template unknown".
 abbrev pub template_of : Book → List ℕ → Result Template
-template_of b m = or_refuse (find_template (template_id b.format.big m) b.templates) 13 2
+template_of b m = or_refuse (find_template (template_id b.format.big m) b.templates) TemplateUnknown 2
 
 -- 14 and 15, by the message's template and the book's version: how many groups and data of the root the header counts
 -- beyond those that are present.
@@ -244,9 +245,9 @@ surplus_of big version t m = do
   let v = version_of big m
   let groups = group_sinces t.groups
   let datas = data_sinces t.shape.datas
-  _ ← must (leb (need v t.shape) (block_length big m)) 14 0
-  _ ← must (count_good true version v groups (group_count big m)) 15 8
-  _ ← must (count_good true version v datas (data_count big m)) 15 10
+  _ ← must (leb (need v t.shape) (block_length big m)) RootBlockShort 0
+  _ ← must (count_good true version v groups (group_count big m)) CountsWrong 8
+  _ ← must (count_good true version v datas (data_count big m)) CountsWrong 10
   done (surplus v groups (group_count big m), surplus v datas (data_count big m))
 
 -- 16 to 22: the root block and what follows it, up to the message's end.
@@ -256,7 +257,7 @@ read_whole format version t m (groups, datas) = do
   let v = version_of big m
   let root = read_groups format.in_groups version big m v t.groups depth_limit groups
   (fs, gs, ds, e) ← read_block big m v t.shape root datas (block_length big m) header_size
-  _ ← must (eqb e (length m)) 20 e
+  _ ← must (eqb e (length m)) OctetsLeftOver e
   done (entry fs gs ds nil)
 
 unfoldable pub read_root : Format → ℕ → Template → List ℕ → Result Values

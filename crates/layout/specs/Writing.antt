@@ -11,6 +11,7 @@ use Rattle.layout.specs.Values.{Values, entry, group, nil}
 use Rattle.layout.specs.Message.{Entry, dimension_size, header_size, most_message}
 use Rattle.layout.specs.declared.Answer.{Answer}
 use Rattle.layout.specs.declared.Answer.TheVariants.{Number, Null, Octets, Absent, Group, OutOfRange, Unlisted}
+use Rattle.layout.specs.declared.Reason.TheVariants.{EntriesTooMany, MessageTooLong, OctetsWrong, RecordWrong, ValueWrong, WriteTemplateUnknown}
 
 -- A number that a field takes: 52 is for a number that "is null or out of range", or that the field's list lacks.
 abbrev pub takes : Field → ℕ → Bool
@@ -57,15 +58,15 @@ module _ (l : List ℕ) where
 module _ (l : List ℕ) where
   unfoldable pub judge_number : Field → ℕ → Result Answer
   judge_number f i = do
-    _ ← must (is_number l i) 51 i
-    _ ← must (number_fits l f i) 52 i
+    _ ← must (is_number l i) RecordWrong i
+    _ ← must (number_fits l f i) ValueWrong i
     done (when eqb (first l i) 1 then Null else Number (second l i))
 
   -- An optional text "now takes null; 52 for null in a required one".
   unfoldable pub judge_null : Field → ℕ → Result Answer
   judge_null f i = do
-    _ ← must (is_null l i) 51 i
-    _ ← must (is_optional f) 52 i
+    _ ← must (is_null l i) RecordWrong i
+    _ ← must (is_optional f) ValueWrong i
     done Null
 
 -- Octets are those of a pool.
@@ -74,8 +75,8 @@ module _ (l pool : List ℕ) where
   -- `fits`.
   unfoldable pub judge_octets : Bool → ℕ → Result Answer
   judge_octets fits i = do
-    _ ← must (is_octets l i) 51 i
-    _ ← must (leb (second l i + third l i) (length pool) and fits) 53 i
+    _ ← must (is_octets l i) RecordWrong i
+    _ ← must (leb (second l i + third l i) (length pool) and fits) OctetsWrong i
     done (Octets (second l i) (third l i))
 
   -- "53 for a text longer than its field, with a NUL in it, or empty for an optional field"
@@ -129,9 +130,9 @@ module _ (l pool : List ℕ) where
   unfoldable pub judge_groups : Groups → ℕ → Result (Values × ℕ)
   judge_groups none i = done (nil, i)
   judge_groups (more id since s inner rest) i = do
-    _ ← must (is_group l i) 51 i
+    _ ← must (is_group l i) RecordWrong i
     let k = second l i
-    _ ← must (ltb k null16) 54 i
+    _ ← must (ltb k null16) EntriesTooMany i
     (es, j) ← judge_entries k (judge_block s (judge_groups inner)) (suc i)
     (gs, e) ← judge_groups rest j
     done (group (Group k) es gs, e)
@@ -140,7 +141,7 @@ module _ (l pool : List ℕ) where
   unfoldable pub judge_listing : Template → Result Values
   judge_listing t = do
     (fs, gs, ds, e) ← judge_block t.shape (judge_groups t.groups) 0
-    _ ← must (eqb (3 * e) (length l)) 51 e
+    _ ← must (eqb (3 * e) (length l)) RecordWrong e
     done (entry fs gs ds nil)
 
 -- ---- the octets of a tree; starts refer to the pool
@@ -249,10 +250,10 @@ written_length b t r = header_size + row_length b.format.in_groups t.shape t.gro
 -- `room` is how many octets there is room for.
 abbrev pub write_in : Book → ℕ → List ℕ → List ℕ → ℕ → Result (List ℕ)
 write_in b id l pool room = do
-  t ← or_refuse (find_template id b.templates) 50 0
+  t ← or_refuse (find_template id b.templates) WriteTemplateUnknown 0
   r ← judge_listing l pool t
   let m = message_octets b t pool r
-  _ ← must (leb (length m) room and leb (length m) most_message) 55 0
+  _ ← must (leb (length m) room and leb (length m) most_message) MessageTooLong 0
   done m
 
 unfoldable pub write_of : List ℕ → ℕ → List ℕ → List ℕ → ℕ → Result (List ℕ)

@@ -3,107 +3,84 @@
 // cannot be written is passed over.
 #![tactic(auto)]
 
-ghost use Rattle.std.specs.Prelude.{◌≡◌, ◌+◌, ◌≤◌, length};
+ghost use Rattle.std.specs.Prelude.{◌≡◌, ◌+◌, ◌≤◌, ◌++◌, [], length, decimal, OnOk};
+ghost use Rattle.std.specs.Io.KnownBytes.{Appends};
+ghost use Rattle.layout.specs.Reasons.{number_of};
 ghost use Rattle.prepared.specs.Books.{IsPrepared};
+ghost use Rattle.listing.specs.Lines.{record_line, refusal_line};
 
-use layout::{Counted, Refusal};
+use arrayvec::ArrayString;
+use input::{read_count, read_full};
+use itoa::Buffer;
+use layout::{Reason, Refusal};
+use std::fmt::Write as _;
 use std::io::{Read, Write};
+use std::{fmt, io};
 
-const SPACE: u8 = 32;
+// As many octets as are gathered at most, so that a write has many lines.
+const MOST_GATHERED: usize = 65536;
 
-const NEW_LINE: u8 = 10;
+type Lines = ArrayString<MOST_GATHERED>;
 
-// Puts a text and an octet that ends it into `out` from `at` on: where the next octet goes.
-fn put_text(out: &mut [u8], at: usize, text: &[u8], ending: u8) -> usize
-    requires { at + length text.now + 1 ≤ length out.old }
-    ensures { result ≡ at + length text.now + 1 }
+// A record's line has three numbers of at most 20 digits, and an octet behind each.
+const LONGEST_LINE: usize = 63;
+
+// Puts a number's digits, at most 20, and an octet that ends them behind what is gathered.
+fn put_number(lines: &mut Lines, number: u64, ending: &str)
+    requires one { length ending.now ≡ 1 }
+    requires fits { length lines.old.bytes + 21 ≤ MOST_GATHERED }
+    ensures put { lines.new.bytes ≡ lines.old.bytes ++ (decimal number ++ ending.now) }
+    ensures longest { length lines.new.bytes ≤ length lines.old.bytes + 21 }
 {
-    for i in 0..text.len() {
-        out[at + i] = text[i];
-    }
-    out[at + text.len()] = ending;
-    at + text.len() + 1
+    lines.push_str(Buffer::new().format(number));
+    lines.push_str(ending);
 }
 
-// Puts a number's digits, at most 20, and an octet that ends them: where the next octet goes.
-fn put_number(out: &mut [u8], at: usize, number: u64, ending: u8) -> usize
-    requires { at + 21 ≤ length out.old }
-    ensures { result ≤ at + 21 }
-{
-    let mut digits = [0u8; 20];
-    let count = io::decimal(number, &mut digits);
-    put_text(out, at, &digits[..count], ending)
-}
-
-// Puts a record's line into `out`: where the next line goes.
-fn put_record(out: &mut [u8], at: usize, numbers: &[u64]) -> usize
-    requires at_in_bounds { at + 63 ≤ length out.old }
+// Puts a record's line behind what is gathered.
+fn put_record(lines: &mut Lines, numbers: &[u64])
     requires in_bounds { 3 ≤ length numbers.now }
-    ensures { result ≤ at + 63 }
+    requires fits { length lines.old.bytes + LONGEST_LINE ≤ MOST_GATHERED }
+    ensures put { lines.new.bytes ≡ lines.old.bytes ++ record_line numbers.now }
+    ensures longest { length lines.new.bytes ≤ length lines.old.bytes + LONGEST_LINE }
 {
-    let second = put_number(out, at, numbers[0], SPACE);
-    let third = put_number(out, second, numbers[1], SPACE);
-    put_number(out, third, numbers[2], NEW_LINE)
+    put_number(lines, numbers[0], " ");
+    put_number(lines, numbers[1], " ");
+    put_number(lines, numbers[2], "\n");
 }
 
-// Reads until `room` is full or the input ends, or fails, which counts as its end: how many octets came.
-fn read_full(input: &mut impl Read, room: &mut [u8]) -> usize
-    ensures { result ≤ length room.new }
+// Puts a refusal's line behind what is gathered.
+fn put_refusal(lines: &mut Lines, refusal: Refusal) -> fmt::Result
+    ensures { OnOk result (lines.new.bytes ≡ lines.old.bytes ++ refusal_line (number_of refusal.reason) refusal.place) }
 {
-    let mut came = 0;
-    while came < room.len() {
-        match input.read(&mut room[came..]) {
-            Ok(0) => break,
-            Ok(count) => came += count,
-            Err(_) => break,
-        }
-    }
-    came
+    writeln!(lines, "{refusal}")
 }
 
-// Writes what `out` has up to `at` where a line may not fit behind it: where the next line goes.
-fn make_room(output: &mut impl Write, out: &[u8], at: usize) -> usize
-    requires at_in_bounds { at ≤ length out.now }
-    requires in_bounds { 63 ≤ length out.now }
-    ensures { result + 63 ≤ length out.now }
+// Writes what is gathered.
+fn send<W: Write>(output: &mut W, lines: &mut Lines) -> io::Result<()>
+    ensures written { OnOk result (Appends (W.contents output.old) (W.contents output.new) lines.old.bytes) }
+    ensures emptied { lines.new.bytes ≡ [] }
 {
-    if out.len() - at < 63 {
-        let _ = output.write_all(&out[0..at]);
-        return 0;
-    }
-    at
+    let sent = output.write_all(lines.as_bytes());
+    lines.clear();
+    sent
 }
 
-// Writes `count` records from the room's start, and never more than the room has. Lines gather in a buffer, so that
-// a write has many of them.
+// Writes `count` records from the room's start, and never more than the room has.
 fn show_records(output: &mut impl Write, room: &[u64], count: usize) {
-    let mut out = io::large_buffer();
-    let mut at = 0;
-    for i in 0..count {
-        if room.len() / 3 <= i {
-            break;
+    let mut lines = Lines::new();
+    for record in room.chunks_exact(3).take(count) {
+        if lines.remaining_capacity() < LONGEST_LINE {
+            let _ = send(output, &mut lines);
         }
-        let line = make_room(output, &out, at);
-        at = put_record(&mut out, line, &room[3 * i..3 * i + 3]);
+        put_record(&mut lines, record);
     }
-    let _ = output.write_all(&out[..at]);
+    let _ = send(output, &mut lines);
 }
 
 fn show_refusal(output: &mut impl Write, refusal: Refusal) {
-    let mut out = [0u8; 42];
-    let place = put_number(&mut out, 0, refusal.number as u64, SPACE);
-    let end = put_number(&mut out, place, refusal.place as u64, NEW_LINE);
-    let _ = output.write_all(b"refused ");
-    let _ = output.write_all(&out[..end]);
-}
-
-// The book's octet count, or 0 where the input ends within it.
-fn read_count(input: &mut impl Read) -> usize {
-    let mut count = [0u8; 2];
-    if read_full(input, &mut count) < 2 {
-        return 0;
-    }
-    octets::get2(&count, 0) as usize
+    let mut lines = Lines::new();
+    let _ = put_refusal(&mut lines, refusal);
+    let _ = send(output, &mut lines);
 }
 
 // Lists the message that is the rest of the input by a prepared book.
@@ -111,13 +88,13 @@ fn list_rest(input: &mut impl Read, output: &mut impl Write, p: &[u64])
     requires { IsPrepared p.now }
 {
     // One octet more than a message may have, so that the library sees one that is too long.
-    let mut message = io::large_buffer();
+    let mut message = [0u8; 65536];
     let size = read_full(input, &mut message);
     let mut room = [0u64; 6000];
     let m = &message[..size];
     match stream::list(&p, &m, &mut room) {
-        Counted::Count(count) => show_records(output, &room, count),
-        Counted::Refused(refusal) => show_refusal(output, refusal),
+        Ok(count) => show_records(output, &room, count),
+        Err(refusal) => show_refusal(output, refusal),
     }
 }
 
@@ -126,24 +103,27 @@ fn list_by(input: &mut impl Read, output: &mut impl Write, book: &[u8]) {
     // As many numbers as the prepared form of any book has at most.
     let mut numbers = [0u64; 8260];
     match prepare::prepare_octets(book, &mut numbers) {
-        Counted::Count(n) => list_rest(input, output, &numbers[..n]),
-        Counted::Refused(refusal) => show_refusal(output, refusal),
+        Ok(n) => list_rest(input, output, &numbers[..n]),
+        Err(refusal) => show_refusal(output, refusal),
     }
 }
 
 // Lists the input's message by the input's book, which is read into the room.
 fn list_input(input: &mut impl Read, output: &mut impl Write, room: &mut [u8]) {
-    let size = read_count(input);
-    if room.len() < size {
-        let refusal = Refusal {
-            number: 1,
-            place: 0,
-        };
-        show_refusal(output, refusal);
-        return;
+    match read_count(input) {
+        Some(size) if size <= room.len() => {
+            let came = read_full(input, &mut room[..size]);
+            list_by(input, output, &room[..came]);
+        }
+        // A book that is too long, or none at all.
+        _ => {
+            let refusal = Refusal {
+                reason: Reason::BookSize,
+                place: 0,
+            };
+            show_refusal(output, refusal);
+        }
     }
-    let came = read_full(input, &mut room[0..size]);
-    list_by(input, output, &room[0..came]);
 }
 
 fn main(rt: HostRuntime) {

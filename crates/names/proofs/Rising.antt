@@ -12,7 +12,8 @@ use Rattle.layout.specs.Result.{◌or◌}
 use Rattle.layout.specs.Lists.{is_one_of}
 use Rattle.layout.specs.BookRules.{climbing, word}
 use Rattle.layout.proofs.Results.{and_left, and_right}
-use Rattle.book.proofs.Search.{Rising}
+use Rattle.std.specs.Prelude.{None, Option, Some, is_some}
+use Rattle.bisect.proofs.Rising.{IsPlace}
 use Rattle.prepared.specs.Names.{IsList, list_at}
 
 pub climbs_from : (low : ℕ) (ns : List ℕ) → climbing low ns ≡ true → (i : ℕ) → i < length ns → low ≤ get_or ns i 0
@@ -59,7 +60,7 @@ module _ (p : List ℕ) (a : ℕ) (list : IsList p a) where
   at : (i : ℕ) → i < word p (a + 3) → get_or (list_at p a).numbers i 0 ≡ number_at p a i
   at i h = get_or-take (word p (a + 3)) (drop (a + 4) p) i 0 h ∙ get_or-drop (a + 4) p i 0
 
-  pub rising : Rising (number_at p a) (word p (a + 3))
+  pub rising : (i j : ℕ) → i < j → j < word p (a + 3) → number_at p a i < number_at p a j
   rising i j h k =
       omega (arith, at i (omega arith), at j k, climbs 0 _ list.rises i j h (omega (arith, many)))
 
@@ -72,3 +73,8 @@ module _ (p : List ℕ) (a : ℕ) (list : IsList p a) where
     not_among other =
         none_at x (list_at p a).numbers
         (λ i h e. let k : i < word p (a + 3) = omega (arith, many) in other i k (sym (at i k) ∙ e))
+
+    -- Where a search finds it, it is among them.
+    pub among_as : (r : Option ℕ) → IsPlace (number_at p a) (word p (a + 3)) x r → is_some r ≡ is_one_of x (list_at p a).numbers
+    among_as (Some i) (inside, is) = sym (among i inside is)
+    among_as None none = sym (not_among none)

@@ -9,26 +9,12 @@ ghost use Rattle.prepared.specs.Names.{IsList, list_at, names_at};
 use layout::Answer;
 use prepared::{number, value};
 
-// Whether x is among the numbers of the list at a: they rise, so half of them is passed at each step.
+// Whether x is among the numbers of the list at a, which rise.
 fn is_among(p: &[u64], a: usize, x: u64) -> bool
     requires { IsList p.now a }
     ensures { result ≡ is_one_of x (list_at p.now a).numbers }
 {
-    let mut low = 0;
-    let mut high = number(p, a + 3);
-    while low < high {
-        let mid = (low + high) / 2;
-        let here = value(p, a + 4 + mid);
-        if here == x {
-            return true;
-        }
-        if here < x {
-            low = mid + 1;
-        } else {
-            high = mid;
-        }
-    }
-    false
+    bisect::find(number(p, a + 3), x, |i| value(p, a + 4 + i)).is_some()
 }
 
 // Whether the list at a has x: an enumeration among its numbers, a set each of its bits.
@@ -48,14 +34,12 @@ pub fn beside(p: &[u64], t: usize, answer: Answer) -> Answer
     ensures { result ≡ beside_of (names_at p.now (word p.now (t + 5))) answer }
 {
     let list = number(p, t + 5);
-    if list == 0 {
-        return answer;
-    }
     let Answer::Number(x) = answer else {
         return answer;
     };
-    if has(p, list, x) {
-        return answer;
+    if list == 0 || has(p, list, x) {
+        answer
+    } else {
+        Answer::Unlisted(x)
     }
-    Answer::Unlisted(x)
 }

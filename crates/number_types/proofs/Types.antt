@@ -1,15 +1,19 @@
 -- What the types have in common, in the code's terms.
-use mathlib.Core.Path.{◌≡◌, refl}
+use mathlib.Core.Path.{◌∙◌, ◌≡◌, refl}
 use mathlib.Core.Bool.{Bool, false, false≢true, true}
+use mathlib.Core.Logic.{◌⊎◌, inl, inr}
 use Prim.Native.Nat.{◌%◌, ◌*◌, ◌+◌, ◌-◌, ◌/◌, ◌<◌, ◌^◌, ◌≤◌, ℕ}
+use native.Mathlib.Nat.{one-mul}
 use native.Mathlib.Omega.{arith}
-use lib.Dec.{eqb, leb}
+use lib.Dec.{eqb, leb, lit<}
+use lib.Pow.{shl_exact}
 use borrow.Author.Tests.{eq-eqb, eqb-false, eqb-true, le-leb, leb-true, lt-leb, ne_eqb}
 use Rattle.layout.specs.Result.{◌and◌, when◌then◌else◌}
 use Rattle.layout.specs.Types.{TypeRow, char, int, is_signed, is_width, row_of, type_at, value_of, width_of}
 use Rattle.layout.proofs.Results.{each_way, or_right}
-use Rattle.layout.proofs.TypeLaws.{Width, each_type}
-use Rattle.number_types.specs.Value.{coded, is_big_in, type_in}
+use Rattle.layout.proofs.TypeLaws.{Width, each_type, width_at}
+use Rattle.number_types.specs.Value.{coded, is_big_in, kept, type_in}
+use Rattle.number_types.specs.declared.NumberType.{NumberType}
 
 -- ---- widths
 
@@ -25,6 +29,20 @@ each_width P one two four eight w h =
     is : (k : ℕ) → P k → ((w ≡ k → ⊥) → P w) → P w
     is k p other = each_way (eqb w k) (λ e. rw (eqb-true w k e) p) (λ e. other (eqb-false w k e))
 
+-- The greatest number of w octets.
+abbrev pub ones : ℕ → ℕ
+ones w = (2 ^ 64 - 1) / 2 ^ (64 - 8 * w)
+
+pub ones_fit : (w : ℕ) → is_width w ≡ true → (2 ≤ ones w) × (ones w < 2 ^ 64)
+ones_fit =
+    each_width (λ w. (2 ≤ ones w) × (ones w < 2 ^ 64))
+    (omega arith, omega arith) (omega arith, omega arith) (omega arith, omega arith) (omega arith, omega arith)
+
+pub width_fits : (w : ℕ) → is_width w ≡ true → (1 ≤ w) × (w ≤ 8)
+width_fits =
+    each_width (λ w. (1 ≤ w) × (w ≤ 8))
+    (omega arith, omega arith) (omega arith, omega arith) (omega arith, omega arith) (omega arith, omega arith)
+
 -- ---- the number of a type
 
 pub integer_at : (t : ℕ) → 1 ≤ t → t < 9 → type_at t ≡ row_of (width_of t) (is_signed t)
@@ -34,6 +52,16 @@ integer_at t h k = rw (le-leb 1 t h, le-leb t 8 (omega arith)) refl
 pub char_at : (t : ℕ) → (1 ≤ t → 9 ≤ t) → type_at t ≡ char
 unfolding type_at when◌then◌else◌ ◌and◌
 char_at t h = each_way (leb 1 t) (λ e. rw (e, lt-leb t 8 (h (leb-true 1 t e))) refl) (λ e. rw e refl)
+
+pub char_kept : (t : ℕ) → (1 ≤ t → 9 ≤ t) → kept (type_at t) ≡ kept char
+char_kept t h = rw (char_at t h) refl
+
+-- From 1 to 8 the width is a power of two: one, shifted left.
+pub doubled : (t : ℕ) → t < 9 → (1 * 2 ^ ((t - 1) / 2) % 2 ^ 64 ≡ width_of t) × (is_width (width_of t) ≡ true)
+doubled t h = (
+  shl_exact {a = 1} 1 ((t - 1) / 2) 64 (lit< tt) (omega arith) ∙ one-mul (width_of t),
+  (width_at _ h).listed,
+)
 
 -- ---- the code of a type and an order
 
@@ -49,29 +77,34 @@ is_big_in_lem true t = eq-eqb ((2 * t + 1) % 2) 1 (omega arith)
 
 -- ---- values
 
--- Of a signed type the numbers above the greatest are its negatives, from the least on, its null: n and g are the two.
-module _ (t x n g : ℕ) (s : (type_at t).signed ≡ true) (e : n ≡ (type_at t).null) (f : g ≡ (type_at t).greatest) where
-  of_signed : (P : TypeRow → Type 0) → ((w : ℕ) → Width w → n ≡ (int w).null → g ≡ (int w).greatest → P (int w))
-      → P (type_at t)
-  of_signed P i =
-      each_type (λ k. k.signed ≡ true → n ≡ k.null → g ≡ k.greatest → P k) (λ s. absurd (false≢true s))
-      (λ w a s e f. i w a e f) (λ w a s. absurd (false≢true s)) t s e f
+-- What holds of every signed type holds of one that is kept as k.
+of_signed : (P : TypeRow → NumberType → Type 0) → ((w : ℕ) → Width w → P (int w) (kept (int w)))
+    → (t : ℕ) {k : NumberType} → k ≡ kept (type_at t) → k.signed ≡ true → P (type_at t) k
+of_signed P i t e s =
+    rw e
+    (each_type (λ r. r.signed ≡ true → P r (kept r)) (λ s. absurd (false≢true s)) (λ w a s. i w a)
+    (λ w a s. absurd (false≢true s)) t (rw e at s))
 
-  pub value_high : g < x → x < 256 ^ (type_at t).width → value_of (type_at t) x ≡ n + (x - g - 1)
-  unfolding value_of when◌then◌else◌ ◌and◌
-  value_high h =
-      of_signed (λ k. x < 256 ^ k.width → value_of k x ≡ n + (x - g - 1))
-      (λ w a e f b. rw (le-leb (256 ^ w / 2) x (omega (arith, f, a.even, a.many)))
-      (omega (arith, e, f, a.even, a.whole, a.many)))
+-- Of a signed type the numbers above the greatest are its negatives, from the least on, its null.
+pub value_high : (t x : ℕ) {k : NumberType} → k ≡ kept (type_at t) → k.signed ≡ true → k.greatest < x
+    → x < 256 ^ (type_at t).width → value_of (type_at t) x ≡ k.null + (x - k.greatest - 1)
+unfolding value_of when◌then◌else◌ ◌and◌
+value_high t x e s h b =
+    of_signed (λ r k. k.greatest < x → x < 256 ^ r.width → value_of r x ≡ k.null + (x - k.greatest - 1))
+    (λ w a h b. rw (le-leb (256 ^ w / 2) x (omega (arith, a.even, a.many))) (omega (arith, a.even, a.whole, a.many)))
+    t e s h b
 
-  pub value_low : x ≤ g → value_of (type_at t) x ≡ x
-  unfolding value_of when◌then◌else◌ ◌and◌
-  value_low h =
-      of_signed (λ k. value_of k x ≡ x)
-      (λ w a e f. rw (lt-leb (256 ^ w / 2) x (omega (arith, f, a.even, a.many))) refl)
+-- The larger number is one of 64 bits.
+pub value_fits : (t x : ℕ) {k : NumberType} → k ≡ kept (type_at t) → k.signed ≡ true → k.greatest < x
+    → x < 256 ^ (type_at t).width → k.null + (x - k.greatest - 1) < 2 ^ 64
+value_fits t x e s h b =
+    of_signed (λ r k. k.greatest < x → x < 256 ^ r.width → k.null + (x - k.greatest - 1) < 2 ^ 64)
+    (λ w a h b. omega (arith, a.even, a.whole, a.many)) t e s h b
 
-  -- The larger number is one of 64 bits.
-  pub value_fits : g < x → x < 256 ^ (type_at t).width → n + (x - g - 1) < 2 ^ 64
-  value_fits h =
-      of_signed (λ k. x < 256 ^ k.width → n + (x - g - 1) < 2 ^ 64)
-      (λ w a e f b. omega (arith, e, f, a.even, a.whole, a.many))
+pub value_low : (t x : ℕ) {k : NumberType} → k ≡ kept (type_at t)
+    → (k.signed ≡ true × x ≤ k.greatest) ⊎ (k.signed ≡ false) → value_of (type_at t) x ≡ x
+unfolding value_of when◌then◌else◌ ◌and◌
+value_low t x e (inl h) =
+    of_signed (λ r k. x ≤ k.greatest → value_of r x ≡ x)
+    (λ w a h. rw (lt-leb (256 ^ w / 2) x (omega (arith, a.even, a.many))) refl) t e h.0 h.1
+value_low t x e (inr h) = simp (rw e at h)

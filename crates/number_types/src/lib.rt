@@ -29,6 +29,7 @@ const CHAR: NumberType = NumberType {
 
 // The integer of this width and sign. Its null is the one number that its range lacks: the least if it has a sign, and
 // the greatest if not.
+#[tactic(auto, using(crate::proofs::Types::ones_fit, crate::proofs::Types::width_fits))]
 fn integer(width: usize, signed: bool) -> NumberType
     requires { is_width width ≡ true }
     ensures { result ≡ kept (row_of width signed) }
@@ -56,6 +57,7 @@ fn integer(width: usize, signed: bool) -> NumberType
 
 // The type with code t. 1 to 8 are the integers: the odd ones have a sign, and each pair has twice the octets of the
 // one before it.
+#[tactic(auto, using(crate::proofs::Types::doubled, crate::proofs::Types::integer_at, crate::proofs::Types::char_kept))]
 pub fn number_type(t: usize) -> NumberType
     ensures { result ≡ kept (type_at t) }
 {
@@ -72,34 +74,35 @@ pub fn width_of(t: usize) -> usize
 }
 
 // The number that the w octets at `at` are.
+#[tactic(auto, using(crate::proofs::Types::width_eight))]
 fn raw(big: bool, s: &[u8], at: usize, w: usize) -> u64
     requires { (is_width w ≡ true) × (at + w ≤ length s.now) }
     ensures { SpeltBy big w s.now at result }
 {
     match w {
-        1 => octets::get1(s, at),
-        2 => ordered::get2(big, s, at),
-        4 => ordered::get4(big, s, at),
-        _ => ordered::get8(big, s, at),
+        1 => ordered::get::<1>(big, s, at),
+        2 => ordered::get::<2>(big, s, at),
+        4 => ordered::get::<4>(big, s, at),
+        _ => ordered::get::<8>(big, s, at),
     }
 }
 
 // The value of the number x that a type's octets are: of a signed type the numbers above its greatest are the
 // negatives, counted from the least, its null.
+#[tactic(auto, using(crate::proofs::Types::value_high, crate::proofs::Types::value_low, crate::proofs::Types::value_fits))]
 fn value_of(t: usize, x: u64) -> u64
     requires { x < 256 ^ (type_at t).width }
     ensures { result ≡ value_of (type_at t) x }
 {
     let k = number_type(t);
-    if k.signed {
-        if k.greatest < x {
-            return k.null + (x - k.greatest - 1);
-        }
+    if k.signed && k.greatest < x {
+        return k.null + (x - k.greatest - 1);
     }
     x
 }
 
 // The value of the number of type t at `at`.
+#[tactic(auto, using(layout::proofs::TypeLaws::width_listed))]
 fn value_as(big: bool, s: &[u8], at: usize, t: usize) -> u64
     requires { at + (type_at t).width ≤ length s.now }
     ensures { result ≡ value_at big s.now at t }
@@ -109,6 +112,7 @@ fn value_as(big: bool, s: &[u8], at: usize, t: usize) -> u64
 
 // The value of the number at `at` whose type and order are coded as c. The compiler works out each arm for its one
 // type and order.
+#[tactic(auto, using(crate::proofs::Types::char_at))]
 pub fn value_at(s: &[u8], at: usize, c: usize) -> u64
     requires { at + (type_at (type_in c)).width ≤ length s.now }
     ensures { result ≡ value_at (is_big_in c) s.now at (type_in c) }
@@ -136,25 +140,26 @@ pub fn value_at(s: &[u8], at: usize, c: usize) -> u64
 
 // The w lowest octets of x, stored at `at`: how many they are. Each arm says its own number, so that what is stored
 // next does not wait for w to be worked out.
+#[tactic(auto, using(crate::proofs::Types::width_eight))]
 pub fn store(big: bool, s: &mut [u8], at: usize, w: usize, x: u64) -> usize
     requires { (is_width w ≡ true) × (at + w ≤ length s.old) }
     ensures { (result ≡ w) × (s.new ≡ sets s.old at (octets_of big w x)) }
 {
     match w {
         1 => {
-            octets::put1(s, at, x);
+            ordered::put::<1>(big, s, at, x);
             1
         }
         2 => {
-            ordered::put2(big, s, at, x);
+            ordered::put::<2>(big, s, at, x);
             2
         }
         4 => {
-            ordered::put4(big, s, at, x);
+            ordered::put::<4>(big, s, at, x);
             4
         }
         _ => {
-            ordered::put8(big, s, at, x);
+            ordered::put::<8>(big, s, at, x);
             8
         }
     }

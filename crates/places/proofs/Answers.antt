@@ -1,11 +1,12 @@
 -- The two halves of an answer: the spot that the walk along the path finds, and the element that is read there.
 use mathlib.Core.Path.{◌∙◌, ◌≡◌, ap, refl, sym}
-use mathlib.Core.Bool.{Bool, false≢true, true}
+use mathlib.Core.Bool.{Bool, true}
 use mathlib.Core.List.{List, [], ◌∷◌}
 use Prim.Native.Nat.{ℕ, suc, ◌-◌, ◌≤◌, ◌<◌}
 use native.Mathlib.Omega.{arith}
 use lib.Dec.{leb}
 use lib.ListN.{length}
+use Rattle.std.specs.Prelude.{None, Option, Some}
 use borrow.Author.Tests.{leb-false, leb-true}
 use Rattle.layout.specs.Result.{Result, done, refused}
 use Rattle.layout.specs.Book.{Groups, Shape, need}
@@ -17,13 +18,14 @@ use Rattle.layout.specs.declared.Element.{Element}
 use Rattle.layout.proofs.Results.{each_way}
 use Rattle.prepared.specs.Positions.{BlockAt, many_groups, inner_at, is_big, shape_at}
 use Rattle.walk.specs.Walks.{entry_by, groups_by}
-use Rattle.places.specs.Spots.{block_in, nowhere, spot_in, step_spot}
+use Rattle.places.specs.Spots.{block_in, spot_in, step_spot}
 use Rattle.places.specs.Seeks.{step_at, steps_from}
 use Rattle.places.specs.Elements.{Accepted, Done, block_after, element_read, entry_read}
 use Rattle.places.specs.declared.Spot.{Spot}
 use Rattle.places.proofs.Blocks.{first_inside, has_inside, has_none}
 use Rattle.places.proofs.Leads.{Leads, block_less, missing, row_leads, there}
-use Rattle.places.proofs.Places.{opens, row_drops_all, steps_next}
+use Rattle.places.proofs.Places.{opens, steps_next}
+use Rattle.layout.specs.declared.Reason.TheVariants.{EntryMissing}
 
 -- ---- the block that the steps lead to, where the template has the place
 
@@ -37,8 +39,7 @@ has_group : (p : List ℕ) (depth a g : ℕ) (has : Shape → Groups → Bool) �
     → g < many_groups p a
 has_group p depth a g has h =
     each_way (leb (many_groups p a) g)
-    (λ e. let lacks = has_none g _ has (row_drops_all p depth _ _ _ (leb-true (many_groups p a) g e)) in
-    absurd (false≢true (sym lacks ∙ h)))
+    (λ e. let lacks = sym (has_none p depth a g has (leb-true (many_groups p a) g e)) ∙ h in cc)
     (leb-false (many_groups p a) g)
 
 pub block_there : (p : List ℕ) (depth a : ℕ) → BlockAt p depth a → (ps : List Step) (x : Element)
@@ -60,32 +61,33 @@ block_there p depth a stands (s ∷ ps) x has =
 
 -- ---- the answer
 
--- What `answer` is: that there is no such entry, at no spot; or what the element is in the entry at the spot, which was
+-- What `answer` is: that there is no such entry, and no spot; or what the element is in the entry at the spot, which was
 -- accepted.
-pub data Answers (p : List ℕ) (depth a : ℕ) (m : List ℕ) (v : ℕ) (spot : Spot) (x : Element) (answer : Result Answer)
-    : Type 0 where
-  lacks : spot ≡ nowhere → answer ≡ refused 31 0 → Answers p depth a m v spot x answer
-  stands : 0 < spot.start → Accepted p depth a m v spot → has_element x (shape_at p a) (inner_at p depth a) ≡ true
-      → answer ≡ done (element_read x (entry_read p depth a m v spot)) → Answers p depth a m v spot x answer
+pub data Answers (p : List ℕ) (depth a : ℕ) (m : List ℕ) (v : ℕ) (spot : Option Spot) (x : Element)
+    (answer : Result Answer) : Type 0 where
+  lacks : spot ≡ None → answer ≡ refused EntryMissing 0 → Answers p depth a m v spot x answer
+  stands : (s : Spot) → spot ≡ Some s → Accepted p depth a m v s
+      → has_element x (shape_at p a) (inner_at p depth a) ≡ true
+      → answer ≡ done (element_read x (entry_read p depth a m v s)) → Answers p depth a m v spot x answer
 
 -- A path from a template's block whose groups were read, with n surplus ones, where the template has the place.
 module _ (p : List ℕ) (root : ℕ) (block : BlockAt p 4 root) (m : List ℕ) (short : length m ≤ 65535) (v : ℕ)
     (path : List ℕ) (some : 2 ≤ length path) (x : Element)
     (has : has_place (steps_of path) x (shape_at p root) (inner_at p 4 root) ≡ true) where
-  abbrev path_spot : ℕ → Spot
+  abbrev path_spot : ℕ → Option Spot
   path_spot at = step_spot p m v (step_at path 0) (spot_in p m v (steps_from path 2)) (inner_at p 4 root) 4 at
 
-  told : (ask : Element → Result Answer) (spot : Spot) → BlockThere p 4 root (steps_of path) x
+  by_leads : (ask : Element → Result Answer) (spot : Option Spot) → BlockThere p 4 root (steps_of path) x
       → Leads p m v (block_in (steps_of path) (shape_at p root, inner_at p 4 root)) (4 - length (steps_of path)) spot ask
       → Answers p (4 - length (steps_of path)) (block_after p (steps_of path) root) m v spot x (ask x)
   unfolding element_read
-  told ask spot b (missing z a) = lacks z (a x)
-  told ask spot b (there e far enough few reads a) =
+  by_leads ask spot b (missing z a) = lacks z (a x)
+  by_leads ask spot b (there s at e enough few reads a) =
       let is = rw b.is at reads in
       let entry : Done _ = record { value = e; is = is } in
       let ok : Accepted _ _ _ _ _ _ =
       record { stands = b.stands; short = short; enough = rw b.is at enough; few = few; reads = entry } in
-      stands far ok b.has (a x ∙ rw is refl)
+      stands s at ok b.has (a x ∙ rw is refl)
 
   pub path_answers : (n at : ℕ) (r : Values × ℕ) → groups_by p m v (inner_at p 4 root) 4 n at ≡ done r
       → (fs ds : List Answer) (rest : Values)
@@ -93,7 +95,7 @@ module _ (p : List ℕ) (root : ℕ) (block : BlockAt p 4 root) (m : List ℕ) (
       (answer_at (steps_of path) x (entry fs r.0 ds rest))
   path_answers n at r h fs ds rest =
       let is : steps_of path ≡ step_at path 0 ∷ steps_from path 2 = steps_next path 0 some in
-      told (λ y. answer_at (steps_of path) y (entry fs r.0 ds rest)) (path_spot at)
+      by_leads (λ y. answer_at (steps_of path) y (entry fs r.0 ds rest)) (path_spot at)
       (block_there p 4 root block (steps_of path) x has)
       (rw is (row_leads p m v (shape_at p root, inner_at p 4 root) (step_at path 0) (steps_from path 2) 4 n at r h
       fs ds rest))

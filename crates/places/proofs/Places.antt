@@ -12,7 +12,7 @@ use Rattle.prepared.specs.Positions.{shape_at}
 use Rattle.prepared.proofs.Open.{no_groups_at, open_row}
 use Rattle.places.specs.Spots.{drop_groups, take_groups}
 use Rattle.places.specs.Seeks.{Path, row_after, step_at, steps_from}
-use Rattle.layout.proofs.Results.{none_left, one_less, some_left}
+use Rattle.layout.proofs.Results.{one_less, some_left}
 
 -- The first g of n groups in a row are a row, and so are the others.
 pub record RowHalves (p : List ℕ) (depth n g a : ℕ) : Type 0 where
@@ -53,6 +53,9 @@ module _ (p : List ℕ) (depth a g : ℕ) (stands : BlockAt p depth a) (less : g
   pub group_halves : RowHalves p depth (many_groups p a) g (groups_from p a)
   group_halves = row_halves p depth (many_groups p a) g (groups_from p a) (omega (arith, less)) stands.row
 
+  pub first_groups : IsRow p depth g (groups_from p a)
+  first_groups = group_halves.first
+
   pub opens : Opened p depth (many_groups p a - g) (row_after p g (groups_from p a))
   opens = open_row p depth (many_groups p a - g) _ (omega (arith, less)) group_halves.others
 
@@ -70,9 +73,9 @@ row_drops_all p depth (suc n) zero a h = absurd (omega arith)
 row_drops_all p zero (suc n) (suc g) a h = refl
 row_drops_all p (suc depth) (suc n) (suc g) a h = row_drops_all p (suc depth) n g (next_from p a) (omega (arith, h))
 
-pub row_after_none : (p : List ℕ) (n a : ℕ) → n ≤ 0 → row_after p n a ≡ a
+pub row_after_none : (p : List ℕ) (n a : ℕ) → n < 1 → row_after p n a ≡ a
 unfolding row_after
-row_after_none p n a h = rw (none_left h) refl
+row_after_none p n a h = let none : n ≡ 0 = omega arith in rw none refl
 
 pub row_after_next : (p : List ℕ) (n a : ℕ) → 0 < n → row_after p n a ≡ row_after p (n - 1) (next_from p a)
 unfolding row_after

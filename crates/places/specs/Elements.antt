@@ -1,5 +1,5 @@
 -- The element that a place ends with: whether the template has it, and what it is in an entry that was accepted.
-use Rattle.std.specs.Prelude.{◌≡◌, List, [], ◌∷◌, ℕ, ◌≤◌, get_or, length}
+use Rattle.std.specs.Prelude.{◌≡◌, List, [], ◌∷◌, ℕ, ◌≤◌, get_or, length, Option, None, Some}
 use Rattle.layout.specs.Result.{Result, ◌>>=◌, done, when◌then◌else◌, refused}
 use Rattle.layout.specs.Book.{need}
 use Rattle.layout.specs.Message.{Entry, read_datas}
@@ -10,8 +10,6 @@ use Rattle.layout.specs.declared.Answer.TheVariants.{Absent}
 use Rattle.layout.specs.declared.Element as Element
 use Rattle.layout.specs.declared.Element.{Element}
 use Rattle.prepared.specs.Positions.{BlockAt, many_datas, many_fields, many_groups, groups_from, inner_at, is_big, shape_at}
-use Rattle.prepared.specs.declared.Located.{Located}
-use Rattle.prepared.specs.declared.Located.TheVariants.{At, Unknown}
 use Rattle.walk.specs.Walks.{entry_by, groups_by}
 use Rattle.places.specs.Seeks.{row_after}
 use Rattle.places.specs.declared.Spot.{Spot}
@@ -19,12 +17,12 @@ use Rattle.places.specs.declared.Spot.{Spot}
 -- ---- whether the template has it
 
 -- The number of the element, and how many of its kind the block at a has.
-unfoldable pub number_of : Element → ℕ
+abbrev pub number_of : Element → ℕ
 number_of (Element.TheVariants.Field k) = k
 number_of (Element.TheVariants.Group k) = k
 number_of (Element.TheVariants.Data k) = k
 
-unfoldable pub count_of : List ℕ → ℕ → Element → ℕ
+abbrev pub count_of : List ℕ → ℕ → Element → ℕ
 count_of p a (Element.TheVariants.Field k) = many_fields p a
 count_of p a (Element.TheVariants.Group k) = many_groups p a
 count_of p a (Element.TheVariants.Data k) = many_datas p a
@@ -35,9 +33,9 @@ block_after p [] a = a
 block_after p (s ∷ ps) a = block_after p ps (row_after p s.group (groups_from p a))
 
 -- That block, if the block at a has the place.
-abbrev pub block_for : List ℕ → ℕ → ℕ → List Step → Element → Located
+abbrev pub block_for : List ℕ → ℕ → ℕ → List Step → Element → Option ℕ
 block_for p depth a ps x =
-    when has_place ps x (shape_at p a) (inner_at p depth a) then At (block_after p ps a) else Unknown
+    when has_place ps x (shape_at p a) (inner_at p depth a) then Some (block_after p ps a) else None
 
 -- ---- what it is
 

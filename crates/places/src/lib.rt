@@ -4,27 +4,25 @@
 
 ghost use Rattle.std.specs.Prelude.{◌≡◌, true, ◌+◌, ◌-◌, ◌*◌, ◌≤◌, ◌<◌, length};
 ghost use Rattle.layout.specs.BookRules.{parse_datas};
-ghost use Rattle.layout.specs.Operations.{refusal};
-ghost use Rattle.layout.specs.Message.{read_datas};
+ghost use Rattle.layout.specs.Message.{read_datas, read_field};
 ghost use Rattle.layout.specs.Reading.{has_element, steps_of};
-ghost use Rattle.prepared.specs.Positions.{BlockAt, IsBlock, IsRow, many_datas, many_groups, groups_from, inner_at};
-ghost use Rattle.prepared.specs.Positions.{shape_at};
-ghost use Rattle.wire.specs.Walks.{Lent};
+ghost use Rattle.fields.specs.Readable.{Readable};
+ghost use Rattle.prepared.specs.Positions.{BlockAt, IsBlock, Opened, field_at, fields_from, groups_from, inner_at, is_big};
+ghost use Rattle.prepared.specs.Positions.{many_datas, many_fields, many_groups, shape_at, table_from};
+ghost use Rattle.layout.specs.Operations.{told};
+ghost use Rattle.wire.specs.Walks.{Inside, Lent};
 ghost use Rattle.walk.specs.Walks.{Small, row_at};
-ghost use Rattle.places.specs.Spots.{nowhere};
-ghost use Rattle.places.specs.Seeks.{Path, Within, entries_sought, found_at, group_sought, inner_sought, plain_spot};
+ghost use Rattle.places.specs.Seeks.{Path, Within, after_entry, entries_sought, entry_at, found_at, group_sought, inner_sought, plain_spot};
 ghost use Rattle.places.specs.Seeks.{row_after, row_sought};
 ghost use Rattle.places.specs.Elements.{Accepted, Done, block_for, count_of, data_read, datas_read, element_read};
 ghost use Rattle.places.specs.Elements.{entry_read, group_read, number_of};
 
-use counts::{Entries, Opened};
-use layout::{Answer, Element, Refusal};
-use prepared::{Located, number};
-use walk::{pass_row, walk_datas, walk_row};
-use wire::Walked;
+use counts::Entries;
+use layout::{Answer, Element, Reason, Refusal, refuse};
+use prepared::{Message, number};
+use walk::{Walked, pass_row, walk_datas, walk_row};
 
-// Where the entry stands that a path leads to: where it starts, how many octets its block has, and how many surplus
-// groups follow its own. All are 0 where there is no such entry.
+// Where an entry stands: where it starts, how many octets its block has, and how many surplus groups follow its own.
 #[derive(Clone, Copy)]
 pub struct Spot {
     pub start: usize,
@@ -32,266 +30,262 @@ pub struct Spot {
     pub groups: usize,
 }
 
-// What the walk past a row along a path comes to: where the row ends, and the spot; or the refusal.
+// What the walk past a row along a path comes to: where the row ends, and where the entry stands that the path leads
+// to, if there is one.
 #[derive(Clone, Copy)]
-pub enum Row {
-    To { next: usize, spot: Spot },
-    Refused(Refusal),
+pub struct Row {
+    pub next: usize,
+    pub spot: Option<Spot>,
 }
 
-fn refuse_row(number: u8, place: usize) -> Row
-    ensures { result ≡ Row.Refused (refusal number place) }
+// A row that was walked, with what was found in it or before.
+fn found_at(row: Walked, spot: Option<Spot>) -> Row
+    ensures { result ≡ found_at row spot }
 {
-    Row::Refused(Refusal { number, place })
-}
-
-fn no_spot() -> Spot
-    ensures { result ≡ nowhere }
-{
-    Spot {
-        start: 0,
-        length: 0,
-        groups: 0,
+    Row {
+        next: row.next,
+        spot,
     }
 }
 
-fn found_at(w: Walked, spot: Spot) -> Row
-    ensures { result ≡ found_at w spot }
+// Where group k of the block at a stands.
+#[tactic(auto, using(crate::proofs::Places::row_after_none, crate::proofs::Places::row_after_next))]
+fn group_place(p: &[u64], a: usize, depth: usize, k: usize) -> usize
+    requires { BlockAt p.now depth a × (k < many_groups p.now a) }
+    ensures place { result ≡ row_after p.now k (groups_from p.now a) }
+    ensures opened { Opened p.now depth (many_groups p.now a - k) result }
 {
-    match w {
-        Walked::To { next, .. } => Row::To { next, spot },
-        Walked::Refused(refusal) => Row::Refused(refusal),
+    let n = number(p, a + 4);
+    let mut group = number(p, a + 9);
+    for i in 0..k {
+        prepared::open_row(p, group, n - i, depth);
+        group = number(p, group + 8);
     }
-}
-
-// The place after n groups in a row.
-fn skip_row(p: &[u64], first: usize, n: usize, depth: usize) -> usize
-    requires { IsRow p.now depth n first }
-    ensures { result ≡ row_after p.now n first }
-{
-    let mut a = first;
-    let mut left = n;
-    while 0 < left {
-        prepared::open_row(p, a, left, depth);
-        a = number(p, a + 8);
-        left = left - 1;
-    }
-    a
-}
-
-// How many of k entries are left at entry e, itself counted.
-fn turn_of(k: usize, e: usize) -> usize
-    ensures { result ≡ k - e }
-{
-    if e < k {
-        return k - e;
-    }
-    0
+    prepared::open_row(p, group, n - k, depth);
+    group
 }
 
 // k entries of l octets that nothing follows, of which the path leads to entry e, and no further if this is its last
 // step.
 fn plain_row(l: usize, k: usize, start: usize, e: usize, last: bool) -> Row
     requires { start + l * k ≤ 65535 }
-    ensures { result ≡ Row.To (start + l * k) (plain_spot l k start e last) }
+    ensures { result ≡ record { next = start + l * k; spot = plain_spot l k start e last } }
 {
-    let next = start + l * k;
-    let mut spot = no_spot();
-    if e < k {
-        if last {
-            spot = Spot {
-                start: start + l * e,
-                length: l,
-                groups: 0,
-            };
-        }
+    let mut spot = None;
+    if e < k && last {
+        spot = Some(Spot {
+            start: start + l * e,
+            length: l,
+            groups: 0,
+        });
     }
-    Row::To { next, spot }
+    Row {
+        next: start + l * k,
+        spot,
+    }
 }
 
-// The row of the entry of the block at a that `entry` is the spot of: along the path from number i on, if the entry is
-// on it; else the spot is z.
-#[cycle(inner_row_seek_entries_seek_group_seek_row)]
-fn inner_row(
-    p: &&[u64],
+// The octet after the entry of the block at a that starts at `at`.
+#[inline(always)]
+#[tactic(auto, using(crate::proofs::Seeks::seeks), unfolding(walk::specs::Walks::Bounded, wire::specs::Walks::Inside))]
+fn pass_entry(
+    m: &Message,
     a: usize,
     depth: usize,
-    m: &&[u8],
-    v: usize,
+    entries: Entries,
+    at: usize,
+) -> Result<usize, Refusal>
+    requires { BlockAt m.now.book.now depth a × Lent m.now.octets.now at × Small entries }
+    ensures value { result ≡ told after_entry (entry_at m.now.book.now depth a m.now.octets.now m.now.version entries at) }
+    ensures inside { Inside (length m.now.octets.now) at result }
+{
+    let p = m.book;
+    if m.octets.len() - at < entries.length {
+        return refuse(Reason::PastTheEnd, at);
+    }
+    let over = entries.surplus;
+    let start = at + entries.length;
+    let row = pass_row(
+        m,
+        number(p, a + 9),
+        number(p, a + 4),
+        depth,
+        over.groups,
+        start,
+    )?;
+    let big = prepared::is_big(p);
+    walk_datas(
+        m,
+        number(p, a + 10),
+        number(p, a + 5),
+        over.datas,
+        big,
+        row.next,
+    )
+}
+
+// The row of the entry of the block at a that `entry` is the spot of, along the path from number i on.
+#[cycle(inner_row_seek_entries_seek_group_seek_row)]
+#[tactic(auto, using(crate::proofs::Seeks::seeks), unfolding(crate::specs::Seeks::Within, walk::specs::Walks::Bounded))]
+fn inner_row(
+    m: &Message,
+    a: usize,
+    depth: usize,
     entry: Spot,
     path: &&[u64],
     i: usize,
-    on: bool,
-    z: Spot,
-) -> Row
-    requires { BlockAt p.now.now depth a × Lent m.now.now (entry.start + entry.length)
+) -> Result<Row, Refusal>
+    requires { BlockAt m.now.book.now depth a × Lent m.now.octets.now (entry.start + entry.length)
         × (entry.groups ≤ 65535) × Path path.now.now i }
-    ensures value { result ≡ inner_sought p.now.now depth a m.now.now v path.now.now i
-        entry on z }
-    ensures within { Within m.now.now result }
+    ensures value { result ≡ inner_sought m.now.book.now depth a m.now.octets.now m.now.version path.now.now i entry }
+    ensures within { Within m.now.octets.now result }
 {
-    let s = *p;
-    let first = number(s, a + 9);
-    let n = number(s, a + 4);
+    let p = m.book;
     let at = entry.start + entry.length;
-    if on {
-        let steps = *path;
-        if i < steps.len() {
-            return seek_row(p, a, depth, m, v, entry.groups, at, path, i);
-        }
-        return found_at(pass_row(p, first, n, depth, m, v, entry.groups, at), entry);
+    if i < path.len() {
+        return seek_row(m, a, depth, entry.groups, at, path, i);
     }
-    found_at(pass_row(p, first, n, depth, m, v, entry.groups, at), z)
+    let row = pass_row(
+        m,
+        number(p, a + 9),
+        number(p, a + 4),
+        depth,
+        entry.groups,
+        at,
+    )?;
+    Ok(found_at(row, Some(entry)))
 }
 
 // The entries of the block at a, the step at number i leading to one of them.
 #[cycle(inner_row_seek_entries_seek_group_seek_row)]
+#[tactic(auto, using(crate::proofs::Seeks::entries), unfolding(crate::specs::Seeks::Within, wire::specs::Walks::Inside))]
 fn seek_entries(
-    p: &&[u64],
+    m: &Message,
     a: usize,
     depth: usize,
-    m: &&[u8],
-    v: usize,
     entries: Entries,
     start: usize,
     path: &&[u64],
     i: usize,
-) -> Row
-    requires { BlockAt p.now.now depth a × Lent m.now.now start × Small entries × Path path.now.now i
+) -> Result<Row, Refusal>
+    requires { BlockAt m.now.book.now depth a × Lent m.now.octets.now start × Small entries × Path path.now.now i
         × (i < length path.now.now) }
-    ensures value { result ≡ entries_sought p.now.now depth a m.now.now v path.now.now
+    ensures value { result ≡ entries_sought m.now.book.now depth a m.now.octets.now m.now.version path.now.now
         i entries start }
-    ensures within { Within m.now.now result }
+    ensures within { Within m.now.octets.now result }
 {
-    let s = *p;
-    let t = *m;
+    let p = m.book;
+    let t = m.octets;
     let steps = *path;
     let l = entries.length;
     let k = entries.count;
+    let over = entries.surplus;
     let e = number(steps, i + 1);
-    if number(s, a + 7) + entries.surplus == 0 {
+    if number(p, a + 7) + over.groups + over.datas == 0 {
         if l * k <= t.len() - start {
-            return plain_row(l, k, start, e, steps.len() == i + 2);
+            return Ok(plain_row(l, k, start, e, steps.len() == i + 2));
         }
     }
-    let big = prepared::is_big(s);
-    let groups = counts::groups_in(entries.surplus);
-    let datas = counts::datas_in(entries.surplus);
-    let turn = turn_of(k, e);
-    let mut due = k;
     let mut at = start;
-    let mut spot = no_spot();
-    while 0 < due {
-        if t.len() - at < l {
-            return refuse_row(16, at);
-        }
-        let entry = Spot {
-            start: at,
-            length: l,
-            groups,
-        };
-        let inside = inner_row(p, a, depth, m, v, entry, path, i + 2, due == turn, spot);
-        let Row::To { next, spot: found } = inside else {
-            return inside;
-        };
-        let rest = walk_datas(
-            s,
-            number(s, a + 10),
-            number(s, a + 5),
-            datas,
-            big,
-            t,
-            v,
-            next,
-        );
-        let Walked::To { next: end, .. } = rest else {
-            return found_at(rest, no_spot());
-        };
-        at = end;
-        spot = found;
-        due = due - 1;
+    for _ in 0..e.min(k) {
+        at = pass_entry(m, a, depth, entries, at)?;
     }
-    Row::To { next: at, spot }
+    if k <= e {
+        return Ok(Row {
+            next: at,
+            spot: None,
+        });
+    }
+    if t.len() - at < l {
+        return refuse(Reason::PastTheEnd, at);
+    }
+    let entry = Spot {
+        start: at,
+        length: l,
+        groups: over.groups,
+    };
+    let row = inner_row(m, a, depth, entry, path, i + 2)?;
+    let big = prepared::is_big(p);
+    at = walk_datas(
+        m,
+        number(p, a + 10),
+        number(p, a + 5),
+        over.datas,
+        big,
+        row.next,
+    )?;
+    for _ in e + 1..k {
+        at = pass_entry(m, a, depth, entries, at)?;
+    }
+    Ok(Row {
+        next: at,
+        spot: row.spot,
+    })
 }
 
 // n groups in a row at a, the step at number i leading to the first of them.
 #[cycle(inner_row_seek_entries_seek_group_seek_row)]
+#[tactic(auto, using(crate::proofs::Seeks::seeks), unfolding(crate::specs::Seeks::Within, walk::specs::Walks::Bounded))]
 fn seek_group(
-    p: &&[u64],
+    m: &Message,
     a: usize,
     n: usize,
     depth: usize,
-    m: &&[u8],
-    v: usize,
     surplus: usize,
     at: usize,
     path: &&[u64],
     i: usize,
-) -> Row
-    requires { IsRow p.now.now depth n a × (0 < n) × (n ≤ 16) × Lent m.now.now at × (surplus ≤ 65535)
+) -> Result<Row, Refusal>
+    requires { Opened m.now.book.now depth n a × (0 < n) × (n ≤ 16) × Lent m.now.octets.now at × (surplus ≤ 65535)
         × Path path.now.now i × (i < length path.now.now) }
-    ensures value { result ≡ group_sought p.now.now depth a m.now.now v path.now.now i
+    ensures value { result ≡ group_sought m.now.book.now depth a m.now.octets.now m.now.version path.now.now i
         n surplus at }
-    ensures within { Within m.now.now result }
+    ensures within { Within m.now.octets.now result }
 {
-    let s = *p;
-    prepared::open_row(s, a, n, depth);
-    let after = number(s, a + 8);
-    if v < number(s, a + 1) {
-        return found_at(
-            pass_row(p, after, n - 1, depth, m, v, surplus, at),
-            no_spot(),
-        );
+    let p = m.book;
+    let after = number(p, a + 8);
+    if m.version < number(p, a + 1) {
+        let row = pass_row(m, after, n - 1, depth, surplus, at)?;
+        return Ok(found_at(row, None));
     }
-    match counts::open_group(p, a, depth - 1, m, v, prepared::need(s, a, v), at) {
-        Opened::Refused(refusal) => Row::Refused(refusal),
-        Opened::Of(entries) => {
-            let start = at + prepared::dimension_size(s);
-            let inside = seek_entries(p, a, depth - 1, m, v, entries, start, path, i);
-            let Row::To { next, spot } = inside else {
-                return inside;
-            };
-            found_at(pass_row(p, after, n - 1, depth, m, v, surplus, next), spot)
-        }
-    }
+    let need = prepared::need(p, a, m.version);
+    let entries = counts::open_group(m, a, depth - 1, need, at)?;
+    let start = at + prepared::dimension_size(p);
+    let inside = seek_entries(m, a, depth - 1, entries, start, path, i)?;
+    let row = pass_row(m, after, n - 1, depth, surplus, inside.next)?;
+    Ok(found_at(row, inside.spot))
 }
 
 // The row of the block at a, along the path from number i on.
 #[cycle(inner_row_seek_entries_seek_group_seek_row)]
+#[tactic(auto, using(crate::proofs::Seeks::seeks), unfolding(crate::specs::Seeks::Within, walk::specs::Walks::Bounded))]
 pub fn seek_row(
-    p: &&[u64],
+    m: &Message,
     a: usize,
     depth: usize,
-    m: &&[u8],
-    v: usize,
     surplus: usize,
     start: usize,
     path: &&[u64],
     i: usize,
-) -> Row
-    requires { BlockAt p.now.now depth a × Lent m.now.now start × (surplus ≤ 65535)
+) -> Result<Row, Refusal>
+    requires { BlockAt m.now.book.now depth a × Lent m.now.octets.now start × (surplus ≤ 65535)
         × Path path.now.now i × (i < length path.now.now) }
-    ensures value { result ≡ row_sought p.now.now depth a m.now.now v path.now.now i
+    ensures value { result ≡ row_sought m.now.book.now depth a m.now.octets.now m.now.version path.now.now i
         surplus start }
-    ensures within { Within m.now.now result }
+    ensures within { Within m.now.octets.now result }
 {
-    let s = *p;
+    let p = m.book;
     let g = number(*path, i);
-    let first = number(s, a + 9);
-    let n = number(s, a + 4);
+    let first = number(p, a + 9);
+    let n = number(p, a + 4);
     if n <= g {
         // A second caller of walk_row: so pass_row's test is joined to its callers, and not the loop to pass_row.
-        return found_at(
-            walk_row(p, first, n, depth, m, v, surplus, start),
-            no_spot(),
-        );
+        let row = walk_row(m, first, n, depth, surplus, start)?;
+        return Ok(found_at(row, None));
     }
-    let passed = pass_row(p, first, g, depth, m, v, 0, start);
-    let Walked::To { next, .. } = passed else {
-        return found_at(passed, no_spot());
-    };
-    let group = skip_row(s, first, g, depth);
-    seek_group(p, group, n - g, depth, m, v, surplus, next, path, i)
+    let passed = pass_row(m, first, g, depth, 0, start)?;
+    let group = group_place(p, a, depth, g);
+    seek_group(m, group, n - g, depth, surplus, passed.next, path, i)
 }
 
 // ---- whether the template has the place
@@ -319,147 +313,99 @@ fn count_of(p: &[u64], a: usize, x: Element) -> usize
 }
 
 // The block that the steps lead to from the template's block, if the template has the place.
-pub fn find_place(p: &[u64], root: usize, steps: &[u64], x: Element) -> Located
+pub fn find_place(p: &[u64], root: usize, steps: &[u64], x: Element) -> Option<usize>
     requires { BlockAt p.now 4 root × Path steps.now 0 }
     ensures { result ≡ block_for p.now 4 root (steps_of steps.now) x }
 {
     let mut a = root;
-    let mut depth = 4;
-    let mut i = 0;
-    while i < steps.len() {
-        let g = number(steps, i);
+    for i in 0..steps.len() / 2 {
+        let g = number(steps, 2 * i);
         if number(p, a + 4) <= g {
-            return Located::Unknown;
+            return None;
         }
-        a = skip_row(p, number(p, a + 9), g, depth);
-        depth = depth - 1;
-        i = i + 2;
+        a = group_place(p, a, 4 - i, g);
     }
     if number_of(x) < count_of(p, a, x) {
-        return Located::At(a);
+        return Some(a);
     }
-    Located::Unknown
+    None
 }
 
 // ---- the element of an entry that was accepted
 
-// Group k of the block at a, whose groups start at `start`.
-fn group_at(
-    p: &&[u64],
-    a: usize,
-    depth: usize,
-    m: &&[u8],
-    v: usize,
-    start: usize,
-    k: usize,
-) -> Answer
-    requires { BlockAt p.now.now depth a × Lent m.now.now start × (k < many_groups p.now.now a)
-        × Done (row_at p.now.now depth (many_groups p.now.now a) (groups_from p.now.now a) m.now.now v 0
-        start) }
-    ensures { result ≡ group_read k (row_at p.now.now depth (many_groups p.now.now a)
-        (groups_from p.now.now a) m.now.now v 0 start) }
+// Field k of the block at a, which starts at `start`.
+fn field_of(m: &Message, a: usize, start: usize, k: usize) -> Answer
+    requires { IsBlock m.now.book.now a × (k < many_fields m.now.book.now a)
+        × Readable m.now.book.now (fields_from m.now.book.now a + 7 * k) (table_from m.now.book.now a + 6 * k)
+        m.now.octets.now m.now.version start }
+    ensures { result ≡ read_field (is_big m.now.book.now) m.now.octets.now m.now.version start
+        (field_at m.now.book.now (fields_from m.now.book.now a + 7 * k)) }
 {
-    let s = *p;
-    let first = number(s, a + 9);
-    let passed = pass_row(p, first, k, depth, m, v, 0, start);
-    let Walked::To { next, .. } = passed else {
-        return Answer::Absent;
-    };
-    let group = skip_row(s, first, k, depth);
-    if v < number(s, group + 1) {
+    let table = number(m.book, a + 11) + 6 * k;
+    fields::read_field(m, a + 12 + 7 * k, table, start)
+}
+
+// Group k of the block at a, whose groups start at `start`.
+#[tactic(auto, using(crate::proofs::Places::first_groups, prepared::proofs::Open::head_there))]
+fn group_at(m: &Message, a: usize, depth: usize, start: usize, k: usize) -> Answer
+    requires { BlockAt m.now.book.now depth a × Lent m.now.octets.now start × (k < many_groups m.now.book.now a)
+        × Done (row_at m.now.book.now depth (many_groups m.now.book.now a) (groups_from m.now.book.now a) m.now.octets.now
+        m.now.version 0 start) }
+    ensures { result ≡ group_read k (row_at m.now.book.now depth (many_groups m.now.book.now a)
+        (groups_from m.now.book.now a) m.now.octets.now m.now.version 0 start) }
+{
+    let p = m.book;
+    let passed = pass_row(m, number(p, a + 9), k, depth, 0, start).unwrap();
+    let group = group_place(p, a, depth, k);
+    if m.version < number(p, group + 1) {
         return Answer::Absent;
     }
-    let sizes = wire::sizes_at(prepared::is_big(s), *m, next);
+    let sizes = wire::sizes_at(prepared::is_big(p), m.octets, passed.next);
     Answer::Group(sizes.entries as u64)
 }
 
 // Data k of the n data at place `from`, which start at `start`.
-fn data_at(
-    p: &[u64],
-    from: usize,
-    n: usize,
-    big: bool,
-    m: &[u8],
-    v: usize,
-    start: usize,
-    k: usize,
-) -> Answer
-    requires { (from + 2 * n ≤ length p.now) × (length p.now ≤ 65535) × (n ≤ 16) × (k < n) × Lent m.now start
-        × Done (read_datas big m.now v (parse_datas p.now n from) 0 start) }
-    ensures { result ≡ data_read k (read_datas big m.now v (parse_datas p.now n from) 0 start) }
+fn data_at(m: &Message, from: usize, n: usize, big: bool, start: usize, k: usize) -> Answer
+    requires { (from + 2 * n ≤ length m.now.book.now) × (length m.now.book.now ≤ 65535) × (n ≤ 16) × (k < n)
+        × Lent m.now.octets.now start
+        × Done (read_datas big m.now.octets.now m.now.version (parse_datas m.now.book.now n from) 0 start) }
+    ensures { result ≡ data_read k (read_datas big m.now.octets.now m.now.version (parse_datas m.now.book.now n from) 0
+        start) }
 {
-    let passed = walk_datas(p, from, k, 0, big, m, v, start);
-    let Walked::To { next, .. } = passed else {
-        return Answer::Absent;
-    };
-    if v < number(p, from + 2 * k + 1) {
+    let next = walk_datas(m, from, k, 0, big, start).unwrap();
+    if m.version < number(m.book, from + 2 * k + 1) {
         return Answer::Absent;
     }
     Answer::Octets {
         start: next + 2,
-        len: wire::data_length(big, m, next),
+        len: wire::data_length(big, m.octets, next),
     }
 }
 
 // Data k of the block at a, whose groups start at `start` and have `surplus` more after them.
-fn data_after(
-    p: &&[u64],
-    a: usize,
-    depth: usize,
-    m: &&[u8],
-    v: usize,
-    start: usize,
-    surplus: usize,
-    k: usize,
-) -> Answer
-    requires { BlockAt p.now.now depth a × Lent m.now.now start × (surplus ≤ 65535)
-        × (k < many_datas p.now.now a) × Done (datas_read p.now.now depth a m.now.now v surplus start) }
-    ensures { result ≡ data_read k (datas_read p.now.now depth a m.now.now v surplus
+fn data_after(m: &Message, a: usize, depth: usize, start: usize, surplus: usize, k: usize) -> Answer
+    requires { BlockAt m.now.book.now depth a × Lent m.now.octets.now start × (surplus ≤ 65535)
+        × (k < many_datas m.now.book.now a) × Done (datas_read m.now.book.now depth a m.now.octets.now m.now.version surplus
         start) }
+    ensures { result ≡ data_read k (datas_read m.now.book.now depth a m.now.octets.now m.now.version surplus start) }
 {
-    let s = *p;
-    let t = *m;
-    let big = prepared::is_big(s);
-    let row = pass_row(
-        p,
-        number(s, a + 9),
-        number(s, a + 4),
-        depth,
-        m,
-        v,
-        surplus,
-        start,
-    );
-    let Walked::To { next, .. } = row else {
-        return Answer::Absent;
-    };
-    data_at(s, number(s, a + 10), number(s, a + 5), big, t, v, next, k)
+    let p = m.book;
+    let big = prepared::is_big(p);
+    let row = pass_row(m, number(p, a + 9), number(p, a + 4), depth, surplus, start).unwrap();
+    data_at(m, number(p, a + 10), number(p, a + 5), big, row.next, k)
 }
 
 // The element x of an entry of the block at a that was accepted and stands at the spot. It tests nothing again.
-pub fn element_at(
-    p: &&[u64],
-    a: usize,
-    depth: usize,
-    m: &&[u8],
-    v: usize,
-    spot: Spot,
-    x: Element,
-) -> Answer
-    requires { Accepted p.now.now depth a m.now.now v spot
-        × (has_element x (shape_at p.now.now a) (inner_at p.now.now depth a) ≡ true) }
+pub fn element_at(m: &Message, a: usize, depth: usize, spot: Spot, x: Element) -> Answer
+    requires { Accepted m.now.book.now depth a m.now.octets.now m.now.version spot
+        × (has_element x (shape_at m.now.book.now a) (inner_at m.now.book.now depth a) ≡ true) }
     ensures { result ≡ element_read x
-        (entry_read p.now.now depth a m.now.now v spot) }
+        (entry_read m.now.book.now depth a m.now.octets.now m.now.version spot) }
 {
-    let s = *p;
-    let t = *m;
     let start = spot.start + spot.length;
     match x {
-        Element::Field(k) => {
-            let table = number(s, a + 11) + 6 * k;
-            fields::read_field(s, a + 12 + 7 * k, table, t, v, spot.start)
-        }
-        Element::Group(k) => group_at(p, a, depth, m, v, start, k),
-        Element::Data(k) => data_after(p, a, depth, m, v, start, spot.groups, k),
+        Element::Field(k) => field_of(m, a, spot.start, k),
+        Element::Group(k) => group_at(m, a, depth, start, k),
+        Element::Data(k) => data_after(m, a, depth, start, spot.groups, k),
     }
 }

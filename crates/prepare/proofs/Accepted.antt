@@ -2,16 +2,17 @@
 use Rattle.std.proofs.Common.{◌≡◌, ℕ, zero, suc, ◌+◌, ◌*◌, ◌/◌, ◌<◌, ◌≤◌, leb, List, length, sym, refl, ap, ◌∙◌, subst, zero-add, arith, eqb-true, le-leb, leb-true}
 use lib.Seq.{sets, sets-eq}
 use borrow.Author.Tests.{lt-leb}
-use Rattle.layout.specs.Result.{Result, ◌>>=◌, done, must, refused}
+use Rattle.layout.specs.Result.{◌>>=◌, done, must, refused}
 use Rattle.layout.specs.Octets.{words_of}
-use Rattle.layout.specs.Book.{Book, Groups, Shape, Template, more}
+use Rattle.layout.specs.Book.{Groups, Shape, Template, more}
 use Rattle.layout.specs.Lists.{NameList}
 use Rattle.layout.specs.BookRules.{book_of, head_size, parse_bodies, parse_body, parse_contents, parse_groups, parse_shape}
 use Rattle.layout.specs.BookRules.{tree_of, word}
-use Rattle.layout.specs.Operations.{checked, counted, refusal, room_after}
-use Rattle.layout.specs.declared.Checked.TheVariants.{Accepted}
-use Rattle.layout.specs.declared.Counted.TheVariants.{Count, Refused}
+use Rattle.layout.specs.Operations.{checked, refusal, room_after, told}
+use Rattle.layout.specs.declared.Reason.TheVariants.{BookBlock, RoomTooSmall}
+use Rattle.std.specs.Prelude.{Err, Ok}
 use Rattle.layout.proofs.Accepted.{each_good, keeps_rules}
+use Rattle.layout.proofs.Told.{inv_ok}
 use Rattle.layout.proofs.Results.{bind_done, done_inj, inv_bind, inv_both, inv_must, inv_refusal}
 use Rattle.book.specs.Rows.{HasLists}
 use Rattle.book.proofs.Rows.{body_lies, head_says}
@@ -23,16 +24,12 @@ use Rattle.prepare.specs.Names.{lists_in}
 use Rattle.prepare.specs.Positions.{IsRow, groups_at, groups_end, groups_from, inner_at, inner_end, many_groups}
 use Rattle.prepare.specs.Positions.{shape_at}
 use Rattle.prepare.specs.Prepares.{IsBook, Prepares, preparing}
-use Rattle.prepare.specs.Templates.{AreTemplates, IsBody, IsPreparable, body_at, book_at, templates_at}
+use Rattle.prepare.specs.Templates.{IsBody, IsPreparable, IsTemplate, body_at, book_at, templates_at}
 use Rattle.prepare.proofs.Templates.{length_templates}
 
 -- A checked book is a book.
-pub is_book : (s : List ℕ) → Accepted ≡ checked (book_of s) → IsBook s
-is_book s e = go (book_of s) refl e
-  where
-    go : (x : Result Book) → book_of s ≡ x → Accepted ≡ checked x → IsBook s
-    go (done b) is e = record { tree = b; is = is }
-    go (refused n p) is e = absurd (let z : ◌≡◌ {A = ℕ} 0 1 = unfold checked in cc in omega arith)
+pub is_book : (s : List ℕ) (u : Unit {0}) → Ok u ≡ checked (book_of s) → IsBook s
+is_book s u e = let k = inv_ok _ (book_of s) u e in record { tree = k.value; is = k.is }
 
 -- ---- bodies
 
@@ -116,12 +113,18 @@ module _ (ls : List NameList) (s : List ℕ) where
 
 -- ---- the templates of n rows from word w on
 
+templates_on : (s : List ℕ) (n w : ℕ) → IsTemplate s w → ((i : ℕ) → i < n → IsTemplate s (w + 3 + 3 * i)) → (i : ℕ)
+    → i < suc n → IsTemplate s (w + 3 * i)
+templates_on s n w first rest zero h = let q : w + 3 * 0 ≡ w = omega arith in rw q first
+templates_on s n w first rest (suc i) h =
+    let q : w + 3 * suc i ≡ w + 3 + 3 * i = omega arith in rw q (rest i (omega arith))
+
 rows_are : (s : List ℕ) (t n w : ℕ) (ts : List Template) → w + 3 * n ≤ length s / 2
     → ((i : ℕ) → i < n → word (words_of s) (w + 3 * i + 1) + word (words_of s) (w + 3 * i + 2) ≤ length s / 2)
     → parse_bodies (lists_in s) (words_of s) t (parse_contents (words_of s) n w) ≡ done ts
-    → AreTemplates s n w × (ts ≡ templates_at s n w)
-unfolding parse_contents parse_bodies AreTemplates templates_at
-rows_are s t zero w ts h l e = (tt, sym (done_inj e))
+    → ((i : ℕ) → i < n → IsTemplate s (w + 3 * i)) × (ts ≡ templates_at s n w)
+unfolding parse_contents parse_bodies templates_at
+rows_are s t zero w ts h l e = (λ i k. absurd (omega arith), sym (done_inj e))
 rows_are s t (suc n) w ts h l e =
     let b = words_of s in
     let p = inv_bind _ _ _ e in
@@ -132,7 +135,7 @@ rows_are s t (suc n) w ts h l e =
     (rw (words_between s (word b (w + 1)) (word b (w + 2))) (inv_refusal _ _ _ _ p.first)) in
     let rest = rows_are s (suc t) n (w + 3) q.value (omega arith)
     (λ i j. rw (k i) at (l (suc i) (omega arith))) q.first in (
-      (record { fits = omega arith; lies = rw o at (l 0 (omega arith)); body = body.body }, rest.0),
+      templates_on s n w (record { fits = omega arith; lies = rw o at (l 0 (omega arith)); body = body.body }) rest.0,
       sym (done_inj q.next) ∙ rw (body.shape, body.groups, rest.1) refl,
     )
 
@@ -151,7 +154,7 @@ preparable s k =
     let tree : k.tree ≡ book_at s = sym p₄.is ∙ rw r.1 refl in
     let short = length_prepared (record { octets = s; tree = k.tree; accepted = k.is; is = refl }) in (
       record {
-        lists = record { has = has; good = each_good _ 4 _ (lists_in s) p₄.other p₄.second };
+        lists = record { has = has; fits = (head_says s has.head).fits; good = each_good _ BookBlock _ (lists_in s) p₄.other p₄.second };
         count = refl;
         templates = r.0;
         few = omega (arith, rw (tree, length_numbers (book_at s), length_templates s n head_size) at short);
@@ -177,19 +180,19 @@ module _ (s : List ℕ) (k : IsBook s) (n : ℕ) (count_is : n ≡ word (words_o
         ∙ ap (λ (x : ℕ). lists_from x + lists_size (lists_in s) + sizes_of (templates_at s x head_size)) (sym count_is)
         ∙ sym is
 
-    says : preparing s (length before) ≡ (must (leb size (length before)) 40 size >>= λ _. done made)
+    says : preparing s (length before) ≡ (must (leb size (length before)) RoomTooSmall size >>= λ _. done made)
     unfolding preparing
     says = rw (k.is, bind_done, (preparable s k).1, long) refl
 
-    pub no_room : length before < size → Prepares s before (Refused (refusal 40 size)) before
-    unfolding must ◌>>=◌ counted room_after
+    pub no_room : length before < size → Prepares s before (Err (refusal RoomTooSmall size)) before
+    unfolding must ◌>>=◌ told room_after
     no_room h =
-        let e : preparing s (length before) ≡ refused 40 size = says ∙ rw (lt-leb size (length before) h) refl in
+        let e : preparing s (length before) ≡ refused RoomTooSmall size = says ∙ rw (lt-leb size (length before) h) refl in
         record { answer = rw e refl; room = rw e refl }
 
     pub prepared : size ≤ length before → (after : List ℕ) → after ≡ sets before 0 made
-        → Prepares s before (Count size) after
-    unfolding must ◌>>=◌ counted room_after
+        → Prepares s before (Ok size) after
+    unfolding must ◌>>=◌ told room_after
     prepared h after stored =
         let e : preparing s (length before) ≡ done made = says ∙ rw (le-leb size (length before) h) refl in
         let from : 0 + length made ≡ length made = zero-add _ in

@@ -1,6 +1,7 @@
 -- The steps of filling the room: what is left to store, and where; and stores that do not meet, in either order.
-use Rattle.std.proofs.Common.{◌≡◌, ℕ, zero, suc, ◌+◌, ◌<◌, ◌≤◌, List, [], ◌∷◌, ◌++◌, length, set, sym, refl, ap, ◌∙◌, add-zero, arith, set-set}
-use lib.Seq.{length-sets, sets}
+use Rattle.std.proofs.Common.{◌≡◌, ℕ, zero, suc, ◌+◌, ◌<◌, ◌≤◌, List, [], ◌∷◌, ◌++◌, length, set, sym, refl, ap, ◌∙◌, add-zero, append_assoc, arith, set-set}
+use borrow.Rule.Slice.PartMut.{put_mid}
+use lib.Seq.{drop-drop, length-sets, sets, sets-eq}
 use Rattle.octets.proofs.Joined.{set_past, sets_append}
 
 -- ---- in either order
@@ -23,15 +24,17 @@ set_again d k (v ∷ vs) (suc i) x h =
     let q : k + suc i ≡ suc k + i = omega arith in
     rw q (set_again (set d k v) (suc k) vs i x (omega arith))
 
+-- A part of the room is stored.
+pub mid_sets : (d : List ℕ) (at k : ℕ) {ys : List ℕ} (xs : List ℕ) → ys ≡ xs → length xs ≡ k → at + k ≤ length d
+    → put_mid at k d ys ≡ sets d at xs
+mid_sets d at k xs is e h = rw (sets-eq xs d at (omega arith), is, e, drop-drop, append_assoc) refl
+
 -- ---- what is left
 
 -- The numbers `all` are stored from n₀ on in the room d₀ once `rest` is stored from n on in the room d.
 pub record Filling (d₀ : List ℕ) (n₀ : ℕ) (all : List ℕ) (d : List ℕ) (n : ℕ) (rest : List ℕ) : Type 0 where
   pub whole : sets d₀ n₀ all ≡ sets d n rest
   pub long : length d ≡ length d₀
-
-pub filling_starts : (d : List ℕ) (n : ℕ) (all : List ℕ) → Filling d n all d n all
-filling_starts d n all = record { whole = refl; long = refl }
 
 module _ {d₀ : List ℕ} {n₀ : ℕ} {all : List ℕ} {d : List ℕ} {n : ℕ} {rest : List ℕ}
     (f : Filling d₀ n₀ all d n rest) where
@@ -43,11 +46,6 @@ module _ {d₀ : List ℕ} {n₀ : ℕ} {all : List ℕ} {d : List ℕ} {n : ℕ
         whole = f.whole ∙ ap (sets d n) e ∙ sets_append d n part left ∙ rw (q, k) refl;
         long = ap length q ∙ length-sets d n part ∙ f.long;
       }
-
-  -- One is stored.
-  pub filling_one : {y : ℕ} {left : List ℕ} (x : ℕ) → rest ≡ (y ∷ []) ++ left → x ≡ y
-      → Filling d₀ n₀ all (set d n x) (n + 1) left
-  filling_one {y} {left} x e q = filling_on (y ∷ []) left (set d n x) (n + 1) e (rw q refl) refl
 
   -- Nothing is left.
   pub filling_ends : rest ≡ [] → d ≡ sets d₀ n₀ all

@@ -4,10 +4,10 @@ use Rattle.std.proofs.Common.{◌≡◌, ℕ, ◌≤◌, true, leb, List, ◌++�
 use Rattle.layout.specs.Result.{Result, ◌>>=◌, done, must, refused}
 use Rattle.layout.specs.Book.{Book}
 use Rattle.layout.specs.BookRules.{book_of}
-use Rattle.layout.specs.Operations.{checked, counted, refusal, room_after}
-use Rattle.layout.specs.declared.Checked.TheVariants as Checked
-use Rattle.layout.specs.declared.Counted.TheVariants.{Count, Refused}
+use Rattle.std.specs.Prelude.{Err, Ok}
+use Rattle.layout.specs.Operations.{Told, checked, room_after, told}
 use Rattle.layout.specs.declared.Refusal.{Refusal}
+use Rattle.layout.proofs.Told.{inv_err, inv_ok}
 use Rattle.layout.proofs.Results.{done_inj, inv_bind}
 use Rattle.prepared.specs.Books.{IsPrepared, book_at}
 use Rattle.prepared.specs.Numbers.{prepared_of}
@@ -39,20 +39,18 @@ pub record HasPrepared (s : List ℕ) (n : ℕ) (after : List ℕ) : Type 0 wher
   pub prepared : PreparedOf s (take n after)
   pub fits : n ≤ length after
 
-pub has_prepared : (s before : List ℕ) (n : ℕ) (after : List ℕ) → Prepares s before (Count n) after
-    → HasPrepared s n after
-has_prepared s before n after h = go (preparing s (length before)) refl h.answer h.room
-  where
-    go : (r : Result (List ℕ)) → preparing s (length before) ≡ r → Count n ≡ counted (r >>= λ p. done (length p))
-        → after ≡ room_after r before → HasPrepared s n after
-    go (done p) e a q =
-        let many : length p ≡ n = unfold counted ◌>>=◌ in cc in
-        let whole : after ≡ p ++ drop (length p) before = unfold room_after in q in
-        record {
-          prepared = rw (whole, take_at p (drop (length p) before) n many) (made_is s (length before) p e);
-          fits = rw whole (omega (arith, length-append p (drop (length p) before)));
-        }
-    go (refused m i) e a q = absurd (let z : ◌≡◌ {A = ℕ} 0 1 = unfold counted ◌>>=◌ in cc in omega arith)
+pub has_prepared : (s before : List ℕ) (n : ℕ) (after : List ℕ) → Prepares s before (Ok n) after → HasPrepared s n after
+unfolding room_after
+has_prepared s before n after h =
+    let told = inv_ok _ (preparing s (length before) >>= λ p. done (length p)) n h.answer in
+    let made = inv_bind _ _ _ told.is in
+    let p = made.value in
+    let many : length p ≡ n = done_inj made.next ∙ told.gives in
+    let whole : after ≡ p ++ drop (length p) before = rw made.first at h.room in
+    record {
+      prepared = rw (whole, take_at p (drop (length p) before) n many) (made_is s (length before) p made.first);
+      fits = rw whole (omega (arith, length-append p (drop (length p) before)));
+    }
 
 -- ---- refused
 
@@ -64,37 +62,20 @@ enough s b e k h =
     le-leb (length (prepared_of b)) k (omega (arith, length_prepared (prepared_of_lem s b e).is)) in
     rw (e, fits) refl
 
-no_refusal : (r : Result (List ℕ)) (p : List ℕ) (z : Refusal) → r ≡ done p
-    → Refused z ≡ counted (r >>= λ p. done (length p)) → ⊥
-unfolding counted ◌>>=◌
-no_refusal (done q) p z e h = let y : ◌≡◌ {A = ℕ} 0 1 = cc in omega arith
-no_refusal (refused n i) p z e h = let y : ◌≡◌ {A = ℕ} 0 1 = cc in omega arith
-
-at_once : (s : List ℕ) (k : ℕ) (z : Refusal) (m i : ℕ) → book_of s ≡ refused m i
-    → Refused z ≡ counted (preparing s k >>= λ p. done (length p)) → Refused z ≡ Refused (refusal m i)
-unfolding counted preparing ◌>>=◌
-at_once s k z m i e h = rw e at h
-
 -- So nothing but the book is refused.
 pub book_refused : (s before : List ℕ) (z : Refusal) (after : List ℕ) → 8260 ≤ length before
-    → Prepares s before (Refused z) after → book_of s ≡ refused z.number z.place
-book_refused s before z after k h = go (book_of s) refl
+    → Prepares s before (Err z) after → book_of s ≡ refused z.reason z.place
+unfolding preparing ◌>>=◌
+book_refused s before z after k h = go (book_of s) refl (inv_err _ _ z h.answer)
   where
-    go : (x : Result Book) → book_of s ≡ x → x ≡ refused z.number z.place
-    go (done b) e = absurd (no_refusal _ _ z (enough s b e (length before) k) h.answer)
-    go (refused m i) e =
-        let a = at_once s (length before) z m i e h.answer in
-        let q : z ≡ refusal m i = cc in
-        rw q refl
+    go : (x : Result Book) → book_of s ≡ x
+        → (preparing s (length before) >>= λ p. done (length p)) ≡ refused z.reason z.place → x ≡ refused z.reason z.place
+    go (done b) e q = let made = rw (enough s b e (length before) k) at q in cc
+    go (refused m i) e q = let refused-so = rw e at q in cc
 
 -- What is not accepted is not prepared.
-pub not_accepted : (s : List ℕ) (z : Refusal) → Checked.Refused z ≡ checked (book_of s) → (room : List ℕ)
-    → Prepares s room (Refused z) room
-unfolding checked counted preparing room_after ◌>>=◌
-not_accepted s z h room = go (book_of s) refl h
-  where
-    go : (x : Result Book) → book_of s ≡ x → Checked.Refused z ≡ checked x → Prepares s room (Refused z) room
-    go (done b) e a = absurd (let y : ◌≡◌ {A = ℕ} 0 1 = cc in omega arith)
-    go (refused m i) e a =
-        let q : z ≡ refusal m i = cc in
-        record { answer = rw (e, q) refl; room = rw e refl }
+pub not_accepted : (s : List ℕ) (z : Refusal) → ◌≡◌ {A = Told (Unit {0})} (Err z) (checked (book_of s)) → (room : List ℕ)
+    → Prepares s room (Err z) room
+unfolding told preparing room_after ◌>>=◌
+not_accepted s z h room =
+    let is = inv_err _ (book_of s) z h in record { answer = rw is refl; room = rw is refl }

@@ -1,5 +1,5 @@
 -- In a body blocks lie one after the other, whatever groups they are in.
-use Rattle.std.proofs.Common.{◌≡◌, ℕ, zero, suc, ◌+◌, ◌/◌, ◌<◌, ◌≤◌, List, [], length, refl, arith}
+use Rattle.std.proofs.Common.{◌≡◌, ℕ, zero, suc, ◌+◌, ◌/◌, ◌≤◌, List, [], length, refl, arith}
 use Rattle.prepared.specs.Numbers.{groups_size}
 use Rattle.prepare.specs.Positions.{IsRow, many_groups, group_size, groups_at, groups_end, groups_from, inner_at}
 use Rattle.prepare.specs.Positions.{size_at}
@@ -37,32 +37,3 @@ seeing_starts s body w seen ew es =
           (omega arith));
       sum = omega arith;
     }
-
-run_forward : {s : List ℕ} {e w n : ℕ} → Run s e w n → w ≤ e
-run_forward (ends p q) = omega arith
-run_forward (goes fits run q) = omega (arith, run_forward run)
-
-pub record Next (s : List ℕ) (w seen : ℕ) : Type 0 where
-  pub fits : groups_from s (w + 2) ≤ length s / 2
-  pub few : seen + size_at s (w + 2) ≤ group_size s 4 0
-  pub seeing : Seeing s (groups_from s (w + 2)) (seen + size_at s (w + 2))
-
-module _ {s : List ℕ} {w seen : ℕ} (g : Seeing s w seen) where
-  pub next_seen : w < length s / 2 → Next s w seen
-  next_seen h = go g.run
-    where
-      go : Run s (length s / 2) w g.left → Next s w seen
-      go (ends p q) = absurd (omega arith)
-      go (goes fits run q) =
-          record {
-            fits = fits;
-            few = omega (arith, g.sum);
-            seeing = record { left = _; run = run; sum = omega (arith, g.sum) };
-          }
-
-  pub all_seen : length s / 2 ≤ w → seen ≡ group_size s 4 0
-  all_seen h = go g.run
-    where
-      go : Run s (length s / 2) w g.left → seen ≡ group_size s 4 0
-      go (ends p q) = omega (arith, g.sum)
-      go (goes fits run q) = absurd (omega (arith, run_forward run))

@@ -1,5 +1,5 @@
 -- The templates of a book, one at a time: how many numbers they are, and how they are stored.
-use Rattle.std.proofs.Common.{◌≡◌, ℕ, zero, suc, ◌+◌, ◌-◌, ◌*◌, ◌%◌, ◌<◌, ◌≤◌, Bool, List, [], ◌∷◌, ◌++◌, length, take, drop, set, replicate, sym, refl, ap, ◌∙◌, arith, length-set}
+use Rattle.std.proofs.Common.{◌≡◌, ℕ, zero, suc, ◌+◌, ◌-◌, ◌*◌, ◌%◌, ◌<◌, ◌≤◌, Bool, List, [], ◌∷◌, ◌++◌, length, set, replicate, sym, refl, ap, ◌∙◌, arith, length-set}
 use lib.Seq.{length-sets, sets}
 use Rattle.octets.proofs.Joined.{set_past, sets_append}
 use Rattle.layout.specs.Octets.{words_of}
@@ -13,52 +13,44 @@ use Rattle.prepared.specs.Numbers.{bodies_of, contents_from, contents_of, groups
 use Rattle.prepared.specs.Numbers.{lists_size, prepared_of, row_of, sizes_of, slots, slots_from, slots_of}
 use Rattle.prepared.proofs.Prepared.{length_contents, length_groups, length_lists, length_slots}
 use Rattle.prepare.specs.Names.{big_in, from_in, lists_in, version_of}
-use Rattle.prepare.specs.Templates.{AreTemplates, IsTemplate, body_at, book_at, laid, template_at, template_size}
+use Rattle.prepare.specs.Templates.{body_at, book_at, laid, template_at, template_size}
 use Rattle.prepare.specs.Templates.{templates_at}
 use Rattle.prepare.proofs.Filling.{set_again, sets_past}
 use Rattle.prepare.proofs.Rows.{group_size_lem}
-use Rattle.layout.proofs.Results.{none_left, one_less, some_left}
-
--- The octets of the book from `2 * k` to `2 * k + 2 * n` are the body of the template whose row is at word w.
-pub part_is : (s : List ℕ) (w k n : ℕ) → k ≡ word (words_of s) (w + 1) → n ≡ word (words_of s) (w + 2)
-    → take (2 * k + 2 * n - 2 * k) (drop (2 * k) s) ≡ body_at s w
-part_is s w k n p q = rw (p, q) refl
-
--- ---- n rows from word w on
-
-templates_step : (s : List ℕ) (n w : ℕ) → 0 < n → templates_at s n w ≡ template_at s w ∷ templates_at s (n - 1) (w + 3)
-unfolding templates_at
-templates_step s n w h = rw (some_left h, one_less) refl
-
-templates_none : (s : List ℕ) (n w : ℕ) → n ≤ 0 → templates_at s n w ≡ []
-unfolding templates_at
-templates_none s n w h = rw (none_left h) refl
 
 pub length_templates : (s : List ℕ) (n w : ℕ) → length (templates_at s n w) ≡ n
 unfolding templates_at
 length_templates s zero w = refl
 length_templates s (suc n) w = ap suc (length_templates s n (w + 3))
 
--- The first of them, and the others.
-pub record First (s : List ℕ) (n w : ℕ) : Type 0 where
-  pub template : IsTemplate s w
-  pub rest : AreTemplates s (n - 1) (w + 3)
-  pub sizes : sizes_of (templates_at s n w) ≡ template_size s w + sizes_of (templates_at s (n - 1) (w + 3))
+-- ---- n templates, of which i are passed
 
-pub first_of : (s : List ℕ) (n w : ℕ) → 0 < n → AreTemplates s n w → First s n w
-unfolding AreTemplates sizes_of
-first_of s zero w h are = absurd (omega arith)
-first_of s (suc n) w h are =
-    let j : suc n - 1 ≡ n = omega arith in
-    record {
-      template = are.0;
-      rest = rw j are.1;
-      sizes = rw (templates_step s (suc n) w h, group_size_lem (lists_in s) (body_at s w) 4 0 (word (words_of s) w) 0) refl;
-    }
+-- Those that are left.
+abbrev pub templates_from : List ℕ → ℕ → ℕ → List Template
+templates_from s n i = templates_at s (n - i) (head_size + 3 * i)
 
-pub sizes_end : (s : List ℕ) (n w total seen : ℕ) → total ≡ seen + sizes_of (templates_at s n w) → n ≤ 0 → seen ≡ total
+none_from : (s : List ℕ) (n i : ℕ) → n ≤ i → templates_from s n i ≡ []
+unfolding templates_at
+none_from s n i h = let q : n - i ≡ 0 = omega arith in rw q refl
+
+pub sizes_none : (s : List ℕ) (n i : ℕ) → n ≤ i → sizes_of (templates_from s n i) ≡ 0
 unfolding sizes_of
-sizes_end s n w total seen e h = omega (arith, ap sizes_of (templates_none s n w h))
+sizes_none s n i h = ap sizes_of (none_from s n i h)
+
+-- The first of them, and the others.
+module _ (s : List ℕ) (n i : ℕ) (h : i < n) where
+  templates_next : templates_from s n i ≡ template_at s (head_size + 3 * i) ∷ templates_from s n (i + 1)
+  unfolding templates_at
+  templates_next =
+      let q : n - i ≡ suc (n - (i + 1)) = omega arith in
+      let r : head_size + 3 * (i + 1) ≡ head_size + 3 * i + 3 = omega arith in rw (q, r) refl
+
+  pub sizes_next : sizes_of (templates_from s n i)
+      ≡ template_size s (head_size + 3 * i) + sizes_of (templates_from s n (i + 1))
+  unfolding sizes_of
+  sizes_next =
+      let w = head_size + 3 * i in
+      rw (templates_next, group_size_lem (lists_in s) (body_at s w) 4 0 (word (words_of s) w) 0) refl
 
 -- ---- stored
 
@@ -115,45 +107,42 @@ module _ (ls : List NameList) (from : ℕ) (big : Bool) (version : ℕ) where
       ∙ sym (ap (λ (l : List ℕ). sets (sets l (c + 2) rows) to bodies) back
       ∙ ap (λ (l : List ℕ). sets l to bodies) over)
 
--- Of n templates, the first of which are stored in the room d, those of `left` rows from word w on are left: their rows
--- from c on, their blocks from `at` on. The room was d₀ before the first.
-pub record Laying (s : List ℕ) (n : ℕ) (d₀ d : List ℕ) (left w c at : ℕ) : Type 0 where
-  pub are : AreTemplates s left w
-  pub low : contents_from ≤ c
-  pub gap : c + 2 * left ≤ at
-  pub fits : at + sizes_of (templates_at s left w) ≤ length d
+-- Of n templates the first i are stored in the room d, the blocks of the others from `at` on. The room was d₀ before
+-- the first.
+pub record Laying (s : List ℕ) (n : ℕ) (d₀ d : List ℕ) (i at : ℕ) : Type 0 where
+  pub gap : contents_from + 2 * n ≤ at
+  pub fits : at + sizes_of (templates_from s n i) ≤ length d
   pub whole : filled (lists_in s) (from_in s) (big_in s) (version_of s) (templates_at s n head_size) contents_from
       (lists_from n + lists_size (lists_in s)) d₀
-      ≡ filled (lists_in s) (from_in s) (big_in s) (version_of s) (templates_at s left w) c at d
+      ≡ filled (lists_in s) (from_in s) (big_in s) (version_of s) (templates_from s n i) (contents_from + 2 * i) at d
 
-pub laying_on : {s : List ℕ} {n : ℕ} {d₀ d : List ℕ} {left w c at : ℕ} → Laying s n d₀ d left w c at → 0 < left
-    → (to : ℕ) (d' : List ℕ) → to ≡ at + template_size s w → d' ≡ laid s (template_at s w) c at d
-    → Laying s n d₀ d' (left - 1) (w + 3) (c + 2) to
-laying_on {s} {left = left} {w = w} {c = c} {at = at} f h to d' et stored =
-    let first = first_of s left w h f.are in
-    let rest = templates_at s (left - 1) (w + 3) in
+pub laying_on : {s : List ℕ} {n : ℕ} {d₀ d : List ℕ} {i at : ℕ} → Laying s n d₀ d i at → i < n → (to : ℕ) (d' : List ℕ) → to ≡ at + template_size s (head_size + 3 * i)
+    → d' ≡ laid s (template_at s (head_size + 3 * i)) (contents_from + 2 * i) at d
+    → Laying s n d₀ d' (i + 1) to
+laying_on {s} {n} {i = i} {at = at} f h to d' et stored =
+    let w = head_size + 3 * i in
+    let rest = templates_from s n (i + 1) in
     let long = simp (length-sets, length-set) at (ap length stored) in
+    let c : contents_from + 2 * (i + 1) ≡ contents_from + 2 * i + 2 = omega arith in
     record {
-      are = first.rest;
-      low = omega (arith, f.low);
       gap = omega (arith, f.gap);
-      fits = omega (arith, f.fits, first.sizes, long);
+      fits = omega (arith, f.fits, sizes_next s n i h, long);
       whole = f.whole
-          ∙ rw (templates_step s left w h, et, ← group_size_lem (lists_in s) (body_at s w) 4 0 (word (words_of s) w) 0)
-          (filled_on _ _ _ _ (template_at s w) rest c at _ d' f.low
-          (omega (arith, f.gap, length_templates s (left - 1) (w + 3))) stored);
+          ∙ rw (templates_next s n i h, et, c, ← group_size_lem (lists_in s) (body_at s w) 4 0 (word (words_of s) w) 0)
+          (filled_on _ _ _ _ (template_at s w) rest (contents_from + 2 * i) at _ d' (omega arith)
+          (omega (arith, f.gap, length_templates s (n - (i + 1)) (head_size + 3 * (i + 1)))) stored);
     }
 
 -- n templates, and none is left.
-pub all_laid : {s : List ℕ} {n : ℕ} {d₀ d : List ℕ} {left w c at : ℕ} → Laying s n d₀ d left w c at → left ≤ 0
-    → (schema version k order counts : ℕ) (e : List ℕ) → n ≡ word (words_of s) 2 → schema ≡ word (words_of s) 0
-    → version ≡ word (words_of s) 1 → k ≡ length (lists_in s) → order ≡ order_of (big_in s)
+pub all_laid : {s : List ℕ} {n : ℕ} {d₀ d : List ℕ} {i at : ℕ} → Laying s n d₀ d i at → n ≤ i
+    → (schema version count order counts : ℕ) (e : List ℕ) → n ≡ word (words_of s) 2 → schema ≡ word (words_of s) 0
+    → version ≡ word (words_of s) 1 → count ≡ length (lists_in s) → order ≡ order_of (big_in s)
     → counts ≡ dimension_size (counted_in s)
-    → d₀ ≡ sets (sets (sets e 0 (schema ∷ version ∷ n ∷ k ∷ order ∷ counts ∷ [])) slots_from (replicate slots 0))
+    → d₀ ≡ sets (sets (sets e 0 (schema ∷ version ∷ n ∷ count ∷ order ∷ counts ∷ [])) slots_from (replicate slots 0))
     (lists_from n) (lists_numbers (lists_in s))
     → d ≡ sets e 0 (prepared_of (book_at s))
 unfolding prepared_of slotted contents_of bodies_of
-all_laid {s} {n} {d₀} {d} {left} {w} f h schema version k order counts e en es ev ek eo ec start =
+all_laid {s} {n} {d₀} {d} {i} f h schema version count order counts e en es ev ek eo ec start =
     let v = version_of s in
     let big = big_in s in
     let ls = lists_in s in
@@ -165,7 +154,7 @@ all_laid {s} {n} {d₀} {d} {left} {w} f h schema version k order counts e en es
     let rows = contents_of ts at in
     let lists = lists_numbers ls in
     let blocks = bodies_of ls from big v ts at in
-    let i : slots_from + length ss ≡ contents_from = omega (arith, length_slots ts at (replicate slots 0)) in
+    let k : slots_from + length ss ≡ contents_from = omega (arith, length_slots ts at (replicate slots 0)) in
     let j : contents_from + length rows ≡ from = omega (arith, length_contents ts at, length_templates s n head_size) in
     let l : from + length lists ≡ at = omega (arith, length_lists ls) in
     let zeros = sets (sets e 0 head) slots_from (replicate slots 0) in
@@ -184,7 +173,7 @@ all_laid {s} {n} {d₀} {d} {left} {w} f h schema version k order counts e en es
     })) (sym en) ∙ rw (length_templates s n head_size) refl in
     let end : filled ls from big v ts contents_from at d₀ ≡ d =
     ap (λ (x : ℕ). filled ls (lists_from x) big v ts contents_from at d₀) en ∙ f.whole
-    ∙ rw (templates_none s left w h) refl in
+    ∙ rw (none_from s n i h) refl in
     let stored = sets (sets (sets (sets e 0 head) slots_from ss) contents_from rows) from lists in
     let placed-all : filled ls from big v ts contents_from at d₀ ≡ sets stored at blocks =
     rw (start, es, ev, ek, eo, ec) (ap (λ (x : List ℕ). sets x at blocks) placed) in
@@ -192,7 +181,7 @@ all_laid {s} {n} {d₀} {d} {left} {w} f h schema version k order counts e en es
       whole,
       sets_append e 0 head (ss ++ (rows ++ (lists ++ blocks))),
       sets_append (sets e 0 head) slots_from ss (rows ++ (lists ++ blocks)),
-      i,
+      k,
       sets_append (sets (sets e 0 head) slots_from ss) contents_from rows (lists ++ blocks),
       j,
       sets_append (sets (sets (sets e 0 head) slots_from ss) contents_from rows) from lists blocks,

@@ -15,7 +15,7 @@ worked t order place =
     (2 * t + order) ∷ k.least ∷ spread k ∷ k.null ∷ k.width ∷ place ∷ []
 
 -- n words from word w on.
-unfoldable pub words_from : List ℕ → ℕ → ℕ → List ℕ
+abbrev pub words_from : List ℕ → ℕ → ℕ → List ℕ
 words_from s zero w = []
 words_from s (suc n) w = word (words_of s) w ∷ words_from s n (suc w)
 

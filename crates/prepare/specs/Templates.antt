@@ -1,5 +1,5 @@
 -- The templates of a book with the octets s, read by position, and how they are stored.
-use Rattle.std.specs.Prelude.{◌≡◌, ℕ, zero, suc, ◌+◌, ◌-◌, ◌*◌, ◌/◌, ◌%◌, ◌≤◌, List, [], ◌∷◌, length, take, drop, slice_set}
+use Rattle.std.specs.Prelude.{◌≡◌, ℕ, zero, suc, ◌+◌, ◌-◌, ◌*◌, ◌/◌, ◌%◌, ◌<◌, ◌≤◌, List, [], ◌∷◌, length, take, drop, slice_set}
 use Rattle.std.proofs.lemmas.List.Edits.{sets}
 use Rattle.layout.specs.Octets.{words_of}
 use Rattle.layout.specs.Book.{Book, Template}
@@ -40,9 +40,8 @@ unfoldable pub templates_at : List ℕ → ℕ → ℕ → List Template
 templates_at s zero w = []
 templates_at s (suc n) w = template_at s w ∷ templates_at s n (w + 3)
 
-unfoldable pub AreTemplates : List ℕ → ℕ → ℕ → Type 0
-AreTemplates s zero w = Unit {0}
-AreTemplates s (suc n) w = IsTemplate s w × AreTemplates s n (w + 3)
+abbrev pub AreTemplates : List ℕ → ℕ → Type 0
+AreTemplates s n = (i : ℕ) → i < n → IsTemplate s (head_size + 3 * i)
 
 abbrev pub book_at : List ℕ → Book
 book_at s =
@@ -59,7 +58,7 @@ book_at s =
 pub record IsPreparable (s : List ℕ) (n : ℕ) : Type 0 where
   pub lists : GoodLists s
   pub count : n ≡ word (words_of s) 2
-  pub templates : AreTemplates s n head_size
+  pub templates : AreTemplates s n
   pub few : lists_from n + lists_size (lists_in s) + sizes_of (templates_at s n head_size) ≤ 65535
 
 -- The room d once a template is stored: its slot, its row of the contents at c, and its block from `at` on.

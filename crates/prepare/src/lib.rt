@@ -13,16 +13,14 @@ ghost use Rattle.book.specs.Rows.{counted_in, list_at};
 ghost use Rattle.prepared.specs.Numbers.{bit_of, contents_from, list_numbers, list_size, lists_from, lists_numbers};
 ghost use Rattle.prepared.specs.Numbers.{lists_size, mask_of, prepared_of, sizes_of};
 ghost use Rattle.prepare.specs.Prepares.{IsBook, Prepares};
-ghost use Rattle.prepare.specs.Names.{GoodLists, IsGoodList, big_in, fields_in, from_in, groups_in, lists_in, place_in};
-ghost use Rattle.prepare.specs.Names.{table_in, version_of};
+ghost use Rattle.prepare.specs.Names.{GoodLists, IsGoodList, IsPlaced, big_in, fields_in, from_in, groups_in, lists_in};
+ghost use Rattle.prepare.specs.Names.{place_in, start_of, table_in, version_of};
 ghost use Rattle.prepare.specs.Positions.{BlockAt, IsRow, Opened, elements_at, group_at, group_size, groups_from};
 ghost use Rattle.prepare.specs.Positions.{head_at, inner_end, shape_at, size_at, words_from, worked};
 ghost use Rattle.prepare.specs.Templates.{AreTemplates, IsBody, IsPreparable, IsTemplate, book_at};
-ghost use Rattle.prepare.specs.Templates.{laid, template_at, template_size, templates_at};
+ghost use Rattle.prepare.specs.Templates.{body_at, laid, template_at, template_size, templates_at};
 
-use book::Listed;
-use layout::{Checked, Counted, Refusal};
-use std::num::wrapping_sub_u64;
+use layout::{Reason, Refusal, refuse};
 
 // How many words are a book's head; where the slots start among the prepared numbers, and the contents.
 const HEAD: usize = 7;
@@ -30,6 +28,14 @@ const HEAD: usize = 7;
 const SLOTS: usize = 6;
 
 const CONTENTS: usize = 70;
+
+// A group: its id and since, and the word where its block starts. A template is one whose since is 0.
+#[derive(Clone, Copy)]
+struct Group {
+    id: usize,
+    since: usize,
+    word: usize,
+}
 
 // Where a block with its groups ends: the word after them, and the place after their numbers.
 #[derive(Clone, Copy)]
@@ -57,18 +63,13 @@ fn groups_from(body: &[u8], w: usize) -> usize
 }
 
 // The n words from `from` on, as numbers.
+#[tactic(auto, using(crate::proofs::Blocks::words_more))]
 fn copy_words(body: &[u8], from: usize, n: usize, room: &mut [u64], start: usize)
     requires { (from + n ≤ length body.now / 2) × (start + n ≤ length room.old) }
     ensures { room.new ≡ sets room.old start (words_from body.now n from) }
 {
-    let mut left = n;
-    let mut f = from;
-    let mut at = start;
-    while 0 < left {
-        room[at] = book::word(body, f) as u64;
-        f = f + 1;
-        at = at + 1;
-        left = left - 1;
+    for i in 0..n {
+        room[start + i] = book::word(body, from + i) as u64;
     }
 }
 
@@ -80,25 +81,34 @@ fn put_worked(room: &mut [u64], at: usize, t: usize, order: usize, place: usize)
     let k = number_types::number_type(t);
     room[at] = (2 * t + order) as u64;
     room[at + 1] = k.least;
-    room[at + 2] = wrapping_sub_u64(k.greatest, k.least);
+    room[at + 2] = k.greatest.wrapping_sub(k.least);
     room[at + 3] = k.null;
     room[at + 4] = k.width as u64;
     room[at + 5] = place as u64;
 }
 
 // The order of the book's messages: 1 is big.
+#[tactic(auto, unfolding(crate::proofs::Blocks::chosen))]
 fn order_of(book: &[u8]) -> usize
     requires { GoodLists book.now }
-    ensures { result ≡ order_of (big_in book.now) }
+    ensures value { result ≡ order_of (big_in book.now) }
+    ensures few { result ≤ 1 }
 {
-    if book::word(book, 5) == 1 {
-        return 1;
-    }
-    0
+    if book::word(book, 5) == 1 { 1 } else { 0 }
 }
 
-// The place of the list that a field's seventh word leads to, 0 if it leads to none: a list has three numbers more than
-// words, and in the book lists lie back to back.
+// The place of list i: a list has three numbers more than words, and in the book lists lie back to back.
+fn place_at(book: &[u8], i: usize) -> usize
+    requires { GoodLists book.now × IsPlaced book.now i }
+    ensures { result + start_of book.now 0 ≡ from_in book.now + 3 * i + start_of book.now i }
+{
+    let n = book::word(book, 2);
+    let rows = HEAD + 3 * n;
+    let first = book::word(book, rows + 1);
+    CONTENTS + 2 * n + 3 * i + (book::word(book, rows + 3 * i + 1) - first)
+}
+
+// The place of the list that a field's seventh word leads to, 0 if it leads to none.
 fn place_of(book: &[u8], list: usize) -> usize
     requires { GoodLists book.now }
     ensures { result ≡ place_in book.now list }
@@ -106,16 +116,14 @@ fn place_of(book: &[u8], list: usize) -> usize
     if list == 0 {
         return 0;
     }
-    let Listed::At(i) = book::find_list(book, list - 1) else {
+    let Some(i) = book::find_list(book, list - 1) else {
         return 0;
     };
-    let n = book::word(book, 2);
-    let rows = HEAD + 3 * n;
-    let first = book::word(book, rows + 1);
-    CONTENTS + 2 * n + 3 * i + (book::word(book, rows + 3 * i + 1) - first)
+    place_at(book, i)
 }
 
 // The need after a field with this end: its own, if it is present.
+#[tactic(auto, unfolding(crate::proofs::Blocks::chosen))]
 fn need_after(since: usize, version: usize, end: usize, need: usize) -> usize
     ensures { result ≡ (when nat_le since version then end else need) }
 {
@@ -137,25 +145,21 @@ fn put_table(
 {
     let version = book::word(book, 1);
     let order = order_of(book);
-    let mut left = n;
-    let mut f = from;
-    let mut at = start;
     let mut need = 0;
-    while 0 < left {
+    for i in 0..n {
+        let f = from + 7 * i;
         let t = book::word(body, f + 1);
         let k = book::word(body, f + 2);
         let end = book::field_end(t, k, book::word(body, f + 3));
         let place = place_of(book, book::word(body, f + 6));
-        put_worked(room, at, t, order, place);
+        put_worked(room, start + 6 * i, t, order, place);
         need = need_after(book::word(body, f + 5), version, end, need);
-        f = f + 7;
-        at = at + 6;
-        left = left - 1;
     }
     need
 }
 
 // Its fields, its data and its fields' table, stored from `start` on; its need is the answer.
+#[tactic(auto, using(crate::proofs::Blocks::elements_stored))]
 fn put_elements(book: &[u8], body: &[u8], w: usize, room: &mut [u64], start: usize) -> usize
     requires { GoodLists book.now × (groups_from body.now w ≤ length body.now / 2)
         × (start + size_at body.now w ≤ length room.old + 12) }
@@ -168,52 +172,38 @@ fn put_elements(book: &[u8], body: &[u8], w: usize, room: &mut [u64], start: usi
     put_table(book, body, w + 4, f, room, start + n)
 }
 
-fn put_six(room: &mut [u64], at: usize, a: usize, b: usize, c: usize, d: usize, e: usize, f: usize)
-    requires { at + 6 ≤ length room.old }
-    ensures { room.new ≡ sets room.old at (a ∷ b ∷ c ∷ d ∷ e ∷ f ∷ []) }
-{
-    room[at] = a as u64;
-    room[at + 1] = b as u64;
-    room[at + 2] = c as u64;
-    room[at + 3] = d as u64;
-    room[at + 4] = e as u64;
-    room[at + 5] = f as u64;
-}
-
-// Its head, stored from `at` on, `next` being the place after its groups.
+// The head of a group's block, stored from `at` on, `next` being the place after its groups.
 fn put_head(
     body: &[u8],
-    w: usize,
-    id: usize,
-    since: usize,
+    group: Group,
     need: usize,
     order: usize,
     next: usize,
     room: &mut [u64],
     at: usize,
 )
-    requires { (groups_from body.now w ≤ length body.now / 2) × (order ≤ 1) × (at + 12 ≤ length room.old) }
-    ensures { room.new ≡ sets room.old at (head_at body.now w id since need order
+    requires { (groups_from body.now group.word ≤ length body.now / 2) × (order ≤ 1) × (at + 12 ≤ length room.old) }
+    ensures { room.new ≡ sets room.old at (head_at body.now group.word group.id group.since need order
         next at) }
 {
-    let l = book::word(body, w);
-    let f = book::word(body, w + 1);
-    let g = book::word(body, w + 2);
-    let d = book::word(body, w + 3);
+    let f = book::word(body, group.word + 1);
+    let g = book::word(body, group.word + 2);
+    let d = book::word(body, group.word + 3);
     let datas = at + 12 + 7 * f;
     let table = datas + 2 * d;
     let counts = (255 * order + 1) * (g + 65536 * d);
-    put_six(room, at, id, since, l, f, g, d);
-    put_six(
-        room,
-        at + 6,
-        need,
-        counts,
-        next,
-        table + 6 * f,
-        datas,
-        table,
-    );
+    room[at] = group.id as u64;
+    room[at + 1] = group.since as u64;
+    room[at + 2] = book::word(body, group.word) as u64;
+    room[at + 3] = f as u64;
+    room[at + 4] = g as u64;
+    room[at + 5] = d as u64;
+    room[at + 6] = need as u64;
+    room[at + 7] = counts as u64;
+    room[at + 8] = next as u64;
+    room[at + 9] = (table + 6 * f) as u64;
+    room[at + 10] = datas as u64;
+    room[at + 11] = table as u64;
 }
 
 // Does nothing. Its contract is a law: what the first of the n groups at word w is good for.
@@ -222,65 +212,60 @@ fn open_row(body: &[u8], w: usize, n: usize, depth: usize)
     ensures { Opened body.now depth n w }
 {}
 
-// The block with its groups, stored from `at` on: its head last, when it is known where they end.
+// The group's block with its groups, stored from `at` on: its head last, when it is known where they end.
 fn put_group(
     book: &[u8],
     body: &[u8],
-    w: usize,
-    id: usize,
-    since: usize,
+    group: Group,
     depth: usize,
     room: &mut [u64],
     at: usize,
 ) -> Ends
-    requires { GoodLists book.now × BlockAt body.now depth w
-        × (at + group_size body.now depth w ≤ length room.old) }
-    ensures word_value { (result.word ≡ inner_end body.now depth w)
-        × (result.at ≡ at + group_size body.now depth w) }
+    requires { GoodLists book.now × BlockAt body.now depth group.word
+        × (at + group_size body.now depth group.word ≤ length room.old) }
+    ensures word_value { (result.word ≡ inner_end body.now depth group.word)
+        × (result.at ≡ at + group_size body.now depth group.word) }
     ensures room_after { room.new ≡ sets room.old at (groups_in book.now (group_at (lists_in
-        book.now) body.now depth w id since) at) }
+        book.now) body.now depth group.word group.id group.since) at) }
 {
-    let need = put_elements(book, body, w, room, at + 12);
-    let mut to = at + size_block(body, w);
-    let mut x = groups_from(body, w);
-    let mut left = book::word(body, w + 2);
-    while 0 < left {
-        open_row(body, x, left, depth);
-        let i = book::word(body, x);
-        let s = book::word(body, x + 1);
-        let r = put_group(book, body, x + 2, i, s, depth - 1, room, to);
+    let need = put_elements(book, body, group.word, room, at + 12);
+    let many = book::word(body, group.word + 2);
+    let mut to = at + size_block(body, group.word);
+    let mut x = groups_from(body, group.word);
+    for i in 0..many {
+        open_row(body, x, many - i, depth);
+        let inner = Group {
+            id: book::word(body, x),
+            since: book::word(body, x + 1),
+            word: x + 2,
+        };
+        let r = put_group(book, body, inner, depth - 1, room, to);
         to = r.at;
         x = r.word;
-        left = left - 1;
     }
-    put_head(body, w, id, since, need, order_of(book), to, room, at);
+    put_head(body, group, need, order_of(book), to, room, at);
     Ends { word: x, at: to }
 }
 
 // ---- lists
 
 // The number whose one bit is this, of which 64-bit numbers have those below 64.
+#[tactic(auto, unfolding(crate::proofs::Blocks::chosen))]
 fn bit_of(n: usize) -> u64
     ensures { result ≡ bit_of n }
 {
-    if n < 64 {
-        return 1 << n;
-    }
-    0
+    if n < 64 { 1 << n } else { 0 }
 }
 
 // The mask of the n numbers at word `from`.
+#[tactic(auto, using(crate::proofs::Masks::mask_step, crate::proofs::Masks::mask_none, crate::proofs::Masks::mask_small))]
 fn mask_of(book: &[u8], from: usize, n: usize) -> u64
     requires { (from + n ≤ length book.now / 2) × (climbing 0 (take n (drop from (words_of book.now))) ≡ true) }
     ensures { result ≡ mask_of (take n (drop from (words_of book.now))) }
 {
-    let mut left = n;
-    let mut w = from;
-    let mut mask = 0u64;
-    while 0 < left {
-        mask = mask + bit_of(book::word(book, w));
-        w = w + 1;
-        left = left - 1;
+    let mut mask = 0;
+    for i in 0..n {
+        mask += bit_of(book::word(book, from + i));
     }
     mask
 }
@@ -302,23 +287,22 @@ fn put_list(book: &[u8], w: usize, room: &mut [u64], at: usize) -> usize
 }
 
 // All lists, stored from `start` on: the place after them.
+#[tactic(auto, using(crate::proofs::Lists::next_size, crate::proofs::Lists::next_stored))]
 fn put_lists(book: &[u8], room: &mut [u64], start: usize) -> usize
     requires { GoodLists book.now × (start + lists_size (lists_in book.now) ≤ length room.old) }
     ensures value { result ≡ start + lists_size (lists_in book.now) }
     ensures room_after { room.new ≡ sets room.old start (lists_numbers (lists_in book.now)) }
 {
-    let mut left = book::word(book, 4);
-    let mut w = HEAD + 3 * book::word(book, 2);
+    let rows = HEAD + 3 * book::word(book, 2);
     let mut at = start;
-    while 0 < left {
-        at = put_list(book, w, room, at);
-        w = w + 3;
-        left = left - 1;
+    for i in 0..book::word(book, 4) {
+        at = put_list(book, rows + 3 * i, room, at);
     }
     at
 }
 
 // How many numbers all lists are: three more than words, each.
+#[tactic(auto, using(crate::proofs::Lists::all_lists, crate::proofs::Lists::first_lies, crate::proofs::Lists::no_lists))]
 fn size_lists(book: &[u8]) -> usize
     requires { GoodLists book.now }
     ensures { result ≡ lists_size (lists_in book.now) }
@@ -332,6 +316,16 @@ fn size_lists(book: &[u8]) -> usize
 
 // ---- templates
 
+// The body of the template whose row of the contents is at word w.
+fn body_of(book: &[u8], w: usize) -> &[u8]
+    requires { IsTemplate book.now w }
+    ensures { result.now ≡ body_at book.now w }
+{
+    let start = 2 * book::word(book, w + 1);
+    let end = start + 2 * book::word(book, w + 2);
+    &book[start..end]
+}
+
 // How many numbers the template with this body is: in a body blocks lie one after the other.
 fn size_body(body: &[u8]) -> usize
     requires { IsBody body.now × (group_size body.now 4 0 ≤ 65535) }
@@ -340,27 +334,23 @@ fn size_body(body: &[u8]) -> usize
     let end = body.len() / 2;
     let mut w = groups_from(body, 0);
     let mut seen = size_block(body, 0);
+    // A `while`, since where a block ends is found in it.
     while w < end {
-        seen = seen + size_block(body, w + 2);
+        seen += size_block(body, w + 2);
         w = groups_from(body, w + 2);
     }
     seen
 }
 
 // How many numbers all n templates are.
+#[tactic(auto, using(crate::proofs::Templates::sizes_next, crate::proofs::Templates::sizes_none))]
 fn size_templates(book: &[u8], n: usize) -> usize
-    requires { AreTemplates book.now n head_size × (sizes_of (templates_at book.now n head_size) ≤ 65535) }
+    requires { AreTemplates book.now n × (sizes_of (templates_at book.now n head_size) ≤ 65535) }
     ensures { result ≡ sizes_of (templates_at book.now n head_size) }
 {
-    let mut left = n;
-    let mut w = HEAD;
     let mut seen = 0;
-    while 0 < left {
-        let start = 2 * book::word(book, w + 1);
-        let end = start + 2 * book::word(book, w + 2);
-        seen = seen + size_body(&book[start..end]);
-        w = w + 3;
-        left = left - 1;
+    for i in 0..n {
+        seen += size_body(body_of(book, HEAD + 3 * i));
     }
     seen
 }
@@ -373,26 +363,15 @@ fn put_template(book: &[u8], w: usize, room: &mut [u64], c: usize, at: usize) ->
     ensures room_after { room.new ≡ laid book.now (template_at book.now w) c at room.old }
 {
     let id = book::word(book, w);
-    let start = 2 * book::word(book, w + 1);
-    let end = start + 2 * book::word(book, w + 2);
     room[SLOTS + id % 64] = at as u64;
     room[c] = id as u64;
     room[c + 1] = at as u64;
-    let r = put_group(book, &book[start..end], 0, id, 0, 4, room, at);
-    r.at
-}
-
-fn put_zeros(room: &mut [u64], start: usize, n: usize)
-    requires { start + n ≤ length room.old }
-    ensures { room.new ≡ sets room.old start (replicate n 0) }
-{
-    let mut left = n;
-    let mut at = start;
-    while 0 < left {
-        room[at] = 0;
-        at = at + 1;
-        left = left - 1;
-    }
+    let template = Group {
+        id,
+        since: 0,
+        word: 0,
+    };
+    put_group(book, body_of(book, w), template, 4, room, at).at
 }
 
 // How many octets a dimension of the book's messages has.
@@ -400,61 +379,56 @@ fn size_of(book: &[u8]) -> usize
     requires { GoodLists book.now }
     ensures { result ≡ dimension_size (counted_in book.now) }
 {
-    if book::word(book, 6) == 4 {
-        return 8;
-    }
-    4
+    if book::word(book, 6) == 4 { 8 } else { 4 }
+}
+
+// How many numbers a book with n templates is.
+fn size_book(book: &[u8], n: usize) -> usize
+    requires { IsPreparable book.now n }
+    ensures { result ≡ lists_from n + lists_size (lists_in book.now) + sizes_of (templates_at book.now n head_size) }
+{
+    CONTENTS + 2 * n + size_lists(book) + size_templates(book, n)
 }
 
 // All numbers of a book with n templates.
+#[tactic(auto, using(crate::proofs::Templates::sizes_next))]
 fn put_book(book: &[u8], n: usize, room: &mut [u64])
     requires { IsPreparable book.now n × (lists_from n + lists_size (lists_in book.now)
         + sizes_of (templates_at book.now n head_size) ≤ length room.old) }
     ensures { room.new ≡ sets room.old 0 (prepared_of (book_at book.now)) }
 {
-    let schema = book::word(book, 0);
-    let version = book::word(book, 1);
-    let lists = book::word(book, 4);
-    let order = order_of(book);
-    let counts = size_of(book);
-    put_six(room, 0, schema, version, n, lists, order, counts);
-    put_zeros(room, SLOTS, 64);
+    room[0] = book::word(book, 0) as u64;
+    room[1] = book::word(book, 1) as u64;
+    room[2] = n as u64;
+    room[3] = book::word(book, 4) as u64;
+    room[4] = order_of(book) as u64;
+    room[5] = size_of(book) as u64;
+    room[SLOTS..CONTENTS].fill(0);
     let mut at = put_lists(book, room, CONTENTS + 2 * n);
-    let mut left = n;
-    let mut w = HEAD;
-    let mut c = CONTENTS;
-    while 0 < left {
-        at = put_template(book, w, room, c, at);
-        c = c + 2;
-        w = w + 3;
-        left = left - 1;
+    for i in 0..n {
+        at = put_template(book, HEAD + 3 * i, room, CONTENTS + 2 * i, at);
     }
 }
 
 // Prepares an accepted book: the number of numbers, which are stored from the room's start. If there is no room for
 // them, the place of the refusal is their number.
-pub fn prepare(book: &[u8], room: &mut [u64]) -> Counted
+pub fn prepare(book: &[u8], room: &mut [u64]) -> Result<usize, Refusal>
     requires { IsBook book.now }
     ensures { Prepares book.now room.old result room.new }
 {
     let n = book::word(book, 2);
-    let size = CONTENTS + 2 * n + size_lists(book) + size_templates(book, n);
+    let size = size_book(book, n);
     if room.len() < size {
-        return Counted::Refused(Refusal {
-            number: 40,
-            place: size,
-        });
+        return refuse(Reason::RoomTooSmall, size);
     }
     put_book(book, n, room);
-    Counted::Count(size)
+    Ok(size)
 }
 
 // Prepares a book that may be any octets: what it is refused for is the answer.
-pub fn prepare_octets(book: &[u8], room: &mut [u64]) -> Counted
+pub fn prepare_octets(book: &[u8], room: &mut [u64]) -> Result<usize, Refusal>
     ensures { Prepares book.now room.old result room.new }
 {
-    let Checked::Refused(refusal) = book::check(book) else {
-        return prepare(book, room);
-    };
-    Counted::Refused(refusal)
+    book::check(book)?;
+    prepare(book, room)
 }

@@ -16,6 +16,7 @@ use Rattle.layout.specs.BookRules.{ContentsRow, book_of, check_contents, content
 use Rattle.layout.specs.BookRules.{groups_good, groups_since, head_size, layout_good, lists_of, name_list_of, parse_bodies}
 use Rattle.layout.specs.BookRules.{parse_body, parse_contents, parse_fields, parse_groups, parse_shape, rising, shape_good}
 use Rattle.layout.specs.BookRules.{shape_since, since_good, tree_of, word, youngest}
+use Rattle.layout.specs.declared.Reason.TheVariants.{BookBlock}
 use Rattle.layout.proofs.Accepted.{KeepsRules, datas_length_lem, each_good, keeps_rules}
 use Rattle.layout.proofs.Results.{and_left, and_right, done_inj, either, inv_bind, inv_both, inv_must, inv_refusal}
 use Rattle.book.proofs.Words.{length_words}
@@ -272,7 +273,7 @@ accepted_fits octets b e =
       schema = ltb-true _ _ (and_left _ _ h);
       version = ltb-true _ _ (and_left _ _ h₁);
       few = omega (arith, leb-true n 64 (and_left _ _ h₃));
-      lists = each_good _ 4 _ ls p₄.other p₄.second;
+      lists = each_good _ BookBlock _ ls p₄.other p₄.second;
       templates = fit.fits;
       short = omega (
         arith,

@@ -9,10 +9,13 @@ use Rattle.layout.specs.Result.{when◌then◌else◌}
 use Rattle.layout.specs.Lists.{NameList}
 use Rattle.layout.specs.Book.{end, need_after}
 use Rattle.layout.specs.BookRules.{field_at, parse_fields, word}
+use Rattle.prepared.specs.Names.{lists_at}
+use Rattle.prepared.specs.Needs.{FieldsUpTo}
+use Rattle.prepared.specs.Positions.{IsBlock, fields_from, many_fields}
 
 module _ (ls : List NameList) (b : List ℕ) where
   -- The last of n + 1 fields decides if it is present, and leaves it to those before it if not.
-  need_last : (v n e w : ℕ)
+  pub need_last : (v n e w : ℕ)
       → need_after v e (parse_fields ls b (suc n) w)
       ≡ (when leb (word b (w + 7 * n + 5)) v then end (field_at ls b (w + 7 * n))
       else need_after v e (parse_fields ls b n w))
@@ -34,7 +37,7 @@ module _ (ls : List NameList) (b : List ℕ) where
   need_later v n e w s = rw (need_last v n e w, lt-leb _ v s) (unfold when◌then◌else◌ in refl)
 
   -- Fields that are absent after the first n change nothing.
-  pub need_cut : (v n k e w : ℕ) → ((i : ℕ) → n ≤ i → i < n + k → v < word b (w + 7 * i + 5))
+  need_cut : (v n k e w : ℕ) → ((i : ℕ) → n ≤ i → i < n + k → v < word b (w + 7 * i + 5))
       → need_after v e (parse_fields ls b (n + k) w) ≡ need_after v e (parse_fields ls b n w)
   need_cut v n zero e w h = let q : n + 0 ≡ n = omega arith in rw q refl
   need_cut v n (suc k) e w h =
@@ -45,3 +48,17 @@ module _ (ls : List NameList) (b : List ℕ) where
   pub need_none : (v e w : ℕ) → need_after v e (parse_fields ls b 0 w) ≡ e
   unfolding need_after parse_fields
   need_none v e w = refl
+
+-- The fields before field r are present as far as the last of them is, and absent from it on if it is: none falls.
+pub fields_up_to : (p : List ℕ) (a v r : ℕ) → IsBlock p a → r ≤ many_fields p a
+    → (0 < r → word p (fields_from p a + 7 * (r - 1) + 5) ≤ v)
+    → (r < many_fields p a → v < word p (fields_from p a + 7 * r + 5)) → FieldsUpTo p a v r
+fields_up_to p a v r block few last past =
+    let n = many_fields p a in
+    let q : r + (n - r) ≡ n = omega arith in
+    record {
+      few = few;
+      last = last;
+      need = rw q at (need_cut (lists_at p) p v r (n - r) 0 (fields_from p a)
+          (λ i from to. omega (arith, block.rising r i from (omega arith), past (omega arith))));
+    }

@@ -1,15 +1,15 @@
 -- Rows of the contents, whose ids rise: where the row with an id lies.
 use mathlib.Core.Path.{◌≡◌, refl}
 use mathlib.Core.List.{List}
-use Prim.Native.Nat.{◌*◌, ◌+◌, ◌<◌, ◌≤◌, suc, zero, ℕ}
+use Prim.Native.Nat.{◌*◌, ◌+◌, ◌<◌, suc, zero, ℕ}
 use native.Mathlib.Omega.{arith}
 use borrow.Author.Tests.{eq-eqb, ne_eqb}
 use Rattle.layout.specs.Result.{when◌then◌else◌}
 use Rattle.layout.specs.BookRules.{word}
+use Rattle.bisect.proofs.Rising.{IsPlace}
 use Rattle.prepared.specs.Numbers.{contents_from}
 use Rattle.prepared.specs.Books.{HoldsBook, block_of, id_of, location_among, location_of}
-use Rattle.prepared.specs.declared.Located.TheVariants.{At, Unknown}
-use Rattle.book.proofs.Search.{Within, none_before, not_within}
+use Rattle.std.specs.Prelude.{None, Some}
 
 pub shifted : (w i : ℕ) → w + 2 * suc i ≡ w + 2 + 2 * i
 shifted w i = omega arith
@@ -23,7 +23,7 @@ module _ (p : List ℕ) (id : ℕ) where
   Other w i = word p (w + 2 * i) ≡ id → ⊥
 
   place_here : (n w i : ℕ) → i < n → ((j : ℕ) → j < i → Other w j) → word p (w + 2 * i) ≡ id
-      → location_among p id n w ≡ At (word p (w + 2 * i + 1))
+      → location_among p id n w ≡ Some (word p (w + 2 * i + 1))
   unfolding location_among when◌then◌else◌
   place_here zero w i h others is = absurd (omega arith)
   place_here (suc n) w zero h others is = rw (unshifted w, eq-eqb (word p w) id (rw (unshifted w) at is)) refl
@@ -32,7 +32,7 @@ module _ (p : List ℕ) (id : ℕ) where
       (place_here n (w + 2) i (omega arith) (λ j l e. others (suc j) (omega arith) (rw (shifted w j) e))
       (rw (shifted w i) at is))
 
-  no_place_lem : (n w : ℕ) → ((j : ℕ) → j < n → Other w j) → location_among p id n w ≡ Unknown
+  no_place_lem : (n w : ℕ) → ((j : ℕ) → j < n → Other w j) → location_among p id n w ≡ None
   unfolding location_among when◌then◌else◌
   no_place_lem zero w others = refl
   no_place_lem (suc n) w others =
@@ -42,9 +42,8 @@ module _ (p : List ℕ) (id : ℕ) where
 -- ---- the search
 
 module _ (p : List ℕ) (book : HoldsBook p) (id : ℕ) where
-  pub found_at : (i : ℕ) → i < word p 2 → id_of p i ≡ id → location_of p id ≡ At (block_of p i)
-  found_at i h is = place_here p id (word p 2) contents_from i h (none_before (id_of p) _ book.rising id i h is) is
+  pub found_at : (i : ℕ) → i < word p 2 → id_of p i ≡ id → location_of p id ≡ Some (block_of p i)
+  found_at i h is = place_here p id (word p 2) contents_from i h (λ j l e. omega (arith, book.rising j i l h)) is
 
-  pub not_found_at : (low high : ℕ) → Within (id_of p) (word p 2) id low high → high ≤ low → location_of p id ≡ Unknown
-  not_found_at low high within h =
-      no_place_lem p id (word p 2) contents_from (not_within (id_of p) _ book.rising id low high within h)
+  pub not_found : IsPlace (id_of p) (word p 2) id None → location_of p id ≡ None
+  not_found none = no_place_lem p id (word p 2) contents_from none

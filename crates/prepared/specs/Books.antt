@@ -1,13 +1,11 @@
 -- The book that prepared numbers p hold, read back, and what every call that is lent them requires.
-use Rattle.std.specs.Prelude.{◌≡◌, List, [], ◌∷◌, ℕ, zero, suc, ◌+◌, ◌*◌, ◌≤◌, ◌<◌, eqb, length}
+use Rattle.std.specs.Prelude.{◌≡◌, List, [], ◌∷◌, ℕ, zero, suc, ◌+◌, ◌*◌, ◌≤◌, ◌<◌, eqb, length, Option, Some, None}
 use Rattle.layout.specs.Result.{done, when◌then◌else◌}
 use Rattle.layout.specs.Book.{Book, Template}
 use Rattle.layout.specs.BookRules.{book_of, word}
 use Rattle.prepared.specs.Numbers.{contents_from, prepared_of, slots, slots_from}
 use Rattle.prepared.specs.Names.{lists_at}
 use Rattle.prepared.specs.Positions.{BlockAt, inner_at, is_big, is_counted, shape_at}
-use Rattle.prepared.specs.declared.Located as Located
-use Rattle.prepared.specs.declared.Located.{Located}
 
 -- The prepared book of an accepted one.
 pub record IsPrepared (p : List ℕ) : Type 0 where
@@ -38,12 +36,12 @@ book_at p =
     }
 
 -- The place of the template with this id, among n rows of the contents from w on.
-unfoldable pub location_among : List ℕ → ℕ → ℕ → ℕ → Located
-location_among p id zero w = Located.TheVariants.Unknown
+unfoldable pub location_among : List ℕ → ℕ → ℕ → ℕ → Option ℕ
+location_among p id zero w = None
 location_among p id (suc n) w =
-    when eqb (word p w) id then Located.TheVariants.At (word p (w + 1)) else location_among p id n (w + 2)
+    when eqb (word p w) id then Some (word p (w + 1)) else location_among p id n (w + 2)
 
-abbrev pub location_of : List ℕ → ℕ → Located
+abbrev pub location_of : List ℕ → ℕ → Option ℕ
 location_of p id = location_among p id (word p 2) contents_from
 
 -- Row i of the contents.

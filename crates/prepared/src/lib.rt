@@ -18,11 +18,12 @@ const CONTENTS: usize = 70;
 
 const HEAD: usize = 12;
 
-// Where a template's block stands.
+// A message of this version, to be read by a prepared book.
 #[derive(Clone, Copy)]
-pub enum Located {
-    At(usize),
-    Unknown,
+pub struct Message<'a> {
+    pub book: &'a [u64],
+    pub octets: &'a [u8],
+    pub version: usize,
 }
 
 // Number i.
@@ -46,7 +47,7 @@ pub fn has_lists(p: &[u64]) -> bool
     requires { 3 < length p.now }
     ensures { result ≡ has_lists p.now }
 {
-    0 < number(p, 3)
+    0 < p[3]
 }
 
 // Whether the book's messages are big-endian.
@@ -54,7 +55,7 @@ pub fn is_big(p: &[u64]) -> bool
     requires { 4 < length p.now }
     ensures { result ≡ is_big p.now }
 {
-    number(p, 4) == 1
+    p[4] == 1
 }
 
 // Whether a group's dimension has the counts of its block's groups and data.
@@ -62,7 +63,7 @@ pub fn is_counted(p: &[u64]) -> bool
     requires { 5 < length p.now }
     ensures { result ≡ is_counted p.now }
 {
-    number(p, 5) == 8
+    p[5] == 8
 }
 
 // How many octets a dimension has.
@@ -79,23 +80,12 @@ pub fn open_row(p: &[u64], a: usize, n: usize, depth: usize)
     ensures { Opened p.now depth n a }
 {}
 
-// How many fields of the block at a are present at a version before the book's: sinces never fall, so half of them is
-// passed at each step.
+// How many fields of the block at a are present at a version before the book's: sinces never fall.
 fn older_fields(p: &[u64], a: usize, v: usize) -> usize
     requires { IsBlock p.now a }
     ensures { FieldsUpTo p.now a v result }
 {
-    let mut low = 0;
-    let mut high = number(p, a + 3);
-    while low < high {
-        let mid = (low + high) / 2;
-        if number(p, a + HEAD + 7 * mid + 5) <= v {
-            low = mid + 1;
-        } else {
-            high = mid;
-        }
-    }
-    low
+    bisect::first_past(number(p, a + 3), |i| number(p, a + HEAD + 7 * i + 5) <= v)
 }
 
 // The end of the field at f, whose table is at t.
@@ -130,39 +120,23 @@ pub fn need(p: &[u64], a: usize, v: usize) -> usize
     older_need(p, a, v)
 }
 
-// The place of the template with this id, searched in the contents: ids rise, so half of the rows is passed at each
-// step.
-fn search(p: &[u64], id: usize) -> Located
+// The place of the template with this id, searched in the contents: ids rise.
+fn search(p: &[u64], id: usize) -> Option<usize>
     requires { HoldsBook p.now }
     ensures { result ≡ location_of p.now id }
 {
-    let mut low = 0;
-    let mut high = number(p, 2);
-    while low < high {
-        let mid = (low + high) / 2;
-        let here = number(p, CONTENTS + 2 * mid);
-        if here == id {
-            return Located::At(number(p, CONTENTS + 2 * mid + 1));
-        }
-        if here < id {
-            low = mid + 1;
-        } else {
-            high = mid;
-        }
-    }
-    Located::Unknown
+    let row = bisect::find(number(p, 2), id as u64, |i| value(p, CONTENTS + 2 * i))?;
+    Some(number(p, CONTENTS + 2 * row + 1))
 }
 
 // The place of the template with this id: its slot mostly leads there.
-pub fn find(p: &[u64], id: usize) -> Located
+pub fn find(p: &[u64], id: usize) -> Option<usize>
     requires { HoldsBook p.now }
     ensures { result ≡ location_of p.now id }
 {
     let a = number(p, SLOTS + id % 64);
-    if 0 < a {
-        if number(p, a) == id {
-            return Located::At(a);
-        }
+    if 0 < a && number(p, a) == id {
+        return Some(a);
     }
     search(p, id)
 }

@@ -20,7 +20,7 @@ pub record Done {A : Type 0} (r : Result A) : Type 0 where
 pub was_done : {A : Type 0} (e : A → ℕ) (p : A → List ℕ) (r : Result A) → Accepted (printed e p r) → Done r
 unfolding printed end_of numbers_of
 was_done e p (done a) h = record { value = a; is = refl }
-was_done e p (refused c q) h = absurd (let z : ◌≡◌ {A = ℕ} 0 1 = cc h in omega arith)
+was_done e p (refused c q) h = absurd (cc h)
 
 pub then_first : (x : Printed) (f : ℕ → Printed) → Accepted (and_then x f) → Accepted x
 unfolding and_then end_of numbers_of

@@ -1,30 +1,25 @@
 -- The reply for each answer: "A refusal gives number and place, nothing else."
-use Rattle.std.specs.Prelude.{◌≡◌, List, ℕ, get_or, length}
+use Rattle.std.specs.Prelude.{◌≡◌, List, ℕ, get_or, length, Ok, Err}
+use Rattle.layout.specs.Reasons.{number_of}
 use Rattle.layout.specs.Result.{Result, done, ◌>>=◌}
 use Rattle.layout.specs.Values.{record_of}
-use Rattle.layout.specs.Operations.{checked, counted, found, room_after}
+use Rattle.layout.specs.Operations.{Told, checked, counted, found, room_after}
 use Rattle.layout.specs.declared.Answer.{Answer}
-use Rattle.layout.specs.declared.Checked as Checked
-use Rattle.layout.specs.declared.Checked.{Checked}
-use Rattle.layout.specs.declared.Counted as Counted
-use Rattle.layout.specs.declared.Counted.{Counted}
-use Rattle.layout.specs.declared.Found as Found
-use Rattle.layout.specs.declared.Found.{Found}
 use Rattle.siphonbard.specs.declared.CheckedReply.{CheckedReply}
 use Rattle.siphonbard.specs.declared.CountedReply.{CountedReply}
 use Rattle.siphonbard.specs.declared.FoundReply.{FoundReply}
 
-unfoldable pub say_checked : Checked → CheckedReply
-say_checked Checked.TheVariants.Accepted = record { number = 0; place = 0 }
-say_checked (Checked.TheVariants.Refused z) = record { number = z.number; place = z.place }
+unfoldable pub say_checked : Told (Unit {0}) → CheckedReply
+say_checked (Ok u) = record { number = 0; place = 0 }
+say_checked (Err z) = record { number = number_of z.reason; place = z.place }
 
-unfoldable pub say_counted : Counted → CountedReply
-say_counted (Counted.TheVariants.Count n) = record { number = 0; place = 0; count = n }
-say_counted (Counted.TheVariants.Refused z) = record { number = z.number; place = z.place; count = 0 }
+unfoldable pub say_counted : Told ℕ → CountedReply
+say_counted (Ok n) = record { number = 0; place = 0; count = n }
+say_counted (Err z) = record { number = number_of z.reason; place = z.place; count = 0 }
 
 -- The three numbers of the answer's record.
-unfoldable pub say_found : Found → FoundReply
-say_found (Found.TheVariants.Is a) =
+unfoldable pub say_found : Told Answer → FoundReply
+say_found (Ok a) =
     record {
       number = 0;
       place = 0;
@@ -32,8 +27,8 @@ say_found (Found.TheVariants.Is a) =
       second = get_or (record_of a) 1 0;
       third = get_or (record_of a) 2 0;
     }
-say_found (Found.TheVariants.Refused z) =
-    record { number = z.number; place = z.place; first = 0; second = 0; third = 0 }
+say_found (Err z) =
+    record { number = number_of z.reason; place = z.place; first = 0; second = 0; third = 0 }
 
 -- ---- for what the layout's definitions come to
 

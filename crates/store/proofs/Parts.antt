@@ -3,25 +3,24 @@ use mathlib.Core.Path.{◌≡◌, refl, subst, sym, ap, ◌∙◌}
 use mathlib.Core.Bool.{Bool}
 use mathlib.Core.List.{List, []}
 use Prim.Native.Nat.{ℕ, ◌+◌, ◌-◌, ◌≤◌, ◌<◌}
-use native.Mathlib.Omega.{arith}
 use lib.ListN.{length}
 use borrow.Author.Tests.{le-leb, lt-leb, leb-true}
+use Rattle.std.specs.Result.{result_unwrap_or}
 use Rattle.layout.specs.Result.{Result, done, refused, when◌then◌else◌, ◌>>=◌}
 use Rattle.layout.specs.Octets.{number16}
 use Rattle.layout.specs.Book.{Data, Groups, group_sinces, more, none}
+use Rattle.layout.specs.Operations.{Told, told}
 use Rattle.layout.specs.BookRules.{parse_datas, parse_fields, word}
 use Rattle.layout.specs.Values.{listing, nil, record_of, records_of}
 use Rattle.layout.specs.Message.{dimension_size, in_row, read_block, read_data, read_datas, read_entries, read_field}
 use Rattle.layout.specs.Message.{read_groups}
 use Rattle.layout.specs.declared.Answer.{Answer}
 use Rattle.layout.specs.declared.Answer.TheVariants.{Absent, Group, Octets}
-use Rattle.layout.specs.declared.Refusal.{Refusal}
 use Rattle.layout.proofs.Results.{bind_done, done_inj, none_left, one_less, some_left}
 use Rattle.prepared.specs.Names.{lists_at}
 use Rattle.prepared.specs.Positions.{field_at, inner_at, is_big, is_counted, shape_at, version_at}
-use Rattle.wire.specs.Walks.{skip_end, walked}
-use Rattle.wire.specs.declared.Walked.{Walked}
-use Rattle.wire.specs.declared.Walked.TheVariants.{Refused, To}
+use Rattle.wire.specs.Walks.{Inside}
+use Rattle.surplus.specs.Surplus.{skip_end}
 use Rattle.counts.specs.Groups.{IsOpen, open_at}
 use Rattle.counts.specs.declared.Entries.{Entries}
 use Rattle.counts.proofs.Groups.{Good, group_good, group_read_lem}
@@ -52,18 +51,13 @@ module _ (big : Bool) (m : List ℕ) (v l at : ℕ) (p : List ℕ) where
 -- ---- what is surplus
 
 -- It was accepted, so that it is walked to its end.
-module _ (r : Result ℕ) (h : Accepted (skip_print r)) {w : Walked} (is : w ≡ walked skip_end r) where
-  skip_ends : w ≡ To (end_of (skip_print r)) 0
-  unfolding skip_print printed walked end_of
-  skip_ends =
-      let d = was_done (λ x. x) (λ x. []) r h in
-      rw d.is (rw d.is at is)
-
-  pub skip_not_refused : {z : Refusal} → w ≡ Refused z → ⊥
-  skip_not_refused e = absurd (let z : ◌≡◌ {A = ℕ} 0 1 = cc (sym e ∙ skip_ends) in omega arith)
-
-  pub skip_end_lem : {x k : ℕ} → w ≡ To x k → x ≡ end_of (skip_print r)
-  skip_end_lem e = cc (sym e ∙ skip_ends)
+pub skip_ends : (r : Result ℕ) → Accepted (skip_print r) → {w : Told ℕ} → w ≡ told skip_end r → (len at : ℕ)
+    → Inside len at w → (d : ℕ) → (result_unwrap_or w d ≡ end_of (skip_print r)) × (result_unwrap_or w d ≤ len)
+unfolding skip_print printed told end_of Inside
+skip_ends r h is len at inside d =
+    let done = was_done (λ x. x) (λ x. []) r h in
+    let ok = rw done.is at is in
+    rw done.is (rw ok (refl, (rw ok at inside).1))
 
 -- Nothing else is left: it has no record.
 module _ {y : Printed} (r : Result ℕ) (is : y ≡ skip_print r) (h : Accepted y) where

@@ -6,7 +6,6 @@ use Rattle.layout.specs.Book.{Data, Field, Groups}
 use Rattle.layout.specs.Values.{listing, records_of}
 use Rattle.layout.specs.Message.{in_row, read_datas, read_field, skip_datas, skip_group}
 use Rattle.prepared.specs.Positions.{is_big, is_counted}
-use Rattle.counts.specs.Groups.{datas_in, groups_in}
 use Rattle.counts.specs.declared.Entries.{Entries}
 use Rattle.walk.specs.Walks.{entries_by, groups_by}
 use Rattle.prints.specs.Prints.{Printed, got, printed}
@@ -42,4 +41,4 @@ module _ (p : List ℕ) (depth a : ℕ) (m : List ℕ) (v : ℕ) where
 
   -- Those that a dimension says.
   abbrev pub sized_print : Entries → ℕ → Printed
-  sized_print e at = entries_print (groups_in e.surplus) (datas_in e.surplus) e.length e.count at
+  sized_print e at = entries_print e.surplus.groups e.surplus.datas e.length e.count at

@@ -8,22 +8,22 @@ use native.Mathlib.Omega.{arith}
 use lib.ListN.{length, length-map}
 use lib.Seq.{sets, sets-eq}
 use borrow.Author.Tests.{le-leb, lt-leb}
+use Rattle.std.specs.Prelude.{Err, Ok, Option, Some}
 use Rattle.layout.specs.Result.{◌>>=◌, Result, done, must, refused}
-use Rattle.layout.specs.Book.{Data}
-use Rattle.layout.specs.Operations.{ListsAs, counted, refusal, room_after}
+use Rattle.layout.specs.Book.{Data, need}
+use Rattle.layout.specs.Operations.{ListsAs, refusal, room_after, told}
 use Rattle.layout.specs.Message.{Entry, header_size, read_datas, read_field, read_message, read_whole, version_of}
 use Rattle.layout.specs.Reading.{list_in, steps_of}
 use Rattle.layout.specs.Values.{Values, entry, listing, measure, nil}
 use Rattle.layout.specs.declared.Answer.{Answer}
-use Rattle.layout.specs.declared.Counted.TheVariants as Counted
+use Rattle.layout.specs.declared.Reason.{Reason}
 use Rattle.layout.specs.declared.Refusal.{Refusal}
 use Rattle.layout.proofs.Records.{listing_three}
 use Rattle.layout.proofs.Results.{done_inj, inv_bind}
 use Rattle.prepared.specs.Names.{lists_at}
-use Rattle.prepared.specs.Positions.{many_datas, datas_from, many_fields, inner_at, is_big, shape_at, version_at}
+use Rattle.prepared.specs.Positions.{BlockAt, many_datas, datas_from, many_fields, inner_at, is_big, shape_at, version_at}
 use Rattle.prepared.specs.Books.{book_at, template_at}
 use Rattle.prepared.proofs.Accepted.{fields_length}
-use Rattle.counts.specs.Groups.{datas_in, groups_in}
 use Rattle.counts.specs.declared.Entries.{Entries}
 use Rattle.counts.proofs.Counts.{length_datas}
 use Rattle.walk.specs.Walks.{entry_by}
@@ -36,6 +36,7 @@ use Rattle.store.proofs.Root.{root_prints}
 use Rattle.whole.specs.Wholes.{records_in, rest_at, root_spot, tree_at}
 use Rattle.whole.proofs.Entries.{Enters}
 use Rattle.whole.proofs.Messages.{root_read}
+use Rattle.layout.specs.declared.Reason.TheVariants.{RoomTooSmall}
 
 -- No numbers are a path.
 pub no_steps : Path [] 0
@@ -54,7 +55,7 @@ datas_length_lem big m v n (d ∷ ds) at r e =
 
 -- ---- the root block
 
-module _ {p m path : List ℕ} {a v k : ℕ} {s : Spot} (o : Enters p m path a v k s) where
+module _ {p m path : List ℕ} {a v k : ℕ} {s : Option Spot} (o : Enters p m path a v k s) where
   abbrev pub tree_of : Values
   tree_of = tree_at p m (a, o.surplus, o.groups, o.datas)
 
@@ -76,8 +77,8 @@ module _ {p m path : List ℕ} {a v k : ℕ} {s : Spot} (o : Enters p m path a v
 
   block_of : read_whole (book_at p).format (version_at p) (template_at p a) m (o.surplus, o.over) ≡ done tree_of → Block
   unfolding read_whole
-  block_of e =
-      let r = inv_bind _ _ _ e in
+  block_of h =
+      let r = inv_bind _ _ _ h in
       record {
         block = r.value;
         is_block = rw (o.opens.version, o.opens.long) r.first;
@@ -92,22 +93,22 @@ module _ {p m path : List ℕ} {a v k : ℕ} {s : Spot} (o : Enters p m path a v
 
 -- ---- listing
 
-not_listed : (list : ℕ → Result (ℕ × List ℕ)) (room : List ℕ) (n q : ℕ) → list (length room) ≡ refused n q
-    → ListsAs list room (Counted.Refused (refusal n q)) room
-unfolding ◌>>=◌ counted room_after
-not_listed list room n q e = record { answer = rw e refl; room = rw e refl }
+not_listed : (list : ℕ → Result (ℕ × List ℕ)) (room : List ℕ) (r : Reason) (q : ℕ) → list (length room) ≡ refused r q
+    → ListsAs list room (Err (refusal r q)) room
+unfolding ◌>>=◌ told room_after
+not_listed list room r q e = record { answer = rw e refl; room = rw e refl }
 
-pub list_refused : (p m room : List ℕ) (z : Refusal) → read_message (book_at p) m ≡ refused z.number z.place
-    → ListsAs (list_in (book_at p) m) room (Counted.Refused z) room
+pub list_refused : (p m room : List ℕ) (z : Refusal) → read_message (book_at p) m ≡ refused z.reason z.place
+    → ListsAs (list_in (book_at p) m) room (Err z) room
 unfolding ◌>>=◌
 list_refused p m room z e = not_listed _ room _ _ (rw e refl)
 
 -- The root block as the pass takes it.
 abbrev pub root_entries : Spot → Entries
-root_entries s = record { length = s.length; count = 1; surplus = 65536 * s.groups }
+root_entries s = record { length = s.length; count = 1; surplus = record { groups = s.groups; datas = 0 } }
 
--- A message that is accepted.
-module _ {p m : List ℕ} {a v k : ℕ} {s : Spot} (o : Enters p m [] a v k s) where
+-- A message that is accepted, and its root's spot.
+module _ {p m : List ℕ} {a v k : ℕ} {s : Option Spot} (o : Enters p m [] a v k s) where
   measured : many_fields p a + k + many_datas p a ≡ measure (tree_of o)
   unfolding measure records_in
   measured =
@@ -119,48 +120,51 @@ module _ {p m : List ℕ} {a v k : ℕ} {s : Spot} (o : Enters p m [] a v k s) w
         o.records,
       )
 
-  pub root_found : s ≡ root_spot o.long o.surplus
+  pub root_found : s ≡ Some (root_spot o.long o.surplus)
   unfolding spot_in steps_of
   root_found = o.spot
 
   -- The root block, with its surplus data.
-  block_prints : (end : ℕ) × (sized_print p 4 a m v (root_entries s) header_size ≡ got end (listing (tree_of o)))
+  block_prints : (end : ℕ) × (sized_print p 4 a m v (root_entries (root_spot o.long o.surplus)) header_size
+      ≡ got end (listing (tree_of o)))
   block_prints =
       let r = root_block_lem o in
       let q = root_prints p 4 a m v o.surplus o.long header_size o.over r.block r.is_block in
-      let groups : groups_in (65536 * o.surplus) ≡ o.surplus = omega arith in
-      let datas : datas_in (65536 * o.surplus) ≡ 0 = omega arith in
-      let root : sized_print p 4 a m v (root_entries (root_spot o.long o.surplus)) header_size
-      ≡ got q.0 (listing (tree_of o)) =
-      rw (groups, datas) (q.1 ∙ ap (λ (t : Values). got q.0 (listing t)) r.tree_is) in
-      (q.0, ap (λ (x : Spot). sized_print p 4 a m v (root_entries x) header_size) root_found ∙ root)
+      (q.0, q.1 ∙ ap (λ (t : Values). got q.0 (listing t)) r.tree_is)
 
-  module _ (room : List ℕ) (all : ℕ) (e : all ≡ many_fields p a + k + many_datas p a) where
+  module _ (room : List ℕ) (all : ℕ) (n : all ≡ many_fields p a + k + many_datas p a) where
     -- The room is too small.
-    pub list_full : length room < 3 * all → ListsAs (list_in (book_at p) m) room (Counted.Refused (refusal 40 all)) room
+    pub list_full : length room < 3 * all → ListsAs (list_in (book_at p) m) room (Err (refusal RoomTooSmall all)) room
     unfolding ◌>>=◌ must
     list_full h =
-        let full : length room < 3 * measure (tree_of o) = omega (arith, e, measured, h) in
-        not_listed _ room 40 all (rw (o.read, lt-leb _ _ full, e, measured) refl)
+        let full : length room < 3 * measure (tree_of o) = omega (arith, n, measured, h) in
+        not_listed _ room RoomTooSmall all (rw (o.read, lt-leb _ _ full, n, measured) refl)
 
-    module _ (h : 3 * all ≤ length room) where
+    module _ (h : 3 * all ≤ length room) {root : Spot} (is : s ≡ Some root) where
       fits : 3 * measure (tree_of o) ≤ length room
-      fits = omega (arith, e, measured, h)
+      fits = omega (arith, n, measured, h)
 
       within : 0 + length (listing (tree_of o)) ≤ length room
       within = omega (arith, listing_three (tree_of o), fits)
 
-      pub list_room : Room (sized_print p 4 a m v (root_entries s) header_size) 0 (length room)
+      root_is : root ≡ root_spot o.long o.surplus
+      root_is = let q = sym is ∙ root_found in cc
+
+      -- There is room for the root block, with its surplus data.
+      pub list_block : BlockAt p 4 a × (need v (shape_at p a) ≤ root.length) × (root.groups ≤ 65535)
+      list_block = rw root_is (o.opens.block, o.opens.enough, o.opens.few)
+
+      pub list_room : Room (sized_print p 4 a m v (root_entries root) header_size) 0 (length room)
       unfolding end_of numbers_of
-      list_room = rw block_prints.1 (record { whole = refl; fits = within })
+      list_room = rw (root_is, block_prints.1) (record { whole = refl; fits = within })
 
       pub list_stored : (after : List ℕ)
-          → after ≡ sets room 0 (numbers_of (sized_print p 4 a m v (root_entries s) header_size))
-          → ListsAs (list_in (book_at p) m) room (Counted.Count all) after
-      unfolding ◌>>=◌ must counted room_after numbers_of
+          → after ≡ sets room 0 (numbers_of (sized_print p 4 a m v (root_entries root) header_size))
+          → ListsAs (list_in (book_at p) m) room (Ok all) after
+      unfolding ◌>>=◌ must told room_after numbers_of
       list_stored after q =
-          let laid = rw block_prints.1 at q ∙ sets-eq (listing (tree_of o)) room 0 within in
+          let laid = rw (root_is, block_prints.1) at q ∙ sets-eq (listing (tree_of o)) room 0 within in
           record {
-            answer = rw (o.read, le-leb _ _ fits, e, measured) refl;
+            answer = rw (o.read, le-leb _ _ fits, n, measured) refl;
             room = rw (o.read, le-leb _ _ fits) (rw zero-add at laid);
           }

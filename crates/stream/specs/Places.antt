@@ -1,11 +1,10 @@
 -- What is asked of a place.
-use Rattle.layout.specs.Operations.{refusal}
-use Rattle.layout.specs.declared.Checked as Checked
-use Rattle.layout.specs.declared.Checked.{Checked}
-use Rattle.layout.specs.declared.Found as Found
-use Rattle.layout.specs.declared.Found.{Found}
+use Rattle.std.specs.Prelude.{Ok, Err}
+use Rattle.layout.specs.Operations.{Told, refusal}
+use Rattle.layout.specs.declared.Answer.{Answer}
+use Rattle.layout.specs.declared.Reason.TheVariants.{PlaceUnknown}
 
 -- 30, if the message is accepted.
-unfoldable pub no_place : Checked → Found
-no_place Checked.TheVariants.Accepted = Found.TheVariants.Refused (refusal 30 0)
-no_place (Checked.TheVariants.Refused z) = Found.TheVariants.Refused z
+unfoldable pub no_place : Told (Unit {0}) → Told Answer
+no_place (Ok u) = Err (refusal PlaceUnknown 0)
+no_place (Err z) = Err z

@@ -3,7 +3,7 @@
 #![tactic(auto)]
 
 ghost use Rattle.std.specs.Prelude.{◌≡◌, ◌+◌, ◌≤◌};
-ghost use Rattle.layout.specs.Operations.{ListsAs, WritesAs, checked, found, refusal};
+ghost use Rattle.layout.specs.Operations.{ListsAs, Told, WritesAs, checked, found};
 ghost use Rattle.layout.specs.Reading.{check_in, list_in, place_in};
 ghost use Rattle.layout.specs.Writing.{write_in};
 ghost use Rattle.prepared.specs.Positions.{BlockAt, IsBlock, many_datas, many_fields};
@@ -13,23 +13,20 @@ ghost use Rattle.stream.specs.Places.{no_place};
 ghost use Rattle.stream.specs.Written.{written_by};
 ghost use Rattle.prepared.specs.Books.{IsPrepared, book_at, template_at};
 
-use counts::Entries;
-use judges::Judged;
-use layout::{Checked, Counted, Element, Found, Refusal};
-use prepared::{Located, number};
+use counts::{Entries, Surplus};
+use layout::{Answer, Element, Reason, Refusal, refuse};
+use prepared::{Message, number};
+use records::Listing;
 use store::Cursor;
-use whole::Entered;
 
 // Checks a message.
-pub fn check(p: &[u64], m: &[u8]) -> Checked
+pub fn check(p: &[u64], m: &[u8]) -> Result<(), Refusal>
     requires { IsPrepared p.now }
     ensures { result ≡ checked (check_in (book_at p.now) m.now) }
 {
     let path = &p[0..0];
-    let Entered::Refused(refusal) = whole::enter(&p, &m, &path) else {
-        return Checked::Accepted;
-    };
-    Checked::Refused(refusal)
+    whole::enter(p, m, &path)?;
+    Ok(())
 }
 
 // How many records a message has whose root is the block at a, its groups having k.
@@ -42,140 +39,117 @@ fn count_records(p: &[u64], a: usize, k: usize) -> usize
 
 // Lists a message: the number of records, which are stored from the room's start. A walk checks and counts, and then,
 // if there is room, a pass stores; else the place of the refusal is the number of records.
-pub fn list(p: &&[u64], m: &&[u8], room: &mut [u64]) -> Counted
+#[inline(always)]
+pub fn list(p: &&[u64], m: &&[u8], room: &mut [u64]) -> Result<usize, Refusal>
     requires { IsPrepared p.now.now }
     ensures { ListsAs (list_in (book_at p.now.now) m.now.now) room.old result
         room.new }
 {
-    let s = *p;
-    let path = &s[0..0];
-    match whole::enter(p, m, &path) {
-        Entered::Refused(refusal) => Counted::Refused(refusal),
-        Entered::At {
-            block,
-            version,
-            records,
-            spot,
-        } => {
-            let all = count_records(s, block, records);
-            if room.len() < 3 * all {
-                return Counted::Refused(Refusal {
-                    number: 40,
-                    place: all,
-                });
-            }
-            let root = Entries {
-                length: spot.length,
-                count: 1,
-                surplus: 65536 * spot.groups,
-            };
-            let start = Cursor { at: 12, n: 0 };
-            store::store_entries(p, block, 4, m, version, root, room, start);
-            Counted::Count(all)
-        }
+    let book = *p;
+    let path = &book[0..0];
+    let entered = whole::enter(book, *m, &path)?;
+    let all = count_records(book, entered.block, entered.records);
+    if room.len() < 3 * all {
+        return refuse(Reason::RoomTooSmall, all);
     }
-}
-
-fn no_answer(number: u8) -> Found
-    ensures { result ≡ Found.Refused (refusal number 0) }
-{
-    Found::Refused(Refusal { number, place: 0 })
+    let message = Message {
+        book,
+        octets: *m,
+        version: entered.version,
+    };
+    let root = entered.spot.unwrap();
+    let entries = Entries {
+        length: root.length,
+        count: 1,
+        surplus: Surplus {
+            groups: root.groups,
+            datas: 0,
+        },
+    };
+    let start = Cursor { at: 12, n: 0 };
+    store::store_entries(&message, entered.block, 4, entries, room, start);
+    Ok(all)
 }
 
 // A place that no book has: 30 after what the check refuses.
-pub fn no_place(answer: Checked) -> Found
+#[tactic(auto, unfolding(crate::specs::Places::no_place))]
+pub fn no_place(answer: Result<(), Refusal>) -> Result<Answer, Refusal>
     ensures { result ≡ no_place answer }
 {
-    match answer {
-        Checked::Accepted => no_answer(30),
-        Checked::Refused(refusal) => Found::Refused(refusal),
-    }
+    answer?;
+    refuse(Reason::PlaceUnknown, 0)
 }
 
 // The answer for a place of at most four whole steps.
-fn place_on(p: &[u64], m: &[u8], steps: &[u64], x: Element) -> Found
+fn place_on(p: &[u64], m: &[u8], steps: &[u64], x: Element) -> Result<Answer, Refusal>
     requires { IsPrepared p.now × Path steps.now 0 }
     ensures { result ≡ found (place_in (book_at p.now) m.now steps.now x) }
 {
     // A slice whose address is handed on is taken anew first: so its two numbers are loaded one by one, and need not
     // wait for the caller's stores.
-    let q = &p[0..];
-    let t = &m[0..];
     let path = &steps[0..];
-    match whole::enter(&q, &t, &path) {
-        Entered::Refused(refusal) => Found::Refused(refusal),
-        Entered::At {
-            block,
-            version,
-            spot,
-            ..
-        } => {
-            let Located::At(a) = places::find_place(p, block, steps, x) else {
-                return no_answer(30);
-            };
-            if spot.start == 0 {
-                return no_answer(31);
-            }
-            let depth = 4 - steps.len() / 2;
-            Found::Is(places::element_at(&q, a, depth, &t, version, spot, x))
-        }
-    }
+    let entered = whole::enter(p, m, &path)?;
+    let Some(a) = places::find_place(p, entered.block, steps, x) else {
+        return refuse(Reason::PlaceUnknown, 0);
+    };
+    let Some(spot) = entered.spot else {
+        return refuse(Reason::EntryMissing, 0);
+    };
+    let message = Message {
+        book: p,
+        octets: m,
+        version: entered.version,
+    };
+    Ok(places::element_at(&message, a, 4 - steps.len() / 2, spot, x))
 }
 
 // The answer for one place of a message. The steps hold a group's number and an entry's, by turns.
-pub fn place(p: &[u64], m: &[u8], steps: &[u64], x: Element) -> Found
+#[tactic(auto, using(crate::proofs::Places::nowhere))]
+pub fn place(p: &[u64], m: &[u8], steps: &[u64], x: Element) -> Result<Answer, Refusal>
     requires { IsPrepared p.now }
     ensures { result ≡ found (place_in (book_at p.now) m.now steps.now x) }
 {
-    if steps.len() % 2 == 1 {
-        return no_place(check(p, m));
-    }
-    if 8 < steps.len() {
+    if steps.len() % 2 == 1 || 8 < steps.len() {
         return no_place(check(p, m));
     }
     place_on(p, m, steps, x)
 }
 
-fn refuse(number: u8) -> Counted
-    ensures { result ≡ Counted.Refused (refusal number 0) }
-{
-    Counted::Refused(Refusal { number, place: 0 })
-}
-
 // Writes by the template's block at a: a pass judges the listing, and then, if there is room, a pass stores over zeros.
-fn write_by(p: &[u64], a: usize, listing: &[u64], pool: &[u8], room: &mut [u8]) -> Counted
-    requires { BlockAt p.now 4 a }
-    ensures { WritesAs (written_by (book_at p.now) (template_at p.now a) listing.now pool.now) room.old result
-        room.new }
+fn write_by(l: &Listing, a: usize, room: &mut [u8]) -> Result<usize, Refusal>
+    requires { BlockAt l.now.book.now 4 a }
+    ensures { WritesAs (written_by (book_at l.now.book.now) (template_at l.now.book.now a) l.now.numbers.now l.now.pool.now)
+        room.old result room.new }
 {
-    let q = &p[0..];
-    let l = &listing[0..];
-    let o = &pool[0..];
-    match judges::judge_listing(&q, a, &l, &o) {
-        Judged::Refused(refusal) => Counted::Refused(refusal),
-        Judged::To { length, .. } => {
-            let n = 12 + length;
-            if 65535 < n {
-                return refuse(55);
-            }
-            if room.len() < n {
-                return refuse(55);
-            }
-            writer::put_zeros(room, n);
-            writer::write_message(&q, a, &l, &o, &mut room[..n]);
-            Counted::Count(n)
-        }
+    let judged = judges::judge_listing(l, a)?;
+    let n = 12 + judged.length;
+    if 65535 < n || room.len() < n {
+        return refuse(Reason::MessageTooLong, 0);
     }
+    room[..n].fill(0);
+    writer::write_message(l, a, &mut room[..n]);
+    Ok(n)
 }
 
 // Writes the message that a listing gives for the template `id`, its starts referring to the pool: the number of
 // octets, which are stored from the room's start.
-pub fn write(p: &[u64], id: usize, listing: &[u64], pool: &[u8], room: &mut [u8]) -> Counted
+pub fn write(
+    p: &[u64],
+    id: usize,
+    listing: &[u64],
+    pool: &[u8],
+    room: &mut [u8],
+) -> Result<usize, Refusal>
     requires { IsPrepared p.now }
     ensures { WritesAs (write_in (book_at p.now) id listing.now pool.now) room.old result room.new }
 {
-    let Located::At(a) = prepared::find(p, id) else {
-        return refuse(50);
+    let Some(a) = prepared::find(p, id) else {
+        return refuse(Reason::WriteTemplateUnknown, 0);
     };
-    write_by(p, a, listing, pool, room)
+    let l = Listing {
+        book: p,
+        numbers: listing,
+        pool,
+    };
+    write_by(&l, a, room)
 }

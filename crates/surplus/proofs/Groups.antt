@@ -1,54 +1,53 @@
--- A surplus group and an entry of one, as the code takes their parts in turn.
+-- A surplus group, as the code takes its parts in turn.
 use mathlib.Core.Path.{◌∙◌, ◌≡◌, ap, refl}
 use mathlib.Core.Bool.{Bool}
 use mathlib.Core.List.{List}
-use Prim.Native.Nat.{◌*◌, ◌+◌, ◌-◌, ◌<◌, ◌≤◌, suc, zero, ℕ}
-use lib.ListN.{length}
-use borrow.Author.Tests.{le-leb, lt-leb}
-use Rattle.layout.specs.Result.{Result, ◌>>=◌, done, must, refused}
-use Rattle.layout.specs.Message.{Dimension, dimension_size, in_row, read_dimension, skip_datas, skip_entry, skip_group}
+use Prim.Native.Nat.{◌*◌, ◌+◌, ◌-◌, ◌<◌, suc, zero, ℕ}
+use Rattle.std.specs.Prelude.{Err, Ok}
+use Rattle.layout.specs.Result.{◌>>=◌, done, refused}
+use Rattle.layout.specs.Message.{dimension_size, in_row, read_dimension, skip_entry, skip_group}
+use Rattle.layout.specs.Operations.{Told, told}
 use Rattle.layout.proofs.Results.{some_left}
 use Rattle.layout.proofs.Skipped as Skipped
-use Rattle.surplus.specs.Surplus.{passed}
+use Rattle.layout.proofs.Told.{inv_ok, refused_on}
+use Rattle.surplus.specs.Surplus.{dimension_of, passed, sizes_of, skip_end}
+use Rattle.surplus.specs.declared.Sizes.{Sizes}
+use Rattle.layout.specs.declared.Refusal.{Refusal}
+use Rattle.layout.specs.declared.Reason.TheVariants.{GroupTooDeep}
+use Rattle.surplus.proofs.Rows.{rows}
 
-module _ (big : Bool) (m : List ℕ) (f : ℕ → Result ℕ) (d : Dimension) (place at : ℕ) where
-  pub entry_short : length m < at + d.length → skip_entry big m f d place at ≡ refused 16 place
-  unfolding skip_entry must ◌>>=◌
-  entry_short h = rw (lt-leb _ _ h) refl
+-- A dimension that is refused is refused at each level.
+pub not_read : (counted big : Bool) (m : List ℕ) (levels at : ℕ) (z : Refusal)
+    → ◌≡◌ {A = Told Sizes} (Err z) (told sizes_of (read_dimension counted big m at))
+    → told skip_end (skip_group counted big m levels at) ≡ Err z
+unfolding skip_group
+not_read counted big m zero at z e = refused_on sizes_of (read_dimension counted big m at) _ skip_end z e
+not_read counted big m (suc levels) at z e = refused_on sizes_of (read_dimension counted big m at) _ skip_end z e
 
-  module _ (h : at + d.length ≤ length m) where
-    pub entry_refused : (n p : ℕ) → in_row d.groups f (at + d.length) ≡ refused n p
-        → skip_entry big m f d place at ≡ refused n p
-    unfolding skip_entry must ◌>>=◌
-    entry_refused n p e = rw (le-leb _ _ h, e) refl
+module _ (counted big : Bool) (m : List ℕ) (levels at : ℕ) where
+  -- What was read is the definition's.
+  pub was_read : (s : Sizes) → Ok s ≡ told sizes_of (read_dimension counted big m at)
+      → read_dimension counted big m at ≡ done (dimension_of s)
+  was_read s e =
+      let given = inv_ok sizes_of (read_dimension counted big m at) s e in
+      rw given.is (ap (λ (z : Sizes). done (dimension_of z)) given.gives)
 
-    pub entry_datas : (x : ℕ) → in_row d.groups f (at + d.length) ≡ done x
-        → skip_entry big m f d place at ≡ skip_datas big m d.datas x
-    unfolding skip_entry must ◌>>=◌
-    entry_datas x e = rw (le-leb _ _ h, e) refl
+  pub too_deep : levels ≡ 0
+      → skip_group counted big m levels at ≡ (read_dimension counted big m at >>= λ d. refused GroupTooDeep at)
+  unfolding skip_group
+  too_deep h = rw h refl
 
-module _ (counted big : Bool) (m : List ℕ) where
-  pub group_refused : (levels at n p : ℕ) → read_dimension counted big m at ≡ refused n p
-      → skip_group counted big m levels at ≡ refused n p
-  unfolding skip_group ◌>>=◌
-  group_refused zero at n p e = rw e refl
-  group_refused (suc levels) at n p e = rw e refl
+  pub group_next : 0 < levels → skip_group counted big m levels at ≡ (read_dimension counted big m at >>= λ d.
+      in_row d.entries (skip_entry big m (skip_group counted big m (levels - 1)) d at) (at + dimension_size counted))
+  unfolding skip_group
+  group_next h =
+      ap (λ (k : ℕ). skip_group counted big m k at) (some_left h)
 
-  module _ (levels at : ℕ) (d : Dimension) (e : read_dimension counted big m at ≡ done d) where
-    pub group_too_deep : levels ≡ 0 → skip_group counted big m levels at ≡ refused 22 at
-    unfolding skip_group ◌>>=◌
-    group_too_deep h = rw (h, e) refl
+  pub group_at_once : (s : Sizes) → 0 < levels → Ok s ≡ told sizes_of (read_dimension counted big m at) → s.groups ≡ 0
+      → s.datas ≡ 0
+      → skip_group counted big m levels at ≡ passed m (s.length * s.entries) at (at + dimension_size counted)
+  group_at_once s h e g n =
+      ap (λ (k : ℕ). skip_group counted big m k at) (some_left h)
+      ∙ Skipped.group_at_once big m counted (levels - 1) at _ (was_read s e) g n
 
-    module _ (h : 0 < levels) where
-      level : skip_group counted big m levels at ≡ skip_group counted big m (suc (levels - 1)) at
-      level = ap (λ (k : ℕ). skip_group counted big m k at) (some_left h)
-
-      pub group_entries : skip_group counted big m levels at
-          ≡ in_row d.entries (skip_entry big m (skip_group counted big m (levels - 1)) d at)
-          (at + dimension_size counted)
-      unfolding skip_group ◌>>=◌
-      group_entries = level ∙ rw e refl
-
-      pub group_at_once : d.groups ≡ 0 → d.datas ≡ 0
-          → skip_group counted big m levels at ≡ passed m (d.length * d.entries) at (at + dimension_size counted)
-      group_at_once g n = level ∙ Skipped.group_at_once big m counted (levels - 1) at d e g n
+pub ruleset groups = (was_read, too_deep, group_next, group_at_once, rows)

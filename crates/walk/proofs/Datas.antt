@@ -1,25 +1,25 @@
--- Data in a row: one law for each way that reading them ends or goes on.
-use mathlib.Core.Path.{◌≡◌, refl, ap}
-use mathlib.Core.Bool.{Bool, false, true}
+-- Data in a row, of which some were passed.
+use mathlib.Core.Path.{◌≡◌, ◌∙◌, ap, refl, sym}
+use mathlib.Core.Bool.{Bool}
 use mathlib.Core.List.{List, [], ◌∷◌}
-use Prim.Native.Nat.{ℕ, ◌+◌, ◌-◌, ◌≤◌, ◌<◌}
+use Prim.Native.Nat.{ℕ, suc, ◌+◌, ◌-◌, ◌*◌, ◌≤◌, ◌<◌}
 use native.Mathlib.Omega.{arith}
-use lib.Dec.{leb, ltb}
-use borrow.Author.Tests.{ltb-false, ltb-true}
-use Rattle.layout.specs.Result.{Result, done, when◌then◌else◌, ◌>>=◌}
+use lib.Dec.{leb}
+use lib.ListN.{length}
+use Rattle.std.specs.Prelude.{Ok}
+use Rattle.layout.specs.Result.{Result, ◌>>=◌, done, when◌then◌else◌}
 use Rattle.layout.specs.Book.{Data}
 use Rattle.layout.specs.BookRules.{parse_datas}
+use Rattle.layout.specs.Operations.{told}
 use Rattle.layout.specs.Message.{in_row, read_data, read_datas, skip_datas}
 use Rattle.layout.specs.declared.Answer.{Answer}
 use Rattle.layout.specs.declared.Answer.TheVariants.{Absent}
-use Rattle.layout.specs.declared.Refusal.{Refusal}
-use Rattle.wire.specs.Walks.{walked, data_end}
-use Rattle.wire.specs.declared.Walked.TheVariants.{To, Refused}
-use Rattle.wire.proofs.Answers.{refused_on}
-use Rattle.walk.specs.Walks.{data_at, data_or, datas_end}
-use Rattle.walk.proofs.Ways.{reached, then_to, told}
+use Rattle.layout.proofs.Accepted.{datas_length_lem}
+use Rattle.layout.proofs.Told.{inv_ok, tells}
+use Rattle.layout.proofs.Results.{bind_assoc, bind_done, done_inj, inv_bind, inv_both, one_less, some_left}
+use Rattle.wire.proofs.Steps.{steps}
+use Rattle.walk.specs.Walks.{after_datas, data_at, datas_end}
 use Rattle.walk.proofs.Surplus.{and_skip, skip_first}
-use Rattle.layout.proofs.Results.{bind_assoc, bind_done, none_left, one_less, some_left}
 
 -- The n data at a of the prepared numbers p, and s surplus ones.
 module _ (big : Bool) (m : List ℕ) (v : ℕ) (p : List ℕ) (s : ℕ) where
@@ -32,90 +32,43 @@ module _ (big : Bool) (m : List ℕ) (v : ℕ) (p : List ℕ) (s : ℕ) where
   unfolding read_datas parse_datas
   datas_step n a at h = rw (some_left h, one_less) refl
 
-  module _ (seen n a at : ℕ) (h : 0 < n) where
-    pub datas_refused : (z : Refusal) → Refused z ≡ walked data_end (data_at p a big m v at)
-        → walked (datas_end seen) (datas_at n a at) ≡ Refused z
-    datas_refused z e = rw (datas_step n a at h) (refused_on _ data_end _ _ z e)
+-- Of n data at a and then s surplus ones i were passed.
+module _ (big : Bool) (m : List ℕ) (v : ℕ) (p : List ℕ) (n s a : ℕ) where
+  unfoldable pub datas_left : ℕ → ℕ → Result (List Answer × ℕ)
+  datas_left i at = read_datas big m v (parse_datas p (n - i) (a + 2 * i)) (s - (i - n)) at
 
-    pub datas_next : (x k : ℕ) → To x k ≡ walked data_end (data_at p a big m v at)
-        → walked (datas_end seen) (datas_at n a at) ≡ walked (datas_end (seen + 1)) (datas_at (n - 1) (a + 2) x)
-    datas_next x k e =
-        rw (datas_step n a at h)
-        (then_to _ data_end x k e _ _ _ λ d p' q.
-        rw p' (told _ _ _ _ λ r. ap (λ (i : ℕ). (r.1, i)) (omega arith)))
+  pub datas_all : (at : ℕ) → datas_left 0 at ≡ read_datas big m v (parse_datas p n a) s at
+  unfolding datas_left
+  datas_all at =
+      let all : n - 0 ≡ n = omega arith in
+      let over : s - (0 - n) ≡ s = omega arith in
+      let from : a + 2 * 0 ≡ a = omega arith in
+      rw (all, over, from) refl
 
--- ---- none of the book's own are left, and n surplus ones
+  module _ (i at : ℕ) where
+    pub datas_done : n + s ≤ i → datas_left i at ≡ done ([], at)
+    unfolding datas_left read_datas parse_datas in_row ◌>>=◌
+    datas_done h =
+        let none : n - i ≡ 0 = omega arith in
+        let over : s - (i - n) ≡ 0 = omega arith in
+        rw (none, over) refl
 
-module _ (big : Bool) (m : List ℕ) (v : ℕ) (p : List ℕ) (seen n a at : ℕ) where
-  datas_left_lem : datas_at big m v p n 0 a at ≡ (skip_datas big m n at >>= λ x. done ([], x))
-  unfolding read_datas parse_datas
-  datas_left_lem = refl
+    pub data_own : i < n → datas_left i at
+        ≡ (data_at p (a + 2 * i) big m v at >>= λ d. datas_left (i + 1) d.1 >>= λ r. done (d.0 ∷ r.0, r.1))
+    unfolding datas_left read_datas parse_datas
+    data_own h =
+        let some : n - i ≡ suc (n - (i + 1)) = omega arith in
+        let over : s - (i + 1 - n) ≡ s - (i - n) = omega arith in
+        let from : a + 2 * (i + 1) ≡ a + 2 * i + 2 = omega arith in
+        rw (some, over, from) refl
 
-  pub datas_done : n ≤ 0 → walked (datas_end seen) (datas_at big m v p n 0 a at) ≡ To at seen
-  unfolding in_row ◌>>=◌
-  datas_done h = rw (datas_left_lem, none_left h) (reached (datas_end seen) _ refl (omega arith))
-
-  module _ (h : 0 < n) where
-    surplus_step : datas_at big m v p n 0 a at ≡ (read_data big m at >>= λ d. datas_at big m v p (n - 1) 0 a d.1)
-    unfolding in_row read_datas parse_datas
-    surplus_step = rw (some_left h, one_less) (simp (bind_assoc, bind_done) refl)
-
-    pub surplus_refused : (z : Refusal) → Refused z ≡ walked data_end (read_data big m at)
-        → walked (datas_end seen) (datas_at big m v p n 0 a at) ≡ Refused z
-    surplus_refused z e = rw surplus_step (refused_on _ data_end _ _ z e)
-
-    pub surplus_next : (x k b : ℕ) → To x k ≡ walked data_end (read_data big m at)
-        → walked (datas_end seen) (datas_at big m v p n 0 a at) ≡ walked (datas_end seen) (datas_at big m v p (n - 1) 0 b x)
-    unfolding read_datas parse_datas
-    surplus_next x k b e = rw surplus_step (then_to _ data_end x k e _ _ _ λ d q r. rw q refl)
-
--- ---- of `left` data the last s are surplus
-
-one_own : (left s : ℕ) → s < left → (left - 1 - s ≡ left - s - 1) × (left - 1 - (left - s - 1) ≡ left - (left - s))
-    × (left - s - (left - s - 1) ≡ 1)
-one_own left s h = (omega arith, omega arith, omega arith)
-
-module _ (big : Bool) (m : List ℕ) (v : ℕ) (p : List ℕ) (s : ℕ) where
-  abbrev pub datas_left : ℕ → ℕ → ℕ → Result (List Answer × ℕ)
-  datas_left left a at = datas_at big m v p (left - (left - s)) (left - s) a at
-
-  module _ (seen left a at : ℕ) where
-    pub datas_over : left ≤ 0 → walked (datas_end seen) (datas_left left a at) ≡ To at seen
-    datas_over h =
-        let none : left - s ≡ 0 = omega arith in
-        let all : left - 0 ≡ left = omega arith in
-        rw (none, all) (datas_done big m v p seen left a at h)
-
-    module _ (h : 0 < left) where
-      pub datas_over_refused : (own : Bool) → ltb s left ≡ own → (z : Refusal)
-          → Refused z ≡ walked data_end (data_or own p a big m v at)
-          → walked (datas_end seen) (datas_left left a at) ≡ Refused z
-      unfolding when◌then◌else◌
-      datas_over_refused true t z e =
-          let some-own : s < left = ltb-true s left t in
-          datas_refused big m v p _ seen (left - s) a at (omega arith) z e
-      datas_over_refused false t z e =
-          let none : left - s ≡ 0 = omega (arith, ltb-false s left t) in
-          let all : left - 0 ≡ left = omega arith in
-          rw (none, all) (surplus_refused big m v p seen left a at h z e)
-
-      pub datas_over_next : (own : Bool) → ltb s left ≡ own → (x k : ℕ)
-          → To x k ≡ walked data_end (data_or own p a big m v at)
-          → walked (datas_end seen) (datas_left left a at)
-          ≡ walked (datas_end (seen + (left - s - (left - 1 - s)))) (datas_left (left - 1) (a + 2) x)
-      unfolding when◌then◌else◌
-      datas_over_next true t x k e =
-          let some-own : s < left = ltb-true s left t in
-          let one = one_own left s some-own in
-          rw (one.0, one.1, one.2) (datas_next big m v p _ seen (left - s) a at (omega arith) x k e)
-      datas_over_next false t x k e =
-          let last : left ≤ s = ltb-false s left t in
-          let none : left - s ≡ 0 = omega arith in
-          let none' : left - 1 - s ≡ 0 = omega arith in
-          let all : left - 0 ≡ left = omega arith in
-          let all' : left - 1 - 0 ≡ left - 1 = omega arith in
-          let no_more : seen + (0 - 0) ≡ seen = omega arith in
-          rw (none, none', all, all', no_more) (surplus_next big m v p seen left a at h x k (a + 2) e)
+    pub data_over : n ≤ i → i < n + s → datas_left i at ≡ (read_data big m at >>= λ d. datas_left (i + 1) d.1)
+    unfolding datas_left read_datas parse_datas in_row
+    data_over h k =
+        let none : n - i ≡ 0 = omega arith in
+        let none' : n - (i + 1) ≡ 0 = omega arith in
+        let some : s - (i - n) ≡ suc (s - (i + 1 - n)) = omega arith in
+        rw (none, none', some) (simp (bind_assoc, bind_done) refl)
 
 -- ---- surplus data come after the row
 
@@ -127,3 +80,25 @@ module _ (big : Bool) (m : List ℕ) (n : ℕ) where
   datas_surplus v (d ∷ ds) at =
       skip_first (skip_datas big m n) (when leb d.since v then read_data big m at else done (Absent, at)) (λ a. a.1)
       (λ a rest. a.0 ∷ rest) (read_datas big m v ds n) (read_datas big m v ds 0) (λ x. datas_surplus v ds x)
+
+-- ---- as many are read as there are
+
+pub datas_length : (big : Bool) (m : List ℕ) (v : ℕ) (ds : List Data) (n at : ℕ) (r : List Answer × ℕ)
+    → read_datas big m v ds n at ≡ done r → length r.0 ≡ length ds
+unfolding read_datas
+datas_length big m v [] n at r e = ap (λ (x : List Answer × ℕ). length x.0) (sym (done_inj (inv_bind _ _ _ e).next))
+datas_length big m v (d ∷ ds) n at r e =
+    let a = inv_both _ _ _ _ e in
+    ap (λ (x : List Answer × ℕ). length x.0) (sym a.is) ∙ ap suc (datas_length big m v ds n _ a.other a.second)
+
+-- Where their octet is told, so is their number.
+pub datas_told : (big : Bool) (m : List ℕ) (v : ℕ) (p : List ℕ) (n a s at x : ℕ)
+    → Ok x ≡ told after_datas (read_datas big m v (parse_datas p n a) s at)
+    → told (datas_end 0) (read_datas big m v (parse_datas p n a) s at) ≡ Ok (x, n)
+datas_told big m v p n a s at x e =
+    let g = inv_ok after_datas (read_datas big m v (parse_datas p n a) s at) x e in
+    let many : 0 + length g.value.0 ≡ n =
+    omega (arith, datas_length big m v (parse_datas p n a) s at g.value g.is, datas_length_lem p n a) in
+    tells (datas_end 0) g.is ∙ rw (g.gives, many) refl
+
+pub ruleset datas = (datas_all, datas_done, data_own, data_over, steps)

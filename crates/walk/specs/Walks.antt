@@ -1,7 +1,8 @@
 -- What walking a part of a message by a prepared book comes to: the definition's answer at places of the book, and how
 -- far and how many it can be.
-use Rattle.std.specs.Prelude.{Bool, List, ℕ, ◌+◌, ◌*◌, ◌<◌, ◌≤◌, leb, length}
+use Rattle.std.specs.Prelude.{Bool, List, ℕ, ◌+◌, ◌*◌, ◌≤◌, leb, length, Ok, Err}
 use Rattle.layout.specs.Result.{Result, done, when◌then◌else◌}
+use Rattle.layout.specs.Operations.{Told, told}
 use Rattle.layout.specs.BookRules.{word}
 use Rattle.layout.specs.Values.{Values, measure}
 use Rattle.layout.specs.Message.{Entry, read_block, read_data, read_entries, read_groups}
@@ -9,10 +10,8 @@ use Rattle.layout.specs.declared.Answer.{Answer}
 use Rattle.layout.specs.declared.Answer.TheVariants.{Absent}
 use Rattle.layout.specs.Book.{Groups, Shape}
 use Rattle.prepared.specs.Positions.{groups_at, inner_at, is_big, is_counted, shape_at, version_at}
-use Rattle.counts.specs.Groups.{datas_in, groups_in, limit}
 use Rattle.counts.specs.declared.Entries.{Entries}
-use Rattle.wire.specs.declared.Walked.{Walked}
-use Rattle.wire.specs.declared.Walked.TheVariants.{To, Refused}
+use Rattle.walk.specs.declared.Walked.{Walked}
 
 -- ---- the definitions at places of the prepared numbers p
 
@@ -31,13 +30,14 @@ module _ (p : List ℕ) (depth a : ℕ) (m : List ℕ) (v : ℕ) where
 
   -- Those that a dimension says.
   abbrev pub entries_at : Entries → ℕ → Result (Values × ℕ)
-  entries_at e at = entries_by (groups_in e.surplus) (datas_in e.surplus) e.length e.count at
+  entries_at e at = entries_by e.surplus.groups e.surplus.datas e.length e.count at
 
--- Their numbers are of 16 bits, and the surplus as one number of 32.
+-- Their numbers are of 16 bits.
 pub record Small (e : Entries) : Type 0 where
   pub short : e.length ≤ 65535
   pub few : e.count ≤ 65535
-  pub less : e.surplus < limit
+  pub few_groups : e.surplus.groups ≤ 65535
+  pub few_datas : e.surplus.datas ≤ 65535
 
 -- The data whose numbers stand at a.
 abbrev pub data_at : List ℕ → ℕ → Bool → List ℕ → ℕ → ℕ → Result (Answer × ℕ)
@@ -51,6 +51,10 @@ data_or own p a big m v at = when own then data_at p a big m v at else read_data
 abbrev pub row_at : List ℕ → ℕ → ℕ → ℕ → List ℕ → ℕ → ℕ → ℕ → Result (Values × ℕ)
 row_at p depth n a m v surplus at = groups_by p m v (groups_at p depth n a) depth surplus at
 
+-- The octet after data.
+abbrev pub after_datas : List Answer × ℕ → ℕ
+after_datas (ds, x) = x
+
 -- ---- where each ends and how many records it has, `seen` having been counted before
 
 abbrev pub datas_end : ℕ → List Answer × ℕ → ℕ × ℕ
@@ -62,6 +66,10 @@ entry_end (fs, gs, ds, x) = (x, length fs + (measure gs + length ds))
 abbrev pub values_end : ℕ → Values × ℕ → ℕ × ℕ
 values_end seen (r, x) = (x, seen + measure r)
 
+-- `end` gives the octet after what was read, and the number of its records.
+abbrev pub walked : {A : Type 0} → (A → ℕ × ℕ) → Result A → Told Walked
+walked end = told (λ a. record { next = (end a).0; records = (end a).1 })
+
 -- ---- how far, and how many
 
 -- A dimension has 4 octets and at most 65,535 entries with at most 96 records of their own each: so many for an octet.
@@ -69,6 +77,6 @@ abbrev pub rate : ℕ
 rate = 1572840
 
 -- It leads on, not past the end; it has at most `own` records, and those that octets are used for.
-unfoldable pub Bounded : List ℕ → ℕ → ℕ → Walked → Type 0
-Bounded m at own (To x k) = (at ≤ x) × (x ≤ length m) × (k + rate * at ≤ own + rate * x)
-Bounded m at own (Refused r) = Unit {0}
+unfoldable pub Bounded : List ℕ → ℕ → ℕ → Told Walked → Type 0
+Bounded m at own (Ok w) = (at ≤ w.next) × (w.next ≤ length m) × (w.records + rate * at ≤ own + rate * w.next)
+Bounded m at own (Err z) = Unit {0}

@@ -2,256 +2,200 @@
 // have, or the first refusal.
 #![tactic(auto)]
 
-ghost use Rattle.std.specs.Prelude.{◌≡◌, true, ◌+◌, ◌*◌, ◌^◌, ◌<◌, ◌≤◌, length, ltb};
-ghost use Rattle.layout.specs.Result.{◌and◌};
+ghost use Rattle.std.specs.Prelude.{◌≡◌, true, ◌+◌, ◌*◌, ◌^◌, ◌<◌, ◌≤◌, length, IfOk, Ok};
+ghost use Rattle.layout.specs.Operations.{told};
 ghost use Rattle.layout.specs.BookRules.{parse_datas, word};
 ghost use Rattle.layout.specs.Message.{read_datas};
-ghost use Rattle.prepared.specs.Positions.{BlockAt, IsRow};
-ghost use Rattle.wire.specs.Walks.{Inside, Lent, data_end, walked};
-ghost use Rattle.walk.specs.Walks.{Bounded, Small, data_or, datas_end, entries_at, row_at, values_end};
+ghost use Rattle.prepared.specs.Positions.{BlockAt, IsRow, is_big, is_counted};
+ghost use Rattle.wire.specs.Walks.{Inside, Lent, data_end};
+ghost use Rattle.walk.specs.Walks.{Bounded, Small, after_datas, data_or, datas_end, entries_at, row_at, values_end, walked};
 
-use counts::{Entries, Opened};
-use prepared::number;
-use wire::Walked;
+use counts::Entries;
+use layout::{Reason, Refusal, refuse};
+use prepared::{Message, number};
+use surplus::Sent;
 
-// Whether a data is the book's own, its numbers standing at d, and absent at version v.
-fn is_absent(p: &[u64], d: usize, own: bool, v: usize) -> bool
-    requires { own ≡ true → d + 2 ≤ length p.now }
-    ensures { result ≡ (own and ltb v (word p.now (d + 1))) }
-{
-    if own {
-        return v < number(p, d + 1);
-    }
-    false
+// What walking groups comes to: the octet after them, and how many records they have.
+#[derive(Clone, Copy)]
+pub struct Walked {
+    pub next: usize,
+    pub records: usize,
 }
 
-// It, if it is the book's own, and without octets where it is absent; or a surplus one.
-fn pass_data(p: &[u64], d: usize, own: bool, big: bool, m: &[u8], v: usize, at: usize) -> Walked
-    requires { (own ≡ true → d + 2 ≤ length p.now) × (at ≤ length m.now) }
-    ensures value { result ≡ walked data_end (data_or own p.now d big m.now v at) }
-    ensures inside { Inside (length m.now) at result }
+// Its octets, and what its book says of the numbers in them.
+pub fn sent<'a>(m: &Message<'a>) -> Sent<'a>
+    requires { 5 < length m.now.book.now }
+    ensures octets { result.octets.now ≡ m.now.octets.now }
+    ensures big { result.big ≡ is_big m.now.book.now }
+    ensures counted { result.counted ≡ is_counted m.now.book.now }
 {
-    if is_absent(p, d, own, v) {
-        return Walked::To {
-            next: at,
-            records: 1,
-        };
+    Sent {
+        octets: m.octets,
+        big: prepared::is_big(m.book),
+        counted: prepared::is_counted(m.book),
     }
-    wire::read_data(big, m, at)
 }
 
-// The n data at place `from`, and then surplus ones.
+// The octet after a data: the book's own, whose numbers stand at d and which has no octets where it is absent, or a surplus
+// one.
+#[tactic(auto, using(wire::proofs::Steps::steps), unfolding(crate::proofs::Ways::walks))]
+fn pass_data(m: &Message, d: usize, own: bool, big: bool, at: usize) -> Result<usize, Refusal>
+    requires { (own ≡ true → d + 2 ≤ length m.now.book.now) × (at ≤ length m.now.octets.now) }
+    ensures value { result ≡ told data_end (data_or own m.now.book.now d big m.now.octets.now m.now.version at) }
+    ensures inside { Inside (length m.now.octets.now) at result }
+{
+    if own && m.version < number(m.book, d + 1) {
+        return Ok(at);
+    }
+    wire::read_data(big, m.octets, at)
+}
+
+// The octet after the n data at place `from` and then surplus ones.
+#[tactic(auto, using(crate::proofs::Datas::datas), unfolding(crate::proofs::Ways::walks))]
 pub fn walk_datas(
-    p: &[u64],
+    m: &Message,
     from: usize,
     n: usize,
     surplus: usize,
     big: bool,
-    m: &[u8],
-    v: usize,
     start: usize,
-) -> Walked
-    requires { (from + 2 * n ≤ length p.now) × (length p.now ≤ 65535) × (n ≤ 16) × (surplus ≤ 65535)
-        × Lent m.now start }
-    ensures value { result ≡ walked (datas_end 0) (read_datas big m.now v (parse_datas p.now n from)
-        surplus start) }
-    ensures bounded { Bounded m.now start 16 result }
+) -> Result<usize, Refusal>
+    requires { (from + 2 * n ≤ length m.now.book.now) × (length m.now.book.now ≤ 65535) × (n ≤ 16) × (surplus ≤ 65535)
+        × Lent m.now.octets.now start }
+    ensures value { result ≡ told after_datas (read_datas big m.now.octets.now m.now.version
+        (parse_datas m.now.book.now n from) surplus start) }
+    ensures records { IfOk result (λ next. told (datas_end 0) (read_datas big m.now.octets.now m.now.version
+        (parse_datas m.now.book.now n from) surplus start) ≡ Ok (next, n)) }
+    ensures inside { Inside (length m.now.octets.now) start result }
 {
-    let mut left = n + surplus;
-    let mut d = from;
     let mut at = start;
-    while 0 < left {
-        let data = pass_data(p, d, surplus < left, big, m, v, at);
-        let Walked::To { next, .. } = data else {
-            return data;
-        };
-        at = next;
-        d = d + 2;
-        left = left - 1;
+    for i in 0..n + surplus {
+        at = pass_data(m, from + 2 * i, i < n, big, at)?;
     }
-    Walked::To {
-        next: at,
-        records: n,
-    }
-}
-
-// So many records, and an entry's: its fields, those of its groups, its data.
-fn total(seen: usize, fields: usize, groups: usize, datas: usize) -> usize
-    requires { seen + fields + groups + datas < 2 ^ 64 }
-    ensures { result ≡ seen + fields + groups + datas }
-{
-    seen + fields + groups + datas
+    Ok(at)
 }
 
 // The entries of the block at a, `depth` more levels being left.
 #[cycle(pass_row_walk_entries_walk_row)]
+#[tactic(auto, using(crate::proofs::Entries::entries), unfolding(crate::proofs::Ways::walks))]
 pub fn walk_entries(
-    p: &&[u64],
+    m: &Message,
     a: usize,
     depth: usize,
-    m: &&[u8],
-    v: usize,
     entries: Entries,
     start: usize,
-) -> Walked
-    requires { BlockAt p.now.now depth a × Lent m.now.now start × Small entries }
-    ensures value { result ≡ walked (values_end 0) (entries_at p.now.now depth a m.now.now v entries
+) -> Result<Walked, Refusal>
+    requires { BlockAt m.now.book.now depth a × Lent m.now.octets.now start × Small entries }
+    ensures value { result ≡ walked (values_end 0) (entries_at m.now.book.now depth a m.now.octets.now m.now.version entries
         start) }
-    ensures bounded { Bounded m.now.now start (96 * entries.count) result }
+    ensures bounded { Bounded m.now.octets.now start (96 * entries.count) result }
 {
-    let s = *p;
-    let t = *m;
+    let p = m.book;
+    let t = m.octets;
     let l = entries.length;
     let k = entries.count;
-    let fields = number(s, a + 3);
-    if number(s, a + 7) + entries.surplus == 0 {
+    let over = entries.surplus;
+    let fields = number(p, a + 3);
+    if number(p, a + 7) + over.groups + over.datas == 0 {
         if l * k <= t.len() - start {
-            return Walked::To {
+            return Ok(Walked {
                 next: start + l * k,
                 records: fields * k,
-            };
+            });
         }
     }
-    let big = prepared::is_big(s);
-    let groups = counts::groups_in(entries.surplus);
-    let datas = counts::datas_in(entries.surplus);
-    let mut due = k;
+    let datas = number(p, a + 5);
+    let big = prepared::is_big(p);
     let mut at = start;
     let mut seen = 0;
-    while 0 < due {
+    for _ in 0..k {
         if t.len() - at < l {
-            return wire::refuse(16, at);
+            return refuse(Reason::PastTheEnd, at);
         }
         let row = pass_row(
-            p,
-            number(s, a + 9),
-            number(s, a + 4),
-            depth,
             m,
-            v,
-            groups,
+            number(p, a + 9),
+            number(p, a + 4),
+            depth,
+            over.groups,
             at + l,
-        );
-        let Walked::To { next, records } = row else {
-            return row;
-        };
-        let rest = walk_datas(
-            s,
-            number(s, a + 10),
-            number(s, a + 5),
-            datas,
-            big,
-            t,
-            v,
-            next,
-        );
-        let Walked::To {
-            next: end,
-            records: more,
-        } = rest
-        else {
-            return rest;
-        };
-        at = end;
-        seen = total(seen, fields, records, more);
-        due = due - 1;
+        )?;
+        at = walk_datas(m, number(p, a + 10), datas, over.datas, big, row.next)?;
+        seen += fields + row.records + datas;
     }
-    Walked::To {
+    Ok(Walked {
         next: at,
         records: seen,
-    }
+    })
 }
 
 // The n groups in a row at place `first` and then surplus ones, `depth` more levels being left. Most rows have none,
 // and then the loop is not called.
 #[cycle(pass_row_walk_entries_walk_row)]
+#[tactic(auto, using(crate::proofs::Rows::rows), unfolding(crate::proofs::Ways::walks))]
 #[inline(always)]
 pub fn pass_row(
-    p: &&[u64],
+    m: &Message,
     first: usize,
     n: usize,
     depth: usize,
-    m: &&[u8],
-    v: usize,
     surplus: usize,
     start: usize,
-) -> Walked
-    requires { IsRow p.now.now depth n first × Lent m.now.now start × (n ≤ 16) × (surplus ≤ 65535)
-        × (5 < length p.now.now) }
-    ensures value { result ≡ walked (values_end 0) (row_at p.now.now depth n first m.now.now v
+) -> Result<Walked, Refusal>
+    requires { IsRow m.now.book.now depth n first × Lent m.now.octets.now start × (n ≤ 16) × (surplus ≤ 65535)
+        × (5 < length m.now.book.now) }
+    ensures value { result ≡ walked (values_end 0) (row_at m.now.book.now depth n first m.now.octets.now m.now.version
         surplus start) }
-    ensures bounded { Bounded m.now.now start n result }
+    ensures bounded { Bounded m.now.octets.now start n result }
 {
     if n + surplus == 0 {
-        return Walked::To {
+        return Ok(Walked {
             next: start,
             records: 0,
-        };
+        });
     }
-    walk_row(p, first, n, depth, m, v, surplus, start)
+    walk_row(m, first, n, depth, surplus, start)
 }
 
 // The same, by a loop over the groups.
 #[cycle(pass_row_walk_entries_walk_row)]
+#[tactic(auto, using(crate::proofs::Rows::rows), unfolding(crate::proofs::Ways::walks))]
 pub fn walk_row(
-    p: &&[u64],
+    m: &Message,
     first: usize,
     n: usize,
     depth: usize,
-    m: &&[u8],
-    v: usize,
     surplus: usize,
     start: usize,
-) -> Walked
-    requires { IsRow p.now.now depth n first × Lent m.now.now start × (n ≤ 16) × (surplus ≤ 65535)
-        × (5 < length p.now.now) }
-    ensures value { result ≡ walked (values_end 0) (row_at p.now.now depth n first m.now.now v
+) -> Result<Walked, Refusal>
+    requires { IsRow m.now.book.now depth n first × Lent m.now.octets.now start × (n ≤ 16) × (surplus ≤ 65535)
+        × (5 < length m.now.book.now) }
+    ensures value { result ≡ walked (values_end 0) (row_at m.now.book.now depth n first m.now.octets.now m.now.version
         surplus start) }
-    ensures bounded { Bounded m.now.now start n result }
+    ensures bounded { Bounded m.now.octets.now start n result }
 {
-    let s = *p;
-    let t = *m;
+    let p = m.book;
     let mut a = first;
-    let mut left = n;
     let mut at = start;
     let mut seen = 0;
-    while 0 < left {
-        prepared::open_row(s, a, left, depth);
-        left = left - 1;
-        seen = seen + 1;
-        if v < number(s, a + 1) {
-            a = number(s, a + 8);
+    for left in (1..=n).rev() {
+        prepared::open_row(p, a, left, depth);
+        let block = a;
+        a = number(p, block + 8);
+        seen += 1;
+        if m.version < number(p, block + 1) {
             continue;
         }
-        match counts::open_group(p, a, depth - 1, m, v, prepared::need(s, a, v), at) {
-            Opened::Refused(refusal) => {
-                return Walked::Refused(refusal);
-            }
-            Opened::Of(entries) => {
-                let inside = at + prepared::dimension_size(s);
-                let walked = walk_entries(p, a, depth - 1, m, v, entries, inside);
-                let Walked::To { next, records } = walked else {
-                    return walked;
-                };
-                a = number(s, a + 8);
-                at = next;
-                seen = seen + records;
-            }
-        }
+        let need = prepared::need(p, block, m.version);
+        let entries = counts::open_group(m, block, depth - 1, need, at)?;
+        let inside = at + prepared::dimension_size(p);
+        let walked = walk_entries(m, block, depth - 1, entries, inside)?;
+        at = walked.next;
+        seen += walked.records;
     }
-    let others = surplus::skip_groups(
-        prepared::is_counted(s),
-        prepared::is_big(s),
-        t,
-        depth,
-        surplus,
-        at,
-    );
-    let Walked::To { next, .. } = others else {
-        return others;
-    };
-    Walked::To {
+    let next = surplus::skip_groups(&sent(m), depth, surplus, at)?;
+    Ok(Walked {
         next,
         records: seen,
-    }
+    })
 }

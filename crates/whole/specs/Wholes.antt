@@ -1,7 +1,7 @@
 -- The whole message by prepared numbers p.
-use Rattle.std.specs.Prelude.{List, [], ◌∷◌, map, ℕ, ◌+◌, ◌*◌, ◌≤◌, eqb, leb, length}
-use Rattle.layout.specs.Result.{Result, done, refused, must, ◌>>=◌}
-use Rattle.layout.specs.Operations.{refusal}
+use Rattle.std.specs.Prelude.{List, [], ◌∷◌, map, ℕ, ◌+◌, ◌*◌, ◌≤◌, eqb, leb, length, Option, Ok, Err}
+use Rattle.layout.specs.Result.{Result, done, must, ◌>>=◌}
+use Rattle.layout.specs.Operations.{Told}
 use Rattle.layout.specs.Message.{block_length, header_size, read_datas, read_field, version_of}
 use Rattle.layout.specs.Reading.{steps_of}
 use Rattle.layout.specs.Values.{Values, entry, measure, nil}
@@ -11,17 +11,16 @@ use Rattle.walk.specs.Walks.{rate, row_at}
 use Rattle.places.specs.Spots.{spot_in}
 use Rattle.places.specs.declared.Spot.{Spot}
 use Rattle.messages.specs.Openings.{open_at}
-use Rattle.whole.specs.declared.Entered as Entered
 use Rattle.whole.specs.declared.Entered.{Entered}
-use Rattle.whole.specs.declared.Root as Root
 use Rattle.whole.specs.declared.Root.{Root}
+use Rattle.layout.specs.declared.Reason.TheVariants.{OctetsLeftOver, PastTheEnd}
 
 -- ---- the root block
 
 -- Its l octets are there, and then its groups, g surplus ones with them.
 unfoldable pub root_at : List ℕ → ℕ → List ℕ → ℕ → ℕ → ℕ → Result (Values × ℕ)
 root_at p a m v l g = do
-  _ ← must (leb (header_size + l) (length m)) 16 header_size
+  _ ← must (leb (header_size + l) (length m)) PastTheEnd header_size
   row_at p 4 (many_groups p a) (groups_from p a) m v g (header_size + l)
 
 -- The records of a row, where no path is to be followed.
@@ -33,27 +32,26 @@ records_in (g ∷ path) r = 0
 abbrev pub root_spot : ℕ → ℕ → Spot
 root_spot l g = record { start = header_size; length = l; groups = g }
 
-abbrev pub spot_at : List ℕ → ℕ → List ℕ → ℕ → ℕ → ℕ → List ℕ → Spot
-spot_at p a m v l g path = spot_in p m v (steps_of path) (inner_at p 4 a) 4 (root_spot l g)
+abbrev pub spot_at : List ℕ → ℕ → List ℕ → ℕ → Spot → List ℕ → Option Spot
+spot_at p a m v root path = spot_in p m v (steps_of path) (inner_at p 4 a) 4 root
 
-unfoldable pub rooted : List ℕ → Spot → Result (Values × ℕ) → Root
-rooted path s (done r) = Root.TheVariants.To r.1 (records_in path r.0) s
-rooted path s (refused n q) = Root.TheVariants.Refused (refusal n q)
+abbrev pub rooted : List ℕ → Option Spot → Values × ℕ → Root
+rooted path s r = record { next = r.1; records = records_in path r.0; spot = s }
 
 -- More records than the groups of any message have.
 abbrev pub most : ℕ
 most = 16 + rate * 65535
 
 -- It does not lead past the end, nor count more than that.
-unfoldable pub Ends : List ℕ → Root → Type 0
-Ends m (Root.TheVariants.To x k s) = (x ≤ length m) × (k ≤ most)
-Ends m (Root.TheVariants.Refused z) = Unit {0}
+unfoldable pub Ends : List ℕ → Told Root → Type 0
+Ends m (Ok r) = (r.next ≤ length m) × (r.records ≤ most)
+Ends m (Err z) = Unit {0}
 
 -- What follows the groups of the root block at a: its data, k surplus data, and the message's end.
 unfoldable pub rest_at : List ℕ → ℕ → List ℕ → ℕ → ℕ → ℕ → Result (List Answer × ℕ)
 rest_at p a m v k at = do
   (ds, y) ← read_datas (is_big p) m v (shape_at p a).datas k at
-  _ ← must (eqb y (length m)) 20 y
+  _ ← must (eqb y (length m)) OctetsLeftOver y
   done (ds, y)
 
 abbrev pub rest_end : List Answer × ℕ → ℕ × ℕ
@@ -69,16 +67,16 @@ whole_at p m = do
   (ds, y) ← rest_at p a m (version_of (is_big p) m) d x
   done (a, g, gs, ds)
 
-unfoldable pub entered : List ℕ → List ℕ → List ℕ → Result (ℕ × ℕ × Values × List Answer) → Entered
-entered p m path (done (a, g, gs, ds)) =
-    let s = spot_at p a m (version_of (is_big p) m) (block_length (is_big p) m) g path in
-    Entered.TheVariants.At a (version_of (is_big p) m) (records_in path gs) s
-entered p m path (refused n q) = Entered.TheVariants.Refused (refusal n q)
+abbrev pub entered : List ℕ → List ℕ → List ℕ → ℕ × ℕ × Values × List Answer → Entered
+entered p m path (a, g, gs, ds) =
+    let v = version_of (is_big p) m in
+    let s = spot_at p a m v (root_spot (block_length (is_big p) m) g) path in
+    record { block = a; version = v; records = records_in path gs; spot = s }
 
 -- The records of its groups are not too many.
-unfoldable pub Few : Entered → Type 0
-Few (Entered.TheVariants.At a v k s) = k ≤ most
-Few (Entered.TheVariants.Refused z) = Unit {0}
+unfoldable pub Few : Told Entered → Type 0
+Few (Ok e) = e.records ≤ most
+Few (Err z) = Unit {0}
 
 -- The message's tree.
 abbrev pub tree_at : List ℕ → List ℕ → ℕ × ℕ × Values × List Answer → Values

@@ -3,148 +3,106 @@
 #![tactic(auto)]
 
 ghost use Rattle.std.specs.Prelude.{◌≡◌, ◌≤◌};
-ghost use Rattle.layout.specs.Operations.{refusal};
+ghost use Rattle.layout.specs.Operations.{told};
 ghost use Rattle.prepared.specs.Positions.{BlockAt, IsBlock};
 ghost use Rattle.prepared.specs.Books.{HoldsBook};
-ghost use Rattle.wire.specs.Walks.{Lent, walked};
+ghost use Rattle.wire.specs.Walks.{Lent};
+ghost use Rattle.walk.specs.Walks.{after_datas};
 ghost use Rattle.places.specs.Seeks.{Path};
-ghost use Rattle.whole.specs.Wholes.{Ends, Few, entered, rest_at, rest_end, root_at, rooted, spot_at, whole_at};
+ghost use Rattle.whole.specs.Wholes.{Ends, Few, entered, rest_at, root_at, rooted, spot_at, whole_at};
 
-use layout::Refusal;
-use messages::Opened;
-use places::{Row, Spot};
-use prepared::number;
-use wire::Walked;
+use layout::{Reason, Refusal, refuse};
+use places::Spot;
+use prepared::{Message, number};
 
 // What follows the groups of the root block at a: its data, surplus data, the message's end.
-fn walk_rest(p: &[u64], a: usize, m: &[u8], v: usize, datas: usize, at: usize) -> Walked
-    requires { IsBlock p.now a × (datas ≤ 65535) × Lent m.now at }
-    ensures { result ≡ walked rest_end (rest_at p.now a m.now v datas at) }
+#[tactic(auto, using(wire::proofs::Steps::steps), unfolding(walk::proofs::Ways::walks, crate::specs::Wholes::rest_at))]
+fn walk_rest(m: &Message, a: usize, datas: usize, at: usize) -> Result<usize, Refusal>
+    requires { IsBlock m.now.book.now a × (datas ≤ 65535) × Lent m.now.octets.now at }
+    ensures { result ≡ told after_datas (rest_at m.now.book.now a m.now.octets.now m.now.version datas at) }
 {
+    let p = m.book;
     let big = prepared::is_big(p);
-    let rest = walk::walk_datas(p, number(p, a + 10), number(p, a + 5), datas, big, m, v, at);
-    let Walked::To { next: last, .. } = rest else {
-        return rest;
-    };
-    if last == m.len() {
-        return rest;
+    let last = walk::walk_datas(m, number(p, a + 10), number(p, a + 5), datas, big, at)?;
+    if last == m.octets.len() {
+        return Ok(last);
     }
-    wire::refuse(20, last)
+    refuse(Reason::OctetsLeftOver, last)
 }
 
 // The octets of the root block and its groups: where they end; how many records the groups have, where no path is to be
-// followed; and the spot of the entry that the path leads to.
+// followed; and the spot of the entry that the path leads to, if there is one.
 #[derive(Clone, Copy)]
-pub enum Root {
-    To {
-        next: usize,
-        records: usize,
-        spot: Spot,
-    },
-    Refused(Refusal),
+pub struct Root {
+    pub next: usize,
+    pub records: usize,
+    pub spot: Option<Spot>,
 }
 
-// The groups of the root block at a, which has l octets and surplus groups behind its own.
-fn walk_root(
-    p: &&[u64],
-    a: usize,
-    m: &&[u8],
-    v: usize,
-    l: usize,
-    groups: usize,
-    path: &&[u64],
-) -> Root
-    requires { BlockAt p.now.now 4 a × Lent m.now.now 12 × (l ≤ 65535) × (groups ≤ 65535)
-        × Path path.now.now 0 }
-    ensures value { result ≡ rooted path.now.now (spot_at p.now.now a m.now.now v l
-        groups path.now.now) (root_at p.now.now a m.now.now v l groups) }
-    ensures ends { Ends m.now.now result }
+// The groups of the root block at a, whose own spot is `root`.
+#[tactic(auto, using(crate::proofs::Roots::roots), unfolding(walk::proofs::Ways::walks, places::specs::Seeks::Within, places::specs::Seeks::row_sought, places::specs::Seeks::rowed, crate::specs::Wholes::root_at, crate::specs::Wholes::Ends))]
+fn walk_root(m: &Message, a: usize, root: Spot, path: &&[u64]) -> Result<Root, Refusal>
+    requires { BlockAt m.now.book.now 4 a × Lent m.now.octets.now 12 × (root.start ≡ 12) × (root.length ≤ 65535)
+        × (root.groups ≤ 65535) × Path path.now.now 0 }
+    ensures value { result ≡ told (rooted path.now.now (spot_at m.now.book.now a m.now.octets.now m.now.version root
+        path.now.now)) (root_at m.now.book.now a m.now.octets.now m.now.version root.length root.groups) }
+    ensures ends { Ends m.now.octets.now result }
 {
-    let s = *p;
-    let t = *m;
-    let steps = *path;
-    if t.len() - 12 < l {
-        return Root::Refused(Refusal {
-            number: 16,
-            place: 12,
+    let p = m.book;
+    if m.octets.len() - 12 < root.length {
+        return refuse(Reason::PastTheEnd, 12);
+    }
+    let start = 12 + root.length;
+    if path.is_empty() {
+        let row = walk::pass_row(m, number(p, a + 9), number(p, a + 4), 4, root.groups, start)?;
+        return Ok(Root {
+            next: row.next,
+            records: row.records,
+            spot: Some(root),
         });
     }
-    if steps.len() == 0 {
-        return match walk::pass_row(
-            p,
-            number(s, a + 9),
-            number(s, a + 4),
-            4,
-            m,
-            v,
-            groups,
-            12 + l,
-        ) {
-            Walked::To { next, records } => Root::To {
-                next,
-                records,
-                spot: Spot {
-                    start: 12,
-                    length: l,
-                    groups,
-                },
-            },
-            Walked::Refused(refusal) => Root::Refused(refusal),
-        };
-    }
-    match places::seek_row(p, a, 4, m, v, groups, 12 + l, path, 0) {
-        Row::To { next, spot } => Root::To {
-            next,
-            records: 0,
-            spot,
-        },
-        Row::Refused(refusal) => Root::Refused(refusal),
-    }
+    let row = places::seek_row(m, a, 4, root.groups, start, path, 0)?;
+    Ok(Root {
+        next: row.next,
+        records: 0,
+        spot: row.spot,
+    })
 }
 
 // A message that was walked: where its template's block stands; its version; how many records its groups have, where no
-// path was to be followed; the spot of the entry that the path leads to. Or the refusal.
+// path was to be followed; the spot of the entry that the path leads to, if there is one.
 #[derive(Clone, Copy)]
-pub enum Entered {
-    At {
-        block: usize,
-        version: usize,
-        records: usize,
-        spot: Spot,
-    },
-    Refused(Refusal),
+pub struct Entered {
+    pub block: usize,
+    pub version: usize,
+    pub records: usize,
+    pub spot: Option<Spot>,
 }
 
 // Walks the whole message.
-pub fn enter(p: &&[u64], m: &&[u8], path: &&[u64]) -> Entered
-    requires { HoldsBook p.now.now × Path path.now.now 0 }
-    ensures value { result ≡ entered p.now.now m.now.now path.now.now (whole_at
-        p.now.now m.now.now) }
+#[tactic(auto, using(wire::proofs::Steps::steps), unfolding(walk::proofs::Ways::walks, crate::specs::Wholes::whole_at, crate::specs::Wholes::Ends, crate::specs::Wholes::Few))]
+pub fn enter(book: &[u64], octets: &[u8], path: &&[u64]) -> Result<Entered, Refusal>
+    requires { HoldsBook book.now × Path path.now.now 0 }
+    ensures value { result ≡ told (entered book.now octets.now path.now.now) (whole_at book.now octets.now) }
     ensures few { Few result }
 {
-    match messages::open(*p, *m) {
-        Opened::Refused(refusal) => Entered::Refused(refusal),
-        Opened::At {
-            block,
-            version,
-            length,
-            groups,
-            datas,
-        } => match walk_root(p, block, m, version, length, groups, path) {
-            Root::Refused(refusal) => Entered::Refused(refusal),
-            Root::To {
-                next,
-                records,
-                spot,
-            } => match walk_rest(*p, block, *m, version, datas, next) {
-                Walked::Refused(refusal) => Entered::Refused(refusal),
-                Walked::To { .. } => Entered::At {
-                    block,
-                    version,
-                    records,
-                    spot,
-                },
-            },
-        },
-    }
+    let opened = messages::open(book, octets)?;
+    let m = Message {
+        book,
+        octets,
+        version: opened.version,
+    };
+    let root = Spot {
+        start: 12,
+        length: opened.length,
+        groups: opened.groups,
+    };
+    let walked = walk_root(&m, opened.block, root, path)?;
+    walk_rest(&m, opened.block, opened.datas, walked.next)?;
+    Ok(Entered {
+        block: opened.block,
+        version: opened.version,
+        records: walked.records,
+        spot: walked.spot,
+    })
 }

@@ -3,65 +3,50 @@
 #![tactic(auto)]
 
 ghost use Rattle.std.specs.Prelude.{◌≡◌, ◌+◌, ◌≤◌, ltb, length};
-ghost use Rattle.layout.specs.Operations.{refusal};
+ghost use Rattle.layout.specs.Operations.{told};
 ghost use Rattle.layout.specs.Message.{read_data};
 ghost use Rattle.layout.specs.Result.{◌and◌};
 ghost use Rattle.octets.specs.Spelt.{Spelt};
 ghost use Rattle.ordered.specs.Order.{SpeltBy};
-ghost use Rattle.wire.specs.Walks.{walked, data_end, Inside};
+ghost use Rattle.wire.specs.Walks.{data_end, Inside};
 ghost use Rattle.wire.specs.Headers.{ChecksHeader, IsHeader};
 
-use layout::Refusal;
-
-// What walking a part of a message comes to: the octet after it and its number of records, or the refusal.
-#[derive(Clone, Copy)]
-pub enum Walked {
-    To { next: usize, records: usize },
-    Refused(Refusal),
-}
-
-pub fn refuse(number: u8, place: usize) -> Walked
-    ensures { result ≡ Walked.Refused (refusal number place) }
-{
-    Walked::Refused(Refusal { number, place })
-}
+use layout::{Reason, Refusal, refuse};
 
 // The length of the data that stands at `at`.
 pub fn data_length(big: bool, m: &[u8], at: usize) -> usize
     requires { at + 2 ≤ length m.now }
     ensures { SpeltBy big 2 m.now at result }
 {
-    ordered::get2(big, m, at) as usize
+    ordered::get::<2>(big, m, at) as usize
 }
 
-// The data at `at`: its length and that many octets.
-fn data_in(big: bool, m: &[u8], at: usize) -> Walked
+// The octet after the data at `at`: its length and that many octets.
+#[tactic(auto, using(crate::proofs::Steps::steps), unfolding(layout::specs::Message::read_data, crate::specs::Walks::Inside))]
+fn data_in(big: bool, m: &[u8], at: usize) -> Result<usize, Refusal>
     requires { at ≤ length m.now }
-    ensures value { result ≡ walked data_end (read_data big m.now at) }
+    ensures value { result ≡ told data_end (read_data big m.now at) }
     ensures inside { Inside (length m.now) at result }
 {
     let left = m.len() - at;
     if left < 2 {
-        return refuse(16, at);
+        return refuse(Reason::PastTheEnd, at);
     }
     let n = data_length(big, m, at);
     if 65535 <= n {
-        return refuse(19, at);
+        return refuse(Reason::DataLengthNull, at);
     }
     if left - 2 < n {
-        return refuse(16, at);
+        return refuse(Reason::PastTheEnd, at);
     }
-    Walked::To {
-        next: at + 2 + n,
-        records: 1,
-    }
+    Ok(at + 2 + n)
 }
 
 // The same. Here and below the compiler makes a path of its own for each order, so that a number is read as it stands
 // or turned, and not both.
-pub fn read_data(big: bool, m: &[u8], at: usize) -> Walked
+pub fn read_data(big: bool, m: &[u8], at: usize) -> Result<usize, Refusal>
     requires { at ≤ length m.now }
-    ensures value { result ≡ walked data_end (read_data big m.now at) }
+    ensures value { result ≡ told data_end (read_data big m.now at) }
     ensures inside { Inside (length m.now) at result }
 {
     if big {
@@ -77,14 +62,24 @@ pub struct Sizes {
     pub entries: usize,
 }
 
+impl Sizes {
+    // Whether neither is 65535.
+    #[tactic(auto, using(crate::proofs::Steps::steps))]
+    pub fn are_whole(self) -> bool
+        ensures { result ≡ (ltb self.length 65535 and ltb self.entries 65535) }
+    {
+        self.length < 65535 && self.entries < 65535
+    }
+}
+
 fn sizes_in(big: bool, m: &[u8], at: usize) -> Sizes
     requires { at + 4 ≤ length m.now }
     ensures { SpeltBy big 2 m.now at result.length
         × SpeltBy big 2 m.now (at + 2) result.entries }
 {
     Sizes {
-        length: ordered::get2(big, m, at) as usize,
-        entries: ordered::get2(big, m, at + 2) as usize,
+        length: ordered::get::<2>(big, m, at) as usize,
+        entries: ordered::get::<2>(big, m, at + 2) as usize,
     }
 }
 
@@ -105,17 +100,7 @@ pub fn octets_at(m: &[u8], at: usize) -> usize
     requires { at + 4 ≤ length m.now }
     ensures { Spelt 4 m.now at result }
 {
-    octets::get4(m, at) as usize
-}
-
-// Whether neither is 65535.
-pub fn are_whole(sizes: Sizes) -> bool
-    ensures { result ≡ (ltb sizes.length 65535 and ltb sizes.entries 65535) }
-{
-    if sizes.length < 65535 {
-        return sizes.entries < 65535;
-    }
-    false
+    octets::get::<4>(m, at) as usize
 }
 
 // The numbers of a header.
@@ -135,12 +120,12 @@ fn header_in(big: bool, m: &[u8]) -> Header
     ensures { IsHeader big m.now result }
 {
     Header {
-        length: ordered::get2(big, m, 0) as usize,
-        template: ordered::get2(big, m, 2) as usize,
-        schema: ordered::get2(big, m, 4) as usize,
-        version: ordered::get2(big, m, 6) as usize,
-        groups: ordered::get2(big, m, 8) as usize,
-        datas: ordered::get2(big, m, 10) as usize,
+        length: ordered::get::<2>(big, m, 0) as usize,
+        template: ordered::get::<2>(big, m, 2) as usize,
+        schema: ordered::get::<2>(big, m, 4) as usize,
+        version: ordered::get::<2>(big, m, 6) as usize,
+        groups: ordered::get::<2>(big, m, 8) as usize,
+        datas: ordered::get::<2>(big, m, 10) as usize,
     }
 }
 
@@ -155,33 +140,33 @@ pub fn header_of(big: bool, m: &[u8]) -> Header
     header_in(false, m)
 }
 
-// Whether the numbers of a header are good up to the template id: 11 and 12.
-pub fn check_header(h: Header, schema: usize) -> Walked
-    ensures { ChecksHeader h schema result }
-{
-    if 65535 <= h.length {
-        return refuse(11, 0);
+impl Header {
+    // Whether its numbers are good up to the template id: 11 and 12.
+    #[tactic(auto, using(crate::proofs::Steps::steps), unfolding(layout::specs::Message::check_header, layout::specs::Message::header_whole))]
+    pub fn check(self, schema: usize) -> Result<(), Refusal>
+        ensures { ChecksHeader self schema result }
+    {
+        if 65535 <= self.length {
+            return refuse(Reason::HeaderNull, 0);
+        }
+        if 65535 <= self.template {
+            return refuse(Reason::HeaderNull, 2);
+        }
+        if 65535 <= self.schema {
+            return refuse(Reason::HeaderNull, 4);
+        }
+        if 65535 <= self.version {
+            return refuse(Reason::HeaderNull, 6);
+        }
+        if 65535 <= self.groups {
+            return refuse(Reason::HeaderNull, 8);
+        }
+        if 65535 <= self.datas {
+            return refuse(Reason::HeaderNull, 10);
+        }
+        if self.schema == schema {
+            return Ok(());
+        }
+        refuse(Reason::SchemaDiffers, 4)
     }
-    if 65535 <= h.template {
-        return refuse(11, 2);
-    }
-    if 65535 <= h.schema {
-        return refuse(11, 4);
-    }
-    if 65535 <= h.version {
-        return refuse(11, 6);
-    }
-    if 65535 <= h.groups {
-        return refuse(11, 8);
-    }
-    if 65535 <= h.datas {
-        return refuse(11, 10);
-    }
-    if h.schema == schema {
-        return Walked::To {
-            next: 12,
-            records: 0,
-        };
-    }
-    refuse(12, 4)
 }

@@ -49,6 +49,11 @@ module _ (big : Bool) where
       → r₂ ≡ sets r₁ (at + 2 * length xs) (numbers16 big ys) → r₂ ≡ sets d at (numbers16 big (xs ++ ys))
   numbers_laid d at xs ys p q = q ∙ rw (p, numbers_append xs ys, sets_append d at, length_numbers big xs) refl
 
+  pub four_numbers : (d : List ℕ) (at x y z w : ℕ)
+      → sets (sets d at (numbers16 big (x ∷ y ∷ []))) (at + 4) (numbers16 big (z ∷ w ∷ []))
+      ≡ sets d at (numbers16 big (x ∷ y ∷ z ∷ w ∷ []))
+  four_numbers d at x y z w = numbers_laid d at (x ∷ y ∷ []) (z ∷ w ∷ []) refl refl
+
 -- ---- one part after the other: what is judged good is written as the definition says
 
 module _ (big : Bool) (l pool : List ℕ) where

@@ -1,10 +1,10 @@
 -- What each part of a listing writes, taken apart in the code's terms. That it was judged good is known: no test is
 -- made.
 use mathlib.Core.Path.{◌≡◌, refl, sym, ap, ◌∙◌}
-use mathlib.Core.List.{List, [], ◌++◌, append-nil}
+use mathlib.Core.List.{List, [], ◌∷◌, ◌++◌, append-nil}
 use mathlib.Core.Bool.{Bool, true, false}
-use Prim.Native.Nat.{ℕ, zero, suc, ◌+◌, ◌-◌, ◌*◌, ◌/◌, ◌≤◌, ◌<◌}
-use native.Mathlib.Nat.{sub-zero}
+use Prim.Native.Nat.{ℕ, suc, ◌+◌, ◌-◌, ◌*◌, ◌≤◌, ◌<◌, zero}
+use native.Mathlib.Nat.{add-zero, sub-zero}
 use native.Mathlib.Omega.{arith}
 use lib.Dec.{eqb, ltb}
 use lib.ListN.{drop, length, length-append, replicate, take}
@@ -13,30 +13,30 @@ use borrow.Rule.Slice.PartMut.{put_mid}
 use borrow.Author.Tests.{eqb-false, eqb-true, le-ltb, leb-true, lt-ltb, ne_eqb}
 use Rattle.layout.specs.Result.{done, when◌then◌else◌, ◌and◌}
 use Rattle.layout.specs.Octets.{null16, octets_of}
-use Rattle.layout.specs.Types.{type_at}
 use Rattle.layout.specs.Book.{Field, Groups, Shape, end, is_array, more, size}
 use Rattle.layout.specs.BookRules.{fields_good, length_good, parse_fields, word}
 use Rattle.layout.specs.Writing.{dimension_of, field_octets, first, is_group, is_number, is_there, judge_data, judge_field}
 use Rattle.layout.specs.Writing.{numbers16, second, span_of, third}
 use Rattle.layout.specs.declared.Answer.{Answer}
-use Rattle.layout.proofs.Results.{and_left, and_right, each_way, none_left, one_less, or_right, some_left}
+use Rattle.layout.proofs.Results.{and_left, and_right, each_way, or_right}
 use Rattle.layout.proofs.Fields.{field_good_lem}
 use Rattle.layout.proofs.Said.{ArraySaid, OctetsSaid, array_said, data_said, null, number_said, plain, text}
 use Rattle.layout.proofs.Lengths.{field_long, span_long}
 use Rattle.layout.proofs.Stands.{length_octets}
 use Rattle.octets.proofs.Joined.{sets_append}
 use Rattle.prepared.specs.Names.{lists_at}
-use Rattle.prepared.specs.Positions.{Derived, IsBlock, IsField, field_at, many_fields, fields_from, groups_at, table_from}
+use Rattle.prepared.specs.Positions.{Derived, IsBlock, field_at, many_fields, fields_from, groups_at}
 use Rattle.prepared.proofs.Open.{no_groups_at}
 use Rattle.prints.specs.Prints.{Accepted, Printed, Room, Stored, and_then, end_of, got, not, numbers_of, prepend, printed}
-use Rattle.prints.proofs.Going.{Done, was_done}
-use Rattle.writer.proofs.Zeros.{part_put, part_of}
+use Rattle.prints.proofs.Going.{Done, Going, going_end, stored_none, was_done}
+use Rattle.writer.specs.Zeros.{ZerosFrom}
 use Rattle.writer.specs.Parts.{data_part, datas_part, entries_part, fields_part, groups_part, number_or, value_part}
+use Rattle.writer.proofs.Zeros.{going_pad, part_put, part_of, zeros_after, zeros_fill}
 
 -- ---- records
 
-there_is : (l : List ℕ) (i : ℕ) (t : Bool) → (is_there l i and t) ≡ true → i < length l / 3
-there_is l i t h = omega (arith, leb-true (3 * i + 3) (length l) (and_left _ _ h))
+there_is : (l : List ℕ) (i : ℕ) (t : Bool) → (is_there l i and t) ≡ true → 3 * i + 3 ≤ length l
+there_is l i t h = leb-true (3 * i + 3) (length l) (and_left _ _ h)
 
 -- A number's record says 0, or else 1.
 not_zero : (l : List ℕ) (i : ℕ) → is_number l i ≡ true → (first l i ≡ 0 → ⊥) → first l i ≡ 1
@@ -50,7 +50,7 @@ module _ (l pool : List ℕ) (i : ℕ) where
 
   -- The array f is these octets, none if it is null, and zeros after them.
   record ArrayIs (f : Field) (a : Answer) : Type 0 where
-    there : i < length l / 3
+    there : 3 * i + 3 ≤ length l
     within : second l i + third l i ≤ length pool
     octets : (big : Bool) → field_octets big pool f a ≡ span_at ++ replicate (f.length - third l i) 0
 
@@ -70,140 +70,160 @@ module _ (l pool : List ℕ) (i : ℕ) where
 
 -- ---- one field
 
-module _ (big : Bool) (l pool : List ℕ) (f : Field) (i k : ℕ) (r : Room (value_part big l pool f i) 0 k) where
-  value_done : Done (judge_field l pool f i)
+-- An attribute can name this, and no operator: what is chosen by a test.
+unfoldable pub choices : Unit {0}
+unfolding when◌then◌else◌
+choices = tt
+
+module _ (big : Bool) (l pool : List ℕ) (f : Field) (i : ℕ) where
+  value_done : Accepted (value_part big l pool f i) → Done (judge_field l pool f i)
   unfolding value_part
-  value_done = was_done _ _ _ r.whole
+  value_done h = was_done _ _ _ h
 
-  array_done : is_array f ≡ true → ArrayIs l pool i f value_done.value
-  array_done y = array_is l pool i f _ y (array_said l pool f i _ y value_done.is)
-
-  -- Its record is there.
-  pub value_there : i < length l / 3
-  value_there =
-      each_way (is_array f) (λ y. (array_done y).there)
-      (λ y. there_is l i _ (number_said l pool f i _ y value_done.is).kind)
-
-  value_same : value_part big l pool f i ≡ got (i + 1) (field_octets big pool f value_done.value)
+  value_same : (r : Done (judge_field l pool f i)) → value_part big l pool f i ≡ got (i + 1) (field_octets big pool f r.value)
   unfolding value_part printed
-  value_same = rw value_done.is refl
+  value_same r = rw r.is refl
 
-  -- The octets that it has, and n of them fit.
-  pub record ValueOpen (e : List ℕ) (n : ℕ) : Type 0 where
-    pub same : value_part big l pool f i ≡ got (i + 1) e
-    pub fits : n ≤ k
-
-  value_open : {e : List ℕ} {n : ℕ} → n ≤ length e → field_octets big pool f value_done.value ≡ e → ValueOpen e n
-  unfolding numbers_of
-  value_open h q =
-      let same = rw q at value_same in
-      record { same = same; fits = omega (arith, rw same at r.fits, h) }
+  array_done : is_array f ≡ true → (r : Done (judge_field l pool f i)) → ArrayIs l pool i f r.value
+  array_done y r = array_is l pool i f _ y (array_said l pool f i _ y r.is)
 
   -- It is as long as its size says.
-  pub value_stored : length_good f ≡ true → {d d' : List ℕ} → d' ≡ sets d 0 (numbers_of (value_part big l pool f i))
+  pub value_stored : length_good f ≡ true → Accepted (value_part big l pool f i) → {d d' : List ℕ}
+      → d' ≡ sets d 0 (numbers_of (value_part big l pool f i))
       → Stored (value_part big l pool f i) 0 d (i + 1) (size f) d'
   unfolding end_of numbers_of
-  value_stored g q =
-      let long = field_long big l pool f i value_done.value g value_done.is in
-      record { place = rw value_same refl; taken = rw value_same (omega (arith, long)); room = q }
+  value_stored g h q =
+      let r = value_done h in
+      let long = field_long big l pool f i r.value g r.is in
+      record { place = rw (value_same r) refl; taken = rw (value_same r) (omega (arith, long)); room = q }
 
-  -- An array is octets of the pool, and zeros.
-  pub record ArrayOpen : Type 0 where
-    pub within : second l i + third l i ≤ length pool
-    pub value : ValueOpen (span_at l pool i ++ replicate (f.length - third l i) 0) (third l i)
+  module _ (k : ℕ) (r : Room (value_part big l pool f i) 0 k) where
+    -- Its record is there.
+    pub value_there : 3 * i + 3 ≤ length l
+    value_there =
+        let y = value_done r.whole in
+        each_way (is_array f) (λ a. (array_done a y).there) (λ a. there_is l i _ (number_said l pool f i _ a y.is).kind)
 
-  pub array_open : 1 < f.length → ArrayOpen
-  array_open h =
-      let s = array_done (lt-ltb 1 f.length h) in
-      let both = length-append (span_at l pool i) (replicate (f.length - third l i) 0) in
-      let long = span_long pool (second l i) (third l i) s.within in
-      record { within = s.within; value = value_open (omega (arith, both, long)) (s.octets big) }
+    -- e is laid, which fits.
+    laid_is : {e : List ℕ} → field_octets big pool f (value_done r.whole).value ≡ e
+        → (numbers_of (value_part big l pool f i) ≡ e) × (length e ≤ k)
+    unfolding numbers_of
+    laid_is q =
+        let same = rw q at (value_same (value_done r.whole)) in
+        (rw same refl, omega (arith, rw same at r.fits))
 
-  -- A number, or the type's null x.
-  pub number_open : f.length ≤ 1 → (n x : ℕ) → n ≡ (type_at f.type).width → x ≡ (type_at f.type).null
-      → ValueOpen (octets_of big n (number_or l i x)) n
-  unfolding when◌then◌else◌ field_octets
-  number_open h n x is e =
-      let single = le-ltb 1 f.length h in
-      let said = number_said l pool f i _ single value_done.is in
-      value_open (omega (arith, length_octets big n (number_or l i x)))
-      (rw (← said.is, is, e) (each_way (eqb (first l i) 0)
-      (λ z. rw (z, eqb-true (first l i) 0 z) refl)
-      (λ z. rw (z, not_zero l i said.kind (eqb-false (first l i) 0 z)) (rw single refl))))
+    -- A number, or the type's null.
+    pub number_laid : {p : List ℕ} {t : ℕ} → Derived p t f → f.length ≤ 1
+        → (numbers_of (value_part big l pool f i) ≡ octets_of big (word p (t + 4)) (number_or l i (word p (t + 3))))
+        × (word p (t + 4) ≤ k)
+    unfolding when◌then◌else◌ field_octets
+    number_laid {p} {t} d h =
+        let single = le-ltb 1 f.length h in
+        let said = number_said l pool f i _ single (value_done r.whole).is in
+        let e = octets_of big (word p (t + 4)) (number_or l i (word p (t + 3))) in
+        let o : (numbers_of (value_part big l pool f i) ≡ e) × (length e ≤ k) =
+        laid_is (rw (← said.is, d.width, d.null) (each_way (eqb (first l i) 0)
+        (λ z. rw (z, eqb-true (first l i) 0 z) refl)
+        (λ z. rw (z, not_zero l i said.kind (eqb-false (first l i) 0 z)) (rw single refl)))) in
+        (o.0, omega (arith, o.1, length_octets big (word p (t + 4)) (number_or l i (word p (t + 3)))))
+
+    -- An array is octets of the pool, and zeros that stand already.
+    pub array_laid : {d : List ℕ} → ZerosFrom 0 d → 1 < f.length
+        → (sets d 0 (numbers_of (value_part big l pool f i)) ≡ sets d 0 (span_at l pool i))
+        × (third l i ≤ k) × (second l i + third l i ≤ length pool)
+    array_laid zeros h =
+        let s = array_done (lt-ltb 1 f.length h) (value_done r.whole) in
+        let o = laid_is (s.octets big) in
+        let both = length-append (span_at l pool i) (replicate (f.length - third l i) 0) in
+        let long = span_long pool (second l i) (third l i) s.within in
+        (rw o.0 (zeros_fill zeros (span_at l pool i) _), omega (arith, o.1, both, long), s.within)
 
 -- ---- fields in a row
 
--- n good fields stand at f, from octet `at` of a block of len octets on, and at t what is worked out of them.
-pub record FieldsLeft (p : List ℕ) (len at n f t : ℕ) : Type 0 where
-  pub short : length p ≤ 65535
-  pub fields : f + 7 * n ≤ length p
-  pub table : t + 6 * n ≤ length p
-  pub derived : (i : ℕ) → i < n → Derived p (t + 6 * i) (field_at p (f + 7 * i))
-  pub within : at ≤ len
-  pub good : fields_good len at (parse_fields (lists_at p) p n f) ≡ true
+module _ (p : List ℕ) (a : ℕ) where
+  -- The fields of the block at a from field k on.
+  abbrev pub fields_after : ℕ → List Field
+  fields_after k = parse_fields (lists_at p) p (many_fields p a - k) (fields_from p a + 7 * k)
 
-pub fields_left : (p : List ℕ) (a : ℕ) → IsBlock p a
-    → FieldsLeft p (word p (a + 2)) 0 (many_fields p a) (fields_from p a) (table_from p a)
-fields_left p a b =
-    record {
-      short = b.short;
-      fields = b.fields_fit;
-      table = b.table_fits;
-      derived = b.derived;
-      within = omega arith;
-      good = and_right _ _ b.good;
-    }
+  -- They are good from octet `at` of the block on.
+  pub record FieldsLeft (k at : ℕ) : Type 0 where
+    pub within : at ≤ word p (a + 2)
+    pub good : fields_good (word p (a + 2)) at (fields_after k) ≡ true
 
--- The first of them, and the others.
-pub record FieldNext (p : List ℕ) (len at n f t : ℕ) : Type 0 where
-  pub here : IsField p f t
-  pub placed : at ≤ word p (f + 3)
-  pub whole : length_good (field_at p f) ≡ true
-  pub rest : FieldsLeft p len (end (field_at p f)) (n - 1) (f + 7) (t + 6)
+  pub fields_left : IsBlock p a → FieldsLeft 0 0
+  fields_left b = record { within = omega arith; good = rw (sub-zero, add-zero) (and_right _ _ b.good) }
 
-pub field_next : (p : List ℕ) (len at n f t : ℕ) → 0 < n → FieldsLeft p len at n f t → FieldNext p len at n f t
-unfolding parse_fields
-field_next p len at zero f t h w = absurd (omega arith)
-field_next p len at (suc n) f t h w =
-    let q : suc n - 1 ≡ n = omega arith in
-    let a : t + 6 * 0 ≡ t = omega arith in
-    let b : f + 7 * 0 ≡ f = omega arith in
-    let g = field_good_lem len at (field_at p f) (parse_fields (lists_at p) p n (f + 7)) w.good in
-    record {
-      here = record { fits = omega arith; table_fits = omega arith; derived = rw (a, b) at (w.derived 0 h) };
-      placed = g.placed;
-      whole = g.length;
-      rest = record {
-        short = w.short;
-        fields = omega arith;
-        table = omega arith;
-        derived = λ i k.
-            let c : t + 6 + 6 * i ≡ t + 6 * (i + 1) = omega arith in
-            let e : f + 7 + 7 * i ≡ f + 7 * (i + 1) = omega arith in
-            rw (c, e) (w.derived (i + 1) (omega arith));
-        within = g.ended;
-        good = rw q g.rest;
-      };
-    }
+  -- The first of them, and the others.
+  pub record FieldNext (k at : ℕ) : Type 0 where
+    pub placed : at ≤ word p (fields_from p a + 7 * k + 3)
+    pub whole : length_good (field_at p (fields_from p a + 7 * k)) ≡ true
+    pub rest : FieldsLeft (k + 1) (end (field_at p (fields_from p a + 7 * k)))
+
+  module _ {k : ℕ} (h : k < many_fields p a) where
+    fields_more : fields_after k ≡ field_at p (fields_from p a + 7 * k) ∷ fields_after (k + 1)
+    unfolding parse_fields
+    fields_more =
+        let n : many_fields p a - k ≡ suc (many_fields p a - (k + 1)) = omega arith in
+        let f : fields_from p a + 7 * (k + 1) ≡ fields_from p a + 7 * k + 7 = omega arith in
+        rw (n, f) refl
+
+    pub field_next : {at : ℕ} → FieldsLeft k at → FieldNext k at
+    field_next {at} w =
+        let f = field_at p (fields_from p a + 7 * k) in
+        let g = field_good_lem (word p (a + 2)) at f (fields_after (k + 1)) (rw fields_more at w.good) in
+        record { placed = g.placed; whole = g.length; rest = record { within = g.ended; good = g.rest } }
+
+    pub fields_step : (big : Bool) (l pool : List ℕ) (len at i : ℕ) → fields_part big l pool len at (fields_after k) i
+        ≡ prepend (replicate (word p (fields_from p a + 7 * k + 3) - at) 0)
+        (and_then (value_part big l pool (field_at p (fields_from p a + 7 * k)) i)
+        (fields_part big l pool len (end (field_at p (fields_from p a + 7 * k))) (fields_after (k + 1))))
+    unfolding fields_part
+    fields_step big l pool len at i = rw fields_more refl
+
+  pub fields_end : (big : Bool) (l pool : List ℕ) (len at k i : ℕ) → many_fields p a ≤ k
+      → fields_part big l pool len at (fields_after k) i ≡ prepend (replicate (len - at) 0) (got i [])
+  unfolding parse_fields fields_part prepend
+  fields_end big l pool len at k i h =
+      let n : many_fields p a - k ≡ 0 = omega arith in rw (n, append-nil) refl
+
+-- The next field is to come in a room that is filled from n on: the zeros before it stand.
+module _ (p : List ℕ) (a k : ℕ) (big : Bool) (l pool : List ℕ) (i : ℕ) where
+  abbrev pub field_here : Field
+  field_here = field_at p (fields_from p a + 7 * k)
+
+  pub record FieldOpen (x : Printed) (n n₀ : ℕ) (d₀ d : List ℕ) : Type 0 where
+    pub going : Going x (and_then (value_part big l pool field_here i)
+        (fields_part big l pool (word p (a + 2)) (end field_here) (fields_after p a (k + 1)))) n₀ d₀ (n + field_here.offset) d
+    pub zeros : ZerosFrom (n + field_here.offset) d
+    pub whole : length_good field_here ≡ true
+    pub rest : FieldsLeft p a (k + 1) (end field_here)
+
+  pub field_open : {x : Printed} {at n n₀ : ℕ} {d₀ d : List ℕ} → k < many_fields p a → FieldsLeft p a k at → ZerosFrom (n + at) d
+      → Going x (fields_part big l pool (word p (a + 2)) at (fields_after p a k) i) n₀ d₀ (n + at) d → FieldOpen x n n₀ d₀ d
+  field_open {x} {at} h w z g =
+      let o = field_next p a h w in
+      record {
+        going = going_pad z g (field_here.offset - at) (fields_step p a h big l pool (word p (a + 2)) at i) (omega (arith, o.placed));
+        zeros = zeros_after z (omega (arith, o.placed));
+        whole = o.whole;
+        rest = o.rest;
+      }
+
+-- Behind the last field zeros stand up to the block's end.
+pub fields_over : (p : List ℕ) (a k : ℕ) (big : Bool) (l pool : List ℕ) (i n : ℕ) {x : Printed} {at n₀ : ℕ} {d₀ d : List ℕ}
+    → many_fields p a ≤ k → FieldsLeft p a k at → ZerosFrom (n + at) d
+    → Going x (fields_part big l pool (word p (a + 2)) at (fields_after p a k) i) n₀ d₀ (n + at) d
+    → Stored x n₀ d₀ i (n + word p (a + 2)) d
+fields_over p a k big l pool i n {x} {at} h w z g =
+    going_end (going_pad z g (word p (a + 2) - at) (fields_end p a big l pool (word p (a + 2)) at k i h) (omega (arith, w.within)))
+    (stored_none refl)
 
 module _ (big : Bool) (l pool : List ℕ) where
-  pub fields_step : (p : List ℕ) (len at n f i : ℕ) → 0 < n
-      → fields_part big l pool len at (parse_fields (lists_at p) p n f) i
-      ≡ prepend (replicate (word p (f + 3) - at) 0) (and_then (value_part big l pool (field_at p f) i)
-      (fields_part big l pool len (end (field_at p f)) (parse_fields (lists_at p) p (n - 1) (f + 7))))
-  unfolding parse_fields fields_part
-  fields_step p len at n f i h = rw (some_left h, one_less) refl
-
-  pub fields_end_lem : (p : List ℕ) (len at n f i : ℕ) → n ≤ 0
-      → fields_part big l pool len at (parse_fields (lists_at p) p n f) i ≡ prepend (replicate (len - at) 0) (got i [])
-  unfolding parse_fields fields_part prepend
-  fields_end_lem p len at n f i h = rw (none_left h, append-nil) refl
-
   -- ---- data
 
   -- The data of record i, and a room of k octets.
   pub record DataOpen (i k : ℕ) : Type 0 where
-    pub there : i < length l / 3
+    pub there : 3 * i + 3 ≤ length l
     pub within : second l i + third l i ≤ length pool
     pub long : length (span_at l pool i) ≡ third l i
     pub fits : 2 + third l i ≤ k
@@ -247,36 +267,39 @@ module _ (big : Bool) (l pool : List ℕ) where
             ∙ rw (o.same, sets_append d₀ 0 n (span_at l pool i), two, ← p) refl;
       }
 
-  pub datas_step : (n i : ℕ) → 0 < n
-      → datas_part big l pool n i ≡ and_then (data_part big l pool i) (datas_part big l pool (n - 1))
+  pub datas_step : (n k i : ℕ) → k < n
+      → datas_part big l pool (n - k) i ≡ and_then (data_part big l pool i) (datas_part big l pool (n - (k + 1)))
   unfolding datas_part
-  datas_step n i h = rw (some_left h, one_less) refl
+  datas_step n k i h =
+      let more : n - k ≡ suc (n - (k + 1)) = omega arith in rw more refl
 
-  pub datas_end_lem : (n i : ℕ) → n ≤ 0 → datas_part big l pool n i ≡ got i []
+  pub datas_end : (n i : ℕ) → n ≡ 0 → datas_part big l pool n i ≡ got i []
   unfolding datas_part
-  datas_end_lem n i h = rw (none_left h) refl
+  datas_end n i h = rw h refl
 
   -- ---- entries
 
   module _ (s : Shape) (row : ℕ → Printed) where
-    pub entries_step : (k i : ℕ) → 0 < k → entries_part big l pool s row k i
+    pub entries_step : (n i : ℕ) → 0 < n → entries_part big l pool s row n i
         ≡ and_then (fields_part big l pool s.length 0 s.fields i)
         (λ j. and_then (row j)
-        (λ d. and_then (datas_part big l pool (length s.datas) d) (entries_part big l pool s row (k - 1))))
+        (λ d. and_then (datas_part big l pool (length s.datas) d) (entries_part big l pool s row (n - 1))))
     unfolding entries_part
-    entries_step k i h = rw (some_left h, one_less) refl
+    entries_step zero i h = absurd (omega arith)
+    entries_step (suc n) i h =
+        let fewer : suc n - 1 ≡ n = omega arith in rw fewer refl
 
-    pub entries_end : (k i : ℕ) → k ≤ 0 → entries_part big l pool s row k i ≡ got i []
+    pub entries_end : (n i : ℕ) → n ≡ 0 → entries_part big l pool s row n i ≡ got i []
     unfolding entries_part
-    entries_end k i h = rw (none_left h) refl
+    entries_end n i h = rw h refl
 
 -- ---- groups in a row
 
 module _ (counted big : Bool) (l pool : List ℕ) where
-  pub groups_end_lem : (p : List ℕ) (depth n a i : ℕ) → n ≤ 0
+  pub groups_end : (p : List ℕ) (depth n a i : ℕ) → n ≤ 0
       → groups_part counted big l pool (groups_at p depth n a) i ≡ got i []
   unfolding groups_part
-  groups_end_lem p depth n a i h = rw (no_groups_at p depth n a h) refl
+  groups_end p depth n a i h = rw (no_groups_at p depth n a h) refl
 
   -- gs is a group with the block s and the groups `inner`, and then `rest`.
   module _ (gs : Groups) (s : Shape) (inner rest : Groups) (i : ℕ) where
@@ -287,7 +310,7 @@ module _ (counted big : Bool) (l pool : List ℕ) where
         (groups_part counted big l pool rest))
 
     pub record GroupOpen : Type 0 where
-      pub there : i < length l / 3
+      pub there : 3 * i + 3 ≤ length l
       pub same : groups_part counted big l pool gs i ≡ group_then
 
     pub group_open : {id since : ℕ} → gs ≡ more id since s inner rest → Accepted (groups_part counted big l pool gs i)

@@ -1,28 +1,17 @@
 -- A room of zeros that is filled part by part. What is not stored yet is zeros, so zeros need not be stored.
 use mathlib.Core.Path.{◌≡◌, refl, sym, ap, ◌∙◌}
 use mathlib.Core.List.{List, [], ◌∷◌, ◌++◌, append_assoc, append-nil}
-use Prim.Native.Nat.{ℕ, zero, suc, ◌+◌, ◌-◌, ◌≤◌, ◌<◌}
+use Prim.Native.Nat.{ℕ, zero, suc, ◌+◌, ◌-◌, ◌≤◌}
 use native.Mathlib.Nat.{zero-add}
-use native.Mathlib.Numerals.{add-one}
 use native.Mathlib.Omega.{arith}
-use lib.ListN.{drop, drop_of_length-le, get_or, length, length-drop, length-replicate, replicate, set, take}
-use lib.Seq.{drop-cons, drop-drop, drop-length, get_or-drop, get_or-set_other, set-get_or, sets, sets-eq, take_at}
+use lib.ListN.{drop, get_or, length, length-drop, length-replicate, replicate, set, take}
+use lib.Seq.{drop-drop, drop-length, get_or-drop, get_or-set_other, set-get_or, sets, sets-eq, take_at}
 use lib.Seq.{take-length}
 use borrow.Rule.Slice.PartMut.{put_mid}
 use Rattle.octets.proofs.Joined.{sets_append}
 use Rattle.prints.specs.Prints.{Printed, Room, Stored, numbers_of, prepend}
 use Rattle.prints.proofs.Going.{Going, going_put}
 use Rattle.writer.specs.Zeros.{Zeros, ZerosFrom}
-
--- ---- octet by octet
-
-module _ (e d : List ℕ) (i n : ℕ) (long : length e ≡ n) where
-  pub sets_next : {x : ℕ} → i < n → get_or e i 0 ≡ x
-      → sets d i (drop i e) ≡ sets (set d i x) (i + 1) (drop (i + 1) e)
-  sets_next h v = rw (add-one i, drop-cons e i 0 (omega arith), v) refl
-
-  pub sets_done : n ≤ i → sets d i (drop i e) ≡ d
-  sets_done h = rw (drop_of_length-le e {i = i} (omega arith)) refl
 
 -- ---- zeros
 

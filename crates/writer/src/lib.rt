@@ -3,10 +3,10 @@
 // on, and stores from that part's start.
 #![tactic(auto)]
 
-ghost use Rattle.std.specs.Prelude.{◌≡◌, [], ◌∷◌, ◌+◌, ◌*◌, ◌/◌, ◌^◌, ◌<◌, ◌≤◌, length, take, drop, get_or, replicate};
+ghost use Rattle.std.specs.Prelude.{◌≡◌, [], ◌∷◌, ◌+◌, ◌*◌, ◌/◌, ◌^◌, ◌<◌, ◌≤◌, length, take, drop, get_or};
 ghost use Rattle.std.proofs.lemmas.List.Edits.{sets};
 ghost use Rattle.layout.specs.BookRules.{word};
-ghost use Rattle.layout.specs.Writing.{header_of, numbers16};
+ghost use Rattle.layout.specs.Writing.{header_of, numbers16, second, third};
 ghost use Rattle.prepared.specs.Books.{book_at, template_at};
 ghost use Rattle.prepared.specs.Positions.{BlockAt, IsBlock, IsField, field_at, inner_at, is_big, is_counted, many_datas};
 ghost use Rattle.prepared.specs.Positions.{shape_at};
@@ -17,6 +17,7 @@ ghost use Rattle.writer.specs.Parts.{data_part, datas_part, dimension_at, entrie
 ghost use Rattle.writer.specs.Parts.{message_part, number_or, value_part};
 
 use prepared::number;
+use records::{Kind, Listing};
 
 // Where the pass stands: the number of the next record, and how many octets of the room are taken.
 #[derive(Clone, Copy)]
@@ -47,189 +48,131 @@ fn head_at(p: &[u64], a: usize) -> Head
     }
 }
 
-// Number k of record i.
-fn number_of(listing: &[u64], i: usize, k: usize) -> u64
-    requires { (i < length listing.now / 3) × (k < 3) }
-    ensures { (result ≡ get_or listing.now (3 * i + k) 0) × (i + 1 < 2 ^ 64) }
-{
-    listing[3 * i + k]
-}
-
-// The len octets of the pool from `start` on.
+// The len octets of the pool from `start` on: by a loop, since `copy_from_slice` would call the C library's `memmove`.
 fn put_octets(room: &mut [u8], pool: &[u8], start: usize, len: usize)
     requires { (len ≤ length room.old) × (start + len ≤ length pool.now) }
     ensures { room.new ≡ sets room.old 0 (take len (drop start pool.now)) }
 {
-    let mut i = 0;
-    while i < len {
+    for i in 0..len {
         room[i] = pool[start + i];
-        i = i + 1;
-    }
-}
-
-// n zeros: what a room has before a message is written into it.
-pub fn put_zeros(room: &mut [u8], n: usize)
-    requires { n ≤ length room.old }
-    ensures { room.new ≡ sets room.old 0 (replicate n 0) }
-{
-    let mut i = 0;
-    while i < n {
-        room[i] = 0;
-        i = i + 1;
     }
 }
 
 // The number to store for record i: its own, or the null of the type at t.
-fn number_for(p: &[u64], t: usize, listing: &[u64], i: usize) -> u64
-    requires { (t + 6 ≤ length p.now) × (i < length listing.now / 3) }
-    ensures { result ≡ number_or listing.now i (word p.now (t + 3)) }
+#[tactic(auto, unfolding(crate::proofs::Parts::choices))]
+fn number_for(l: &Listing, t: usize, i: usize) -> u64
+    requires { (t + 6 ≤ length l.now.book.now) × (3 * i + 3 ≤ length l.now.numbers.now) }
+    ensures { result ≡ number_or l.now.numbers.now i (word l.now.book.now (t + 3)) }
 {
-    if listing[3 * i] == 0 {
-        return listing[3 * i + 1];
+    if l.is(i, Kind::Number) {
+        return l.second(i);
     }
-    p[t + 3]
+    l.book[t + 3]
 }
 
 // The field at f, whose table is at t, from record i. Of an array the octets that the record names are copied, and
 // null's record names none: the NULs after them stand already.
-fn write_value(
-    big: bool,
-    p: &[u64],
-    f: usize,
-    t: usize,
-    listing: &[u64],
-    i: usize,
-    pool: &[u8],
-    room: &mut [u8],
-)
-    requires field { IsField p.now f t × ZerosFrom 0 room.old }
-    requires room { Room (value_part big listing.now pool.now (field_at p.now f) i) 0 (length room.old) }
-    ensures { room.new ≡ sets room.old 0 (numbers_of (value_part big listing.now
-        pool.now (field_at p.now f) i)) }
+fn write_value(l: &Listing, big: bool, f: usize, t: usize, i: usize, room: &mut [u8])
+    requires field { IsField l.now.book.now f t × ZerosFrom 0 room.old }
+    requires room { Room (value_part big l.now.numbers.now l.now.pool.now (field_at l.now.book.now f) i) 0 (length room.old) }
+    ensures { room.new ≡ sets room.old 0 (numbers_of (value_part big l.now.numbers.now
+        l.now.pool.now (field_at l.now.book.now f) i)) }
 {
+    let p = l.book;
     if number(p, f + 2) <= 1 {
-        let x = number_for(p, t, listing, i);
+        let x = number_for(l, t, i);
         number_types::store(big, room, 0, number(p, t + 4), x);
         return;
     }
-    let start = number_of(listing, i, 1) as usize;
-    let len = number_of(listing, i, 2) as usize;
-    put_octets(room, pool, start, len);
+    put_octets(room, l.pool, l.second(i) as usize, l.third(i) as usize);
 }
 
 // The block at a without its groups and data. Each field is stored at its offset, and the zeros between them stand
 // already.
-fn write_fields(
-    big: bool,
-    p: &[u64],
-    a: usize,
-    h: Head,
-    listing: &[u64],
-    pool: &[u8],
-    room: &mut [u8],
-    c: Cursor,
-) -> Cursor
-    requires block { IsBlock p.now a × IsHead p.now a h × ZerosFrom c.at room.old }
-    requires room { Room (fields_part big listing.now pool.now (word p.now (a + 2)) 0 (shape_at p.now a).fields
-        c.record) c.at (length room.old) }
-    ensures { Stored (fields_part big listing.now pool.now (word p.now (a + 2)) 0
-        (shape_at p.now a).fields c.record) c.at room.old result.record result.at
+fn write_fields(l: &Listing, big: bool, a: usize, h: Head, room: &mut [u8], c: Cursor) -> Cursor
+    requires block { IsBlock l.now.book.now a × IsHead l.now.book.now a h × ZerosFrom c.at room.old }
+    requires room { Room (fields_part big l.now.numbers.now l.now.pool.now (word l.now.book.now (a + 2)) 0
+        (shape_at l.now.book.now a).fields c.record) c.at (length room.old) }
+    ensures { Stored (fields_part big l.now.numbers.now l.now.pool.now (word l.now.book.now (a + 2)) 0
+        (shape_at l.now.book.now a).fields c.record) c.at room.old result.record result.at
         room.new }
 {
-    let start = c.at;
-    let mut left = h.fields;
+    // As in `store`.
     let mut f = a + 12;
     let mut t = h.table;
     let mut i = c.record;
-    while 0 < left {
-        let at = start + number(p, f + 3);
-        write_value(big, p, f, t, listing, i, pool, &mut room[at..]);
-        f = f + 7;
-        t = t + 6;
-        i = i + 1;
-        left = left - 1;
+    for _ in (0..h.fields).rev() {
+        let at = c.at + number(l.book, f + 3);
+        write_value(l, big, f, t, i, &mut room[at..]);
+        f += 7;
+        t += 6;
+        i += 1;
     }
     Cursor {
         record: i,
-        at: start + h.length,
+        at: c.at + h.length,
     }
 }
 
 // The same in the book's order. The compiler makes a loop of its own for each.
-fn write_block(
-    p: &[u64],
-    a: usize,
-    h: Head,
-    listing: &[u64],
-    pool: &[u8],
-    room: &mut [u8],
-    c: Cursor,
-) -> Cursor
-    requires block { IsBlock p.now a × IsHead p.now a h × ZerosFrom c.at room.old }
-    requires room { Room (fields_part (is_big p.now) listing.now pool.now (word p.now (a + 2)) 0
-        (shape_at p.now a).fields c.record) c.at (length room.old) }
-    ensures { Stored (fields_part (is_big p.now) listing.now pool.now (word p.now (a + 2)) 0
-        (shape_at p.now a).fields c.record) c.at room.old result.record result.at room.new }
+fn write_block(l: &Listing, a: usize, h: Head, room: &mut [u8], c: Cursor) -> Cursor
+    requires block { IsBlock l.now.book.now a × IsHead l.now.book.now a h × ZerosFrom c.at room.old }
+    requires room { Room (fields_part (is_big l.now.book.now) l.now.numbers.now l.now.pool.now (word l.now.book.now (a + 2)) 0
+        (shape_at l.now.book.now a).fields c.record) c.at (length room.old) }
+    ensures { Stored (fields_part (is_big l.now.book.now) l.now.numbers.now l.now.pool.now (word l.now.book.now (a + 2)) 0
+        (shape_at l.now.book.now a).fields c.record) c.at room.old result.record result.at room.new }
 {
-    if !prepared::is_big(p) {
-        return write_fields(false, p, a, h, listing, pool, room, c);
+    if !prepared::is_big(l.book) {
+        return write_fields(l, false, a, h, room, c);
     }
-    write_fields(true, p, a, h, listing, pool, room, c)
+    write_fields(l, true, a, h, room, c)
 }
 
 // The data of record i: how many octets it has.
-fn write_data(big: bool, listing: &[u64], i: usize, pool: &[u8], room: &mut [u8]) -> usize
-    requires { Room (data_part big listing.now pool.now i) 0 (length room.old) }
-    ensures { Stored (data_part big listing.now pool.now i) 0 room.old (i + 1) result
+fn write_data(l: &Listing, big: bool, i: usize, room: &mut [u8]) -> usize
+    requires { Room (data_part big l.now.numbers.now l.now.pool.now i) 0 (length room.old) }
+    ensures { Stored (data_part big l.now.numbers.now l.now.pool.now i) 0 room.old (i + 1) result
         room.new × (i + 1 < 2 ^ 64) }
 {
-    let len = number_of(listing, i, 2);
-    ordered::put2(big, room, 0, len);
-    let start = number_of(listing, i, 1);
-    put_octets(&mut room[2..], pool, start as usize, len as usize);
+    let len = l.third(i);
+    ordered::put::<2>(big, room, 0, len);
+    put_octets(&mut room[2..], l.pool, l.second(i) as usize, len as usize);
     2 + len as usize
 }
 
 // The data of the block at a.
-fn write_datas(
-    p: &[u64],
-    a: usize,
-    listing: &[u64],
-    pool: &[u8],
-    room: &mut [u8],
-    c: Cursor,
-) -> Cursor
-    requires block { IsBlock p.now a }
-    requires room { Room (datas_part (is_big p.now) listing.now pool.now (many_datas p.now a) c.record) c.at
-        (length room.old) }
-    ensures { Stored (datas_part (is_big p.now) listing.now pool.now (many_datas
-        p.now a) c.record) c.at room.old result.record result.at room.new }
+fn write_datas(l: &Listing, a: usize, room: &mut [u8], c: Cursor) -> Cursor
+    requires block { IsBlock l.now.book.now a }
+    requires room { Room (datas_part (is_big l.now.book.now) l.now.numbers.now l.now.pool.now (many_datas l.now.book.now a)
+        c.record) c.at (length room.old) }
+    ensures { Stored (datas_part (is_big l.now.book.now) l.now.numbers.now l.now.pool.now (many_datas
+        l.now.book.now a) c.record) c.at room.old result.record result.at room.new }
 {
-    let big = prepared::is_big(p);
-    let mut left = number(p, a + 5);
+    let big = prepared::is_big(l.book);
     let mut here = c;
-    while 0 < left {
+    for _ in 0..number(l.book, a + 5) {
         let at = here.at;
-        let n = write_data(big, listing, here.record, pool, &mut room[at..]);
+        let n = write_data(l, big, here.record, &mut room[at..]);
         here = Cursor {
             record: here.record + 1,
             at: at + n,
         };
-        left = left - 1;
     }
     here
 }
 
 // Two 16-bit numbers at `at`.
+#[tactic(auto, using(crate::proofs::Message::two_numbers))]
 fn put_two(big: bool, room: &mut [u8], at: usize, x: u64, y: u64)
     requires { at + 4 ≤ length room.old }
     ensures { room.new ≡ sets room.old at (numbers16 big (x ∷ y ∷ [])) }
 {
-    ordered::put2(big, room, at, x);
-    ordered::put2(big, room, at + 2, y);
+    ordered::put::<2>(big, room, at, x);
+    ordered::put::<2>(big, room, at + 2, y);
 }
 
 // The dimension of the group at a, which has k entries, `depth` more levels being left.
+#[tactic(auto, using(crate::proofs::Message::four_numbers))]
 fn put_dimension(p: &[u64], a: usize, depth: usize, k: u64, room: &mut [u8], c: Cursor) -> Cursor
     requires block_at { BlockAt p.now depth a × (c.record + 1 < 2 ^ 64) }
     requires room { Room (dimension_at p.now depth a k c.record) c.at (length room.old) }
@@ -261,84 +204,60 @@ fn put_header(p: &[u64], a: usize, room: &mut [u8])
 
 // k entries of the block at a, `depth` more levels being left.
 #[cycle(write_entries_write_row)]
-fn write_entries(
-    p: &&[u64],
-    a: usize,
-    depth: usize,
-    k: u64,
-    listing: &&[u64],
-    pool: &&[u8],
-    room: &mut [u8],
-    c: Cursor,
-) -> Cursor
-    requires block_at { BlockAt p.now.now depth a × ZerosFrom c.at room.old }
-    requires room { Room (entries_at listing.now.now pool.now.now p.now.now depth a k c.record) c.at
+fn write_entries(l: &Listing, a: usize, depth: usize, k: u64, room: &mut [u8], c: Cursor) -> Cursor
+    requires block_at { BlockAt l.now.book.now depth a × ZerosFrom c.at room.old }
+    requires room { Room (entries_at l.now.numbers.now l.now.pool.now l.now.book.now depth a k c.record) c.at
         (length room.old) }
-    ensures { Stored (entries_at listing.now.now pool.now.now p.now.now
+    ensures { Stored (entries_at l.now.numbers.now l.now.pool.now l.now.book.now
         depth a k c.record) c.at room.old result.record result.at room.new }
 {
-    let s = *p;
-    let t = *listing;
-    let o = *pool;
-    let block = head_at(s, a);
-    let mut due = k;
+    // Taken anew: so its numbers are loaded once, and not after each store into the room.
+    let listing = *l;
+    let block = head_at(listing.book, a);
     let mut here = c;
-    while 0 < due {
-        due = due - 1;
-        here = write_block(s, a, block, t, o, room, here);
-        if block.follow == 0 {
-            continue;
+    for _ in (0..k).rev() {
+        here = write_block(&listing, a, block, room, here);
+        if block.follow != 0 {
+            here = write_row(l, a, depth, room, here);
+            here = write_datas(&listing, a, room, here);
         }
-        let row = write_row(p, a, depth, listing, pool, room, here);
-        here = write_datas(s, a, t, o, room, row);
     }
     here
 }
 
 // The groups of the block at a, `depth` more levels being left.
 #[cycle(write_entries_write_row)]
-fn write_row(
-    p: &&[u64],
-    a: usize,
-    depth: usize,
-    listing: &&[u64],
-    pool: &&[u8],
-    room: &mut [u8],
-    c: Cursor,
-) -> Cursor
-    requires block_at { BlockAt p.now.now depth a × ZerosFrom c.at room.old }
-    requires room { Room (groups_part (is_counted p.now.now) (is_big p.now.now) listing.now.now pool.now.now
-        (inner_at p.now.now depth a) c.record) c.at (length room.old) }
-    ensures { Stored (groups_part (is_counted p.now.now) (is_big p.now.now) listing.now.now pool.now.now (inner_at p.now.now depth a) c.record) c.at
-        room.old result.record result.at room.new }
+fn write_row(l: &Listing, a: usize, depth: usize, room: &mut [u8], c: Cursor) -> Cursor
+    requires block_at { BlockAt l.now.book.now depth a × ZerosFrom c.at room.old }
+    requires room { Room (groups_part (is_counted l.now.book.now) (is_big l.now.book.now) l.now.numbers.now l.now.pool.now
+        (inner_at l.now.book.now depth a) c.record) c.at (length room.old) }
+    ensures { Stored (groups_part (is_counted l.now.book.now) (is_big l.now.book.now) l.now.numbers.now l.now.pool.now
+        (inner_at l.now.book.now depth a) c.record) c.at room.old result.record result.at room.new }
 {
-    let s = *p;
-    let t = *listing;
-    let mut g = number(s, a + 9);
-    let mut left = number(s, a + 4);
+    let p = l.book;
+    let mut g = number(p, a + 9);
     let mut here = c;
-    while 0 < left {
-        prepared::open_row(s, g, left, depth);
+    for left in (1..=number(p, a + 4)).rev() {
+        prepared::open_row(p, g, left, depth);
         let below = depth - 1;
         let block = g;
-        g = number(s, block + 8);
-        left = left - 1;
-        let k = number_of(t, here.record, 1);
-        let inside = put_dimension(s, block, below, k, room, here);
-        here = write_entries(p, block, below, k, listing, pool, room, inside);
+        g = number(p, block + 8);
+        let k = l.second(here.record);
+        here = put_dimension(p, block, below, k, room, here);
+        here = write_entries(l, block, below, k, room, here);
     }
     here
 }
 
 // The message of a listing that was judged, by the template at a.
-pub fn write_message(p: &&[u64], a: usize, listing: &&[u64], pool: &&[u8], room: &mut [u8])
-    requires block_at { BlockAt p.now.now 4 a }
-    requires ready { Ready (message_part listing.now.now pool.now.now (book_at p.now.now) (template_at
-        p.now.now a)) room.old }
-    ensures { room.new ≡ sets room.old 0 (numbers_of (message_part listing.now.now pool.now.now (book_at p.now.now)
-        (template_at p.now.now a))) }
+pub fn write_message(l: &Listing, a: usize, room: &mut [u8])
+    requires block_at { BlockAt l.now.book.now 4 a }
+    requires ready { Ready (message_part l.now.numbers.now l.now.pool.now (book_at l.now.book.now) (template_at
+        l.now.book.now a)) room.old }
+    ensures { room.new ≡ sets room.old 0 (numbers_of (message_part l.now.numbers.now l.now.pool.now (book_at l.now.book.now)
+        (template_at l.now.book.now a))) }
 {
-    put_header(*p, a, room);
+    put_header(l.book, a, room);
     let root = Cursor { record: 0, at: 12 };
-    write_entries(p, a, 4, 1, listing, pool, room, root);
+    write_entries(l, a, 4, 1, room, root);
 }

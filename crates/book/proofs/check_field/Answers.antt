@@ -1,22 +1,13 @@
--- The field's words, and what the rules say of them.
-use mathlib.Core.Path.{refl}
+-- Test
+use mathlib.Core.Path.{◌≡◌}
+use native.Mathlib.Omega.{arith}
+use Rattle.layout.specs.Octets.{words_of}
+use Rattle.layout.specs.BookRules.{field_at, field_good, lists_of}
+use Rattle.book.proofs.Rows.{known}
 use Rattle.book.proofs.check_field.Goals as goal
 
 pub returns : goal.returns
 returns c =
-    rw (
-      c.between.ensures,
-      c.both-layout.ensures,
-      c.both-3.ensures,
-      c.both-2.ensures,
-      c.length_good.ensures,
-      c.both-placed.ensures,
-      c.both.ensures,
-      c.names_good.ensures,
-      c.field_end-end.ensures,
-      c.word-since.ensures.value,
-      c.word-presence.ensures.value,
-      c.word-offset.ensures.value,
-      c.word-n.ensures.value,
-      c.word-t.ensures.value,
-    ) refl
+    let a = c.args in
+    let layout : c.if-end-l.rules ≡ field_good a.l a.e (field_at (lists_of (words_of a.book.now)) (words_of a.body.now) a.w) = grind (arith, known) in
+    cc

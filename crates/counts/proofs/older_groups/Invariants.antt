@@ -9,7 +9,3 @@ abbrev pub invariant-loop-left : goal.invariant-loop-left
 invariant-loop-left l =
     IsRow l.p l.depth l.left l.g × (l.seen + l.left ≤ 16)
     × (present l.v (group_sinces (inner_at l.p l.depth l.a)) ≡ l.seen + present l.v (group_sinces (groups_at l.p l.depth l.left l.g)))
-
-abbrev pub decreases-loop-left : goal.decreases-loop-left
-decreases-loop-left l =
-    l.left

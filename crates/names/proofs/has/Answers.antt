@@ -7,30 +7,10 @@ use Rattle.layout.specs.Lists.{is_listed}
 use Rattle.names.proofs.Masks.{by_mask}
 use Rattle.names.proofs.has.Goals as goal
 
-pub overflow_add-a : goal.overflow_add-a
-overflow_add-a c =
-    omega (arith, c.requires.fits)
-
-pub value-requires : goal.value-requires
-value-requires c =
-    omega (arith, c.requires.fits)
-
-pub is_among-requires : goal.is_among-requires
-is_among-requires c =
-    c.requires
-
 pub returns-then-value-eq0 : goal.returns-then-value-eq0
 unfolding is_listed when◌then◌else◌
 returns-then-value-eq0 c =
     rw (eq-eqb _ 0 (sym c.value.ensures ∙ c.if-value-eq0.true)) c.is_among.ensures
-
-pub overflow_add-a-2 : goal.overflow_add-a-2
-overflow_add-a-2 c =
-    omega (arith, c.requires.fits)
-
-pub value-requires-2 : goal.value-requires-2
-value-requires-2 c =
-    omega (arith, c.requires.fits)
 
 pub returns : goal.returns
 unfolding is_listed when◌then◌else◌

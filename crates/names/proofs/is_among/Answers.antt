@@ -1,36 +1,22 @@
--- A number that is x stands from `low` up to `high`.
-use native.Mathlib.Omega.{arith}
-use mathlib.Core.Path.{sym, ◌∙◌}
-use Rattle.book.proofs.Search.{not_within, within_above, within_below}
-use Rattle.names.proofs.Rising.{among, not_among, rising}
+-- The numbers of a list rise, so that a search finds x if it is among them.
+use Rattle.std.proofs.Common.{◌≡◌, ◌+◌, ◌∙◌, ◌-◌, arith, rules}
+use Rattle.layout.specs.BookRules.{word}
+use Rattle.bisect.proofs.Rising.{is_place}
+use Rattle.names.proofs.Rising.{among_as, number_at, rising}
 use Rattle.names.proofs.is_among.Goals as goal
-
-pub loop-low-init : goal.loop-low-init
-loop-low-init c =
-    rw c.number-high.ensures (c.requires, omega arith, λ i h e. (omega arith, h))
-
-pub returns-then-here-x : goal.returns-then-here-x
-returns-then-here-x c =
-    let inv = c.loop-low.invariant in
-    sym (among _ _ inv.0 _ _ (omega arith) (sym c.value-here.ensures ∙ c.if-here-x.true))
-
-pub loop-low-preserved-then-here-x-2 : goal.loop-low-preserved-then-here-x-2
-loop-low-preserved-then-here-x-2 c =
-    let inv = c.loop-low.invariant in
-    let below = rw c.value-here.ensures at c.if-here-x-2.true in
-    (inv.0, inv.1, within_above _ _ (rising _ _ inv.0) _ _ _ inv.2 _ (omega arith) below)
-
-pub loop-low-preserved : goal.loop-low-preserved
-loop-low-preserved c =
-    let inv = c.loop-low.invariant in
-    let above = rw c.value-here.ensures at c.if-here-x-2.false in
-    let other = rw c.value-here.ensures at c.if-here-x.false in (
-      inv.0,
-      omega arith,
-      within_below _ _ (rising _ _ inv.0) _ _ _ inv.2 _ (omega arith) (omega (arith, above, other)),
-    )
 
 pub returns : goal.returns
 returns c =
-    let inv = c.loop-low.invariant in
-    sym (not_among _ _ inv.0 _ (not_within _ _ (rising _ _ inv.0) _ _ _ inv.2 (omega arith)))
+    let p = c.args.p.now in
+    let a = c.args.a in
+    let find = rw c.number.ensures at c.find.ensures in
+    c.is_some.ensures
+    ∙ among_as p a c.requires c.args.x _
+    (is_place (number_at p a) (word p (a + 3)) c.args.x (rising p a c.requires) _ find.inside find.met find.missing
+    (λ i h. search (rules, h))
+    (λ h. (
+      h.0,
+      h.1,
+      λ g. let y = h.2 g in let same : y.0 ≡ number_at p a (h.0 - 1) = search (rules, y.2) in omega (arith, y.1, same),
+      λ g. let y = h.3 g in let same : y.0 ≡ number_at p a h.0 = search (rules, y.2) in omega (arith, y.1, same),
+    )))

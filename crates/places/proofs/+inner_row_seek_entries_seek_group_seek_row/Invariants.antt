@@ -1,12 +1,11 @@
 -- The walk along a path calls itself: a row, the group that a step leads to, its entries, the row of an entry. The
 -- measure of a call is the depth left, and within a depth the order of the calls.
 use mathlib.Core.Path.{◌≡◌}
-use Prim.Native.Nat.{◌+◌, ◌-◌, ◌*◌, ◌≤◌}
+use Prim.Native.Nat.{◌+◌, ◌*◌, ◌≤◌}
 use lib.ListN.{length}
-use Rattle.layout.specs.BookRules.{word}
-use Rattle.prepared.specs.Positions.{BlockAt, is_big}
-use Rattle.places.specs.Spots.{nowhere}
-use Rattle.places.specs.Seeks.{Path, entries_left}
+use Rattle.std.specs.Prelude.{None}
+use Rattle.places.specs.Seeks.{entries_sought}
+use Rattle.places.proofs.Seeks.{entries_left}
 use Rattle.places.proofs.+inner_row_seek_entries_seek_group_seek_row.Given as goal
 
 abbrev pub decreases-inner_row : goal.decreases-inner_row
@@ -21,14 +20,23 @@ decreases-seek_group l = 4 * l.depth
 abbrev pub decreases-seek_row : goal.decreases-seek_row
 decreases-seek_row l = 4 * l.depth + 1
 
--- Whatever is known at the start and used later stands in the invariant, so that no goal looks further back than it.
-abbrev pub invariant-seek_entries-loop-due : goal.invariant-seek_entries-loop-due
-invariant-seek_entries-loop-due l =
-    BlockAt l.p.now l.depth l.a × (length l.m.now ≤ 65535) × (l.at ≤ length l.m.now) × Path l.path.now (l.i + 2)
-    × (l.big ≡ is_big l.p.now) × (l.groups ≤ 65535) × (l.datas ≤ 65535)
-    × (entries_left l.p.now l.depth l.a l.m.now l.v l.path.now l.i l.groups l.datas l.l (l.k - word l.path.now (l.i + 1)) nowhere l.k
-    l.start ≡ entries_left l.p.now l.depth l.a l.m.now l.v l.path.now l.i l.groups l.datas l.l l.turn l.spot l.due l.at)
+-- What is left of the entries, of which n were passed, is sought as all of them are.
+abbrev pub invariant-seek_entries-loop : goal.invariant-seek_entries-loop
+invariant-seek_entries-loop l =
+    let p = l.m.book.now in
+    let m = l.m.octets.now in
+    record {
+      inside : l.at ≤ length m;
+      whole : entries_sought p l.depth l.a m l.m.version l.path.now l.i l.entries l.start
+          ≡ entries_left p l.depth l.a m l.m.version l.path.now l.i l.entries l.counter None l.at;
+    }
 
-abbrev pub decreases-seek_entries-loop-due : goal.decreases-seek_entries-loop-due
-decreases-seek_entries-loop-due l =
-    l.due
+abbrev pub invariant-seek_entries-loop-2 : goal.invariant-seek_entries-loop-2
+invariant-seek_entries-loop-2 l =
+    let p = l.m.book.now in
+    let m = l.m.octets.now in
+    record {
+      inside : l.at ≤ length m;
+      whole : entries_sought p l.depth l.a m l.m.version l.path.now l.i l.entries l.start
+          ≡ entries_left p l.depth l.a m l.m.version l.path.now l.i l.entries l.counter l.row.spot l.at;
+    }

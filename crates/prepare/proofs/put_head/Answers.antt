@@ -1,18 +1,26 @@
--- Two stores of six are the head.
-use Rattle.std.proofs.Common.{arith}
-use Rattle.prepare.proofs.Blocks.{counts_fit, head_stored}
+-- Twelve stores are the head.
+use Rattle.std.proofs.Common.{◌≡◌, suc, ◌+◌, ◌*◌, arith}
+use native.Mathlib.Numerals.{towards_suc}
+use Rattle.prepare.specs.Positions.{size_at}
 use Rattle.prepare.proofs.put_head.Goals as goal
-
-pub overflow_mul-counts-3 : goal.overflow_mul-counts-3
-overflow_mul-counts-3 c =
-    omega (
-      arith,
-      counts_fit _ _ _ c.requires.1 c.word-g.ensures.small
-          c.word-d.ensures.small,
-    )
 
 pub returns : goal.returns
 returns c =
-    head_stored _ _ _ _ _ _ _ _ _ _ _ _ c.args.room.now _ _ c.word-l.ensures.value
-    c.word-f.ensures.value c.word-g.ensures.value c.word-d.ensures.value c.put_six.ensures
-    c.put_six-2.ensures
+    let at = c.args.at in
+    let f = c.word-f.result in
+    let d = c.word-d.result in
+    let end : at + 12 + 7 * f + 2 * d + 6 * f ≡ at + size_at c.args.body.now c.args.group.word =
+    omega (arith, c.word-f.ensures.value, c.word-d.ensures.value) in
+    let nine : at + 9 ≡ suc (at + 8) = omega arith in
+    let ten : at + 10 ≡ suc (suc (at + 8)) = omega arith in
+    let eleven : at + 11 ≡ suc (suc (suc (at + 8))) = omega arith in
+    rw (
+      end,
+      nine,
+      ten,
+      eleven,
+      c.word.ensures.value,
+      c.word-f.ensures.value,
+      c.word-g.ensures.value,
+      c.word-d.ensures.value,
+    ) (simp towards_suc)

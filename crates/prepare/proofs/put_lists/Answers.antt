@@ -1,32 +1,16 @@
--- Lists are stored one after the other, and those that are left are to come.
-use Rattle.std.proofs.Common.{arith}
-use Rattle.book.proofs.Rows.{head_says}
-use Rattle.prepare.proofs.Lists.{all_listed, end_is, first_fits, first_list, listing_on, listing_starts}
+-- One list after the other is stored.
+use Rattle.std.proofs.Common.{refl, arith}
+use Rattle.layout.specs.BookRules.{parse_contents}
+use Rattle.prepared.specs.Numbers.{lists_numbers, lists_size}
+use Rattle.prepare.proofs.Lists.{next_fits, next_list}
 use Rattle.prepare.proofs.put_lists.Goals as goal
 
-pub word-left-requires : goal.word-left-requires
-word-left-requires c =
-    omega (arith, (head_says _ c.requires.0.has.head).fits)
-
-pub word-requires : goal.word-requires
-word-requires c =
-    omega (arith, (head_says _ c.requires.0.has.head).fits)
-
-pub loop-left-init : goal.loop-left-init
-loop-left-init c =
-    listing_starts _ c.requires.0 _ _ _ _ c.word-left.ensures.value (omega (arith, c.word.ensures.value))
-    c.requires.1
+pub loop-i-init : goal.loop-i-init
+unfolding lists_numbers lists_size parse_contents
+loop-i-init c = (omega arith, refl)
 
 pub put_list-at-requires : goal.put_list-at-requires
 put_list-at-requires c =
-    let inv = c.loop-left.invariant in
-    (first_list inv c.loop-left-test.true, first_fits inv c.loop-left-test.true)
-
-pub loop-left-preserved : goal.loop-left-preserved
-loop-left-preserved c =
-    listing_on c.loop-left.invariant c.loop-left-test.true _ _ c.put_list-at.ensures.value c.put_list-at.ensures.room_after
-
-pub returns : goal.returns
-returns c =
-    let inv = c.loop-left.invariant in
-    record { value = end_is inv c.loop-left-test.false; room_after = all_listed inv c.loop-left-test.false }
+    let next = rw c.word-i-end.ensures.value at c.loop-i-test.true in
+    rw c.word.ensures.value
+    (next_list _ c.requires.0 _ next, omega (arith, next_fits _ c.requires.0 _ next, c.requires.1))

@@ -1,11 +1,13 @@
--- Lists are stored one after the other, and those that are left are to come.
-use Rattle.prepare.proofs.Lists.{Listing}
+-- So many lists are stored.
+use Rattle.std.proofs.Common.{◌≡◌, ◌+◌, ◌*◌, map}
+use lib.Seq.{sets}
+use Rattle.layout.specs.Octets.{words_of}
+use Rattle.layout.specs.BookRules.{head_size, name_list_of, parse_contents, word}
+use Rattle.prepared.specs.Numbers.{lists_numbers, lists_size}
 use Rattle.prepare.proofs.put_lists.Given as goal
 
-abbrev pub invariant-loop-left : goal.invariant-loop-left
-invariant-loop-left l =
-    Listing l.book l.initial.room l.start l.room l.left l.w l.at
-
-abbrev pub decreases-loop-left : goal.decreases-loop-left
-decreases-loop-left l =
-    l.left
+abbrev pub invariant-loop-i : goal.invariant-loop-i
+invariant-loop-i l =
+    let b = words_of l.book in
+    let ls = map (name_list_of b) (parse_contents b l.i (head_size + 3 * word b 2)) in
+    (l.at ≡ l.start + lists_size ls) × (l.room ≡ sets l.initial.room l.start (lists_numbers ls))

@@ -2,17 +2,13 @@
 use native.Mathlib.Omega.{arith}
 use Prim.Native.Nat.{◌%◌}
 use Rattle.prepared.specs.Books.{IsSlot}
-use Rattle.prepared.proofs.Found.{slot_leads, slot_lies}
+use Rattle.prepared.proofs.Found.{slot_leads}
 use Rattle.prepared.proofs.find.Goals as goal
 use Rattle.prepared.proofs.find.Goals.{After-number-a}
 
 slot : (c : After-number-a) → IsSlot c.args.p.now c.number-a.result
 slot c =
     rw c.number-a.ensures (c.requires.slot (c.args.id % 64) (omega arith))
-
-pub number-requires : goal.number-requires
-number-requires c =
-    slot_lies _ c.requires _ (slot (goal.at.number-requires c).After-number-a) c.if-a-gt0.true
 
 pub returns-then-number-id : goal.returns-then-number-id
 returns-then-number-id c =

@@ -1,38 +1,26 @@
--- A row that has the id lies from `low` up to `high`.
-use mathlib.Core.Path.{sym, ◌∙◌}
-use native.Mathlib.Omega.{arith}
-use Rattle.book.proofs.Search.{within_above, within_below}
-use Rattle.prepared.proofs.Rows.{found_at, not_found_at}
+-- Ids rise along the rows, so that a search finds the one with this id.
+use Rattle.std.proofs.Common.{◌≡◌, ◌∙◌, ◌-◌, None, arith, rules, sym}
+use Rattle.layout.specs.BookRules.{word}
+use Rattle.bisect.proofs.Rising.{is_place}
+use Rattle.prepared.specs.Books.{id_of}
+use Rattle.prepared.proofs.Rows.{found_at, not_found}
 use Rattle.prepared.proofs.search.Goals as goal
 
-pub loop-low-init : goal.loop-low-init
-loop-low-init c =
-    rw c.number-high.ensures (c.requires, omega arith, λ i h e. (omega arith, h))
-
-pub returns-then-here-id : goal.returns-then-here-id
-returns-then-here-id c =
-    let inv = c.loop-low.invariant in
-    rw c.number.ensures
-    (sym (found_at _ inv.0 _ _ (omega arith) (sym c.number-here.ensures ∙ c.if-here-id.true)))
-
-pub loop-low-preserved-then-here-id-2 : goal.loop-low-preserved-then-here-id-2
-loop-low-preserved-then-here-id-2 c =
-    let inv = c.loop-low.invariant in (
-      inv.0,
-      inv.1,
-      within_above _ _ inv.0.rising _ _ _ inv.2 _ (omega arith) (rw c.number-here.ensures at c.if-here-id-2.true),
-    )
-
-pub loop-low-preserved : goal.loop-low-preserved
-loop-low-preserved c =
-    let inv = c.loop-low.invariant in
-    let above = rw c.number-here.ensures at c.if-here-id-2.false in
-    let other = rw c.number-here.ensures at c.if-here-id.false in (
-      inv.0,
-      omega arith,
-      within_below _ _ inv.0.rising _ _ _ inv.2 _ (omega arith) (omega (arith, above, other)),
-    )
+pub returns-in_err-row : goal.returns-in_err-row
+returns-in_err-row c =
+    let p = c.args.p.now in
+    let find = rw c.number.ensures at c.in_err-row.ensures in
+    c.from_residual.ensures
+    ∙ sym (not_found _ c.requires _ (is_place (id_of p) (word p 2) c.args.id c.requires.rising None find.inside find.met find.missing
+    (λ i h. absurd h)
+    (λ h. (
+      h.0,
+      h.1,
+      λ g. let y = h.2 g in let same : y.0 ≡ id_of p (h.0 - 1) = search (rules, y.2) in omega (arith, y.1, same),
+      λ g. let y = h.3 g in let same : y.0 ≡ id_of p h.0 = search (rules, y.2) in omega (arith, y.1, same),
+    ))))
 
 pub returns : goal.returns
 returns c =
-    let inv = c.loop-low.invariant in sym (not_found_at _ inv.0 _ _ _ inv.2 (omega arith))
+    let find = rw c.number.ensures at c.in_ok-row.ensures in
+    rw c.number-2.ensures (sym (found_at _ c.requires _ _ find.inside (search (rules, find.met))))

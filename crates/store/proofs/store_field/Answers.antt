@@ -17,6 +17,7 @@ use Rattle.fields.specs.Readable.{plain}
 use Rattle.fields.proofs.Fields.{field_bare, field_beside}
 use Rattle.store.proofs.Records.{Holds, is_listed_lem, is_unlisted, no_number, record_stored, stored_anew}
 use Rattle.store.proofs.store_field.Goals as goal
+use Rattle.store.proofs.store_field.Goals.{then-list-eq0-via-then-list-eq0, then-list-eq0-via-else-list-eq0+then-room-n-ne0}
 
 held : {d : List ℕ} {n : ℕ} {a : Answer} {room : List ℕ} → n + 3 ≤ length d → room ≡ sets d n (record_of a)
     → Holds d n a room
@@ -42,32 +43,31 @@ returns-then-not-listed c =
 pub returns-then-list-eq0 : goal.returns-then-list-eq0
 returns-then-list-eq0 c =
     let field = c.requires.0.field in
-    record_stored _ _ _ c.put.ensures
-    (field_bare _ _ _ _ _ _ _ _ field c.read_plain.ensures
-    (names_free (leads _ _ _ field c.number-list.ensures) c.if-list-eq0.true))
-
-pub returns-then-room-n-ne0 : goal.returns-then-room-n-ne0
-returns-then-room-n-ne0 c =
-    record_stored _ _ _ c.put.ensures
-    (no_number (held c.requires.2 c.put.ensures) _ c.if-room-n-ne0.true ∙ seen _ _ _ c.requires.0.field c.read_plain.ensures)
+    record_stored _ _ _ c.put.ensures (elim c.then-list-eq0.branch [
+      | then-list-eq0-via-then-list-eq0 w ↦
+          field_bare _ _ _ _ _ _ _ _ field c.read_plain.ensures
+          (names_free (leads _ _ _ field c.number-list.ensures) w.if-list-eq0.true)
+      | then-list-eq0-via-else-list-eq0+then-room-n-ne0 w ↦
+          no_number (held c.requires.2 c.put.ensures) _ w.if-room-n-ne0.true ∙ seen _ _ _ field c.read_plain.ensures
+    ])
 
 pub has-requires : goal.has-requires
 has-requires c =
     (leads _ _ _ c.requires.0.field c.number-list.ensures).list (omega arith)
 
-pub returns-then-has : goal.returns-then-has
-returns-then-has c =
-    let field = c.requires.0.field in
-    let names = names_here (leads _ _ _ field c.number-list.ensures) c.if-list-eq0.false in
-    record_stored _ _ _ c.put.ensures
-    (is_listed_lem (held c.requires.2 c.put.ensures) c.if-room-n-ne0.false _ (rw names (sym c.has.ensures ∙ c.if-has.true))
-    ∙ seen _ _ _ field c.read_plain.ensures)
-
-pub returns : goal.returns
-returns c =
+pub returns-then-not-has : goal.returns-then-not-has
+returns-then-not-has c =
     let field = c.requires.0.field in
     let names = names_here (leads _ _ _ field c.number-list.ensures) c.if-list-eq0.false in
     let first = held c.requires.2 c.put.ensures in
-    record_stored _ _ _ (c.put-2.ensures ∙ stored_anew first _)
-    (is_unlisted first c.if-room-n-ne0.false _ (rw names (sym c.has.ensures ∙ c.if-has.false))
+    record_stored _ _ _ (c.put-then-not-has.ensures ∙ stored_anew first _)
+    (is_unlisted first c.if-room-n-ne0.false _ (rw names (sym c.has.ensures ∙ c.if-not-has.true))
+    ∙ seen _ _ _ field c.read_plain.ensures)
+
+pub returns-else-not-has : goal.returns-else-not-has
+returns-else-not-has c =
+    let field = c.requires.0.field in
+    let names = names_here (leads _ _ _ field c.number-list.ensures) c.if-list-eq0.false in
+    record_stored _ _ _ c.put.ensures
+    (is_listed_lem (held c.requires.2 c.put.ensures) c.if-room-n-ne0.false _ (rw names (sym c.has.ensures ∙ c.if-not-has.false))
     ∙ seen _ _ _ field c.read_plain.ensures)

@@ -4,10 +4,5 @@ use Rattle.layout.specs.Result.{◌>>=◌, done}
 use Rattle.surplus.proofs.Rows.{Skipping}
 use Rattle.surplus.proofs.skip_datas.Given as goal
 
-abbrev pub invariant-loop-left : goal.invariant-loop-left
-invariant-loop-left l =
-    Skipping l.m (λ y. read_data l.big l.m y >>= λ r. done r.1) l.n l.at l.left l.x
-
-abbrev pub decreases-loop-left : goal.decreases-loop-left
-decreases-loop-left l =
-    l.left
+abbrev pub invariant-loop : goal.invariant-loop
+invariant-loop l = Skipping l.m (λ y. read_data l.big l.m y >>= λ r. done r.1) l.n l.start l.counter l.at

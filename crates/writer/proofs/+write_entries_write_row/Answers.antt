@@ -5,7 +5,7 @@ use native.Mathlib.Omega.{arith}
 use Rattle.prepared.proofs.Open.{some_follow}
 use Rattle.layout.proofs.Accepted.{datas_length_lem}
 use Rattle.prints.proofs.Going.{going_call, going_end, going_first, going_none, stored_none}
-use Rattle.writer.proofs.Parts.{datas_end_lem, entries_end, entries_step, group_open, groups_end_lem}
+use Rattle.writer.proofs.Parts.{datas_end, entries_end, entries_step, group_open, groups_end}
 use Rattle.writer.proofs.Zeros.{zeros_on}
 use Rattle.writer.proofs.+write_entries_write_row.Goals as goal
 
@@ -13,62 +13,60 @@ pub write_entries-head_at-block-requires : goal.write_entries-head_at-block-requ
 write_entries-head_at-block-requires t c =
     c.requires.block_at.0.block
 
-pub write_entries-loop-due-init : goal.write_entries-loop-due-init
-write_entries-loop-due-init t c =
+pub write_entries-loop-init : goal.write_entries-loop-init
+write_entries-loop-init t c =
     let pre = c.requires in
-    ((pre.block_at.0, c.head_at-block.ensures), pre.block_at.1, going_none pre.room)
+    (pre.block_at.1, going_none pre.room)
 
 pub write_entries-write_block-here-requires : goal.write_entries-write_block-here-requires
 write_entries-write_block-here-requires t c =
-    let inv = c.loop-due.invariant in
-    record { block = (inv.0.0.block, inv.0.1, inv.1); room = going_first inv.2 _ (entries_step _ _ _ _ _ _ _ c.loop-due-test.true) }
+    let inv = c.loop.invariant in
+    record {
+      block = (c.requires.block_at.0.block, c.head_at-block.ensures, inv.0);
+      room = going_first inv.1 _ (entries_step _ _ _ _ _ _ _ c.loop-test.true);
+    }
 
--- The block has neither groups nor data: its fields are all of it.
-pub write_entries-loop-due-preserved-then-block-eq0 : goal.write_entries-loop-due-preserved-then-block-eq0
-write_entries-loop-due-preserved-then-block-eq0 t c =
-    let inv = c.loop-due.invariant in
-    let none = rw inv.0.1.follow at c.if-block-eq0.true in
-    let some = some_follow inv.0.0.block in
+pub write_entries-write_row-here-requires : goal.write_entries-write_row-here-requires
+write_entries-write_row-here-requires t c =
+    let inv = c.loop.invariant in
     let fields = c.write_block-here.ensures in
-    let laid = going_call inv.2 _ (entries_step _ _ _ _ _ _ _ c.loop-due-test.true) fields in
-    let groups = going_call laid _ refl (stored_none (groups_end_lem _ _ _ _ _ _ _ _ _ (omega (arith, none, some)))) in (
-      inv.0,
-      zeros_on inv.1 fields,
-      going_call groups _ refl (stored_none (datas_end_lem _ _ _ _ _ (rw datas_length_lem (omega (arith, none, some))))),
-    )
-
-pub write_entries-write_row-row-requires : goal.write_entries-write_row-row-requires
-write_entries-write_row-row-requires t c =
-    let inv = c.loop-due.invariant in
-    let fields = c.write_block-here.ensures in
-    let laid = going_call inv.2 _ (entries_step _ _ _ _ _ _ _ c.loop-due-test.true) fields in (
+    let laid = going_call inv.1 _ (entries_step _ _ _ _ _ _ _ c.loop-test.true) fields in (
       omega (arith, c.decreases),
-      ((inv.0.0, zeros_on inv.1 fields), going_first laid _ refl),
+      ((c.requires.block_at.0, zeros_on inv.0 fields), going_first laid _ refl),
     )
 
 pub write_entries-write_datas-here-requires : goal.write_entries-write_datas-here-requires
 write_entries-write_datas-here-requires t c =
-    let inv = c.loop-due.invariant in
-    let fields = c.write_block-here.ensures in
-    let laid = going_call inv.2 _ (entries_step _ _ _ _ _ _ _ c.loop-due-test.true) fields in
-    let groups = going_call laid _ refl (c.write_row-row.ensures) in
-    record { block = inv.0.0.block; room = rw datas_length_lem at (going_first groups _ refl) }
+    let laid = going_call c.loop.invariant.1 _ (entries_step _ _ _ _ _ _ _ c.loop-test.true) c.write_block-here.ensures in
+    let groups = going_call laid _ refl c.write_row-here.ensures in
+    record { block = c.requires.block_at.0.block; room = rw datas_length_lem at (going_first groups _ refl) }
 
-pub write_entries-loop-due-preserved : goal.write_entries-loop-due-preserved
-write_entries-loop-due-preserved t c =
-    let inv = c.loop-due.invariant in
+pub write_entries-loop-preserved-then-block-ne0 : goal.write_entries-loop-preserved-then-block-ne0
+write_entries-loop-preserved-then-block-ne0 t c =
+    let inv = c.loop.invariant in
     let fields = c.write_block-here.ensures in
-    let laid = going_call inv.2 _ (entries_step _ _ _ _ _ _ _ c.loop-due-test.true) fields in
-    let groups = going_call laid _ refl (c.write_row-row.ensures) in
-    let zeros = zeros_on (zeros_on inv.1 fields) (c.write_row-row.ensures) in (
-      inv.0,
-      zeros_on zeros c.write_datas-here.ensures,
+    let laid = going_call inv.1 _ (entries_step _ _ _ _ _ _ _ c.loop-test.true) fields in
+    let groups = going_call laid _ refl c.write_row-here.ensures in (
+      zeros_on (zeros_on (zeros_on inv.0 fields) c.write_row-here.ensures) c.write_datas-here.ensures,
       going_call (rw datas_length_lem at groups) _ refl c.write_datas-here.ensures,
+    )
+
+-- Where the block has neither groups nor data its fields are all of it.
+pub write_entries-loop-preserved : goal.write_entries-loop-preserved
+write_entries-loop-preserved t c =
+    let inv = c.loop.invariant in
+    let fields = c.write_block-here.ensures in
+    let laid = going_call inv.1 _ (entries_step _ _ _ _ _ _ _ c.loop-test.true) fields in
+    let block = c.requires.block_at.0.block in
+    let none = rw c.head_at-block.ensures.follow at c.if-block-ne0.false in
+    let groups = going_call laid _ refl (stored_none (groups_end _ _ _ _ _ _ _ _ _ (omega (arith, none, some_follow block)))) in (
+      zeros_on inv.0 fields,
+      going_call groups _ refl (stored_none (datas_end _ _ _ _ _ (rw datas_length_lem (omega (arith, none, some_follow block))))),
     )
 
 pub write_entries-returns : goal.write_entries-returns
 write_entries-returns t c =
-    going_end c.loop-due.invariant.2 (stored_none (entries_end _ _ _ _ _ _ _ c.loop-due-test.false))
+    going_end c.loop.invariant.1 (stored_none (entries_end _ _ _ _ _ _ _ (omega (arith, c.loop-test.false))))
 
 pub write_row-loop-left-init : goal.write_row-loop-left-init
 write_row-loop-left-init t c =
@@ -79,36 +77,37 @@ pub write_row-overflow_sub-below : goal.write_row-overflow_sub-below
 write_row-overflow_sub-below t c =
     omega (arith, c.open_row.ensures.deep)
 
-pub write_row-number_of-k-requires : goal.write_row-number_of-k-requires
-write_row-number_of-k-requires t c =
-    (((group_open _ _ _ _ _ _ _ _ _ c.open_row.ensures.tree c.loop-left.invariant.2.room.whole)).there, omega arith)
+pub write_row-second-k-requires : goal.write_row-second-k-requires
+write_row-second-k-requires t c =
+    (group_open _ _ _ _ _ _ _ _ _ c.open_row.ensures.tree c.loop-left.invariant.2.room.whole).there
 
-pub write_row-put_dimension-inside-requires : goal.write_row-put_dimension-inside-requires
-write_row-put_dimension-inside-requires t c =
+pub write_row-put_dimension-here-requires : goal.write_row-put_dimension-here-requires
+write_row-put_dimension-here-requires t c =
     let inv = c.loop-left.invariant in
+    let o = group_open _ _ _ _ _ _ _ _ _ c.open_row.ensures.tree inv.2.room.whole in
     record {
-      block_at = (c.open_row.ensures.first, c.number_of-k.ensures.1);
-      room = rw c.number_of-k.ensures.0 (going_first inv.2 _ ((group_open _ _ _ _ _ _ _ _ _ c.open_row.ensures.tree inv.2.room.whole).same));
+      block_at = (c.open_row.ensures.first, omega (arith, o.there, c.well_formed));
+      room = rw c.second-k.ensures (going_first inv.2 _ o.same);
     }
 
 pub write_row-write_entries-here-requires : goal.write_row-write_entries-here-requires
 write_row-write_entries-here-requires t c =
-    let k = c.number_of-k.ensures.0 in
+    let k = c.second-k.ensures in
     let opened = c.open_row.ensures in
     let inv = c.loop-left.invariant in
-    let stored = rw k at c.put_dimension-inside.ensures in (
+    let stored = rw k at c.put_dimension-here.ensures in (
       omega (arith, opened.deep, c.decreases),
       (
         (opened.first, zeros_on inv.1 stored),
-        rw k (going_first (going_call inv.2 _ ((group_open _ _ _ _ _ _ _ _ _ c.open_row.ensures.tree inv.2.room.whole).same) stored) _ refl),
+        rw k (going_first (going_call inv.2 _ ((group_open _ _ _ _ _ _ _ _ _ opened.tree inv.2.room.whole).same) stored) _ refl),
       ),
     )
 
 pub write_row-loop-left-preserved : goal.write_row-loop-left-preserved
 write_row-loop-left-preserved t c =
-    let k = c.number_of-k.ensures.0 in
+    let k = c.second-k.ensures in
     let inv = c.loop-left.invariant in
-    let stored = rw k at c.put_dimension-inside.ensures in
+    let stored = rw k at c.put_dimension-here.ensures in
     let entries = rw k at c.write_entries-here.ensures in
     rw c.number-g-in-loop-left.ensures (
       c.open_row.ensures.rest,
@@ -118,4 +117,4 @@ write_row-loop-left-preserved t c =
 
 pub write_row-returns : goal.write_row-returns
 write_row-returns t c =
-    going_end c.loop-left.invariant.2 (stored_none (groups_end_lem _ _ _ _ _ _ _ _ _ c.loop-left-test.false))
+    going_end c.loop-left.invariant.2 (stored_none (groups_end _ _ _ _ _ _ _ _ _ (omega (arith, c.loop-left-test.false))))

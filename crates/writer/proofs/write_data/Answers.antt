@@ -1,20 +1,16 @@
--- The length, and then the octets in the part that follows it.
+-- A length, and then the octets in the part that follows.
 use native.Mathlib.Omega.{arith}
 use Rattle.writer.proofs.Parts.{data_laid, data_open}
 use Rattle.writer.proofs.Zeros.{part_long}
 use Rattle.writer.proofs.write_data.Goals as goal
 
-pub number_of-len-requires : goal.number_of-len-requires
-number_of-len-requires c =
-    ((data_open _ _ _ c.requires).there, omega arith)
+pub third-len-requires : goal.third-len-requires
+third-len-requires c =
+    (data_open _ _ _ c.requires).there
 
-pub put2-requires : goal.put2-requires
-put2-requires c =
-    omega (arith, (data_open _ _ _ c.requires).fits)
-
-pub number_of-start-requires : goal.number_of-start-requires
-number_of-start-requires c =
-    ((data_open _ _ _ c.requires).there, omega arith)
+pub put-requires : goal.put-requires
+put-requires c =
+    (omega arith, omega (arith, (data_open _ _ _ c.requires).fits))
 
 pub slice_bounds-put_octets-count : goal.slice_bounds-put_octets-count
 slice_bounds-put_octets-count c =
@@ -24,11 +20,14 @@ pub slice_bounds-put_octets-start : goal.slice_bounds-put_octets-start
 slice_bounds-put_octets-start c =
     omega (arith, (data_open _ _ _ c.requires).fits)
 
+pub second-requires : goal.second-requires
+second-requires c =
+    (data_open _ _ _ c.requires).there
+
 pub put_octets-requires : goal.put_octets-requires
 put_octets-requires c =
     let o = data_open _ _ _ c.requires in
-    rw (c.number_of-len.ensures.0, c.number_of-start.ensures.0)
-    (omega (arith, o.fits, part_long 2 c.put2.new.s), o.within)
+    rw (c.third-len.ensures, c.second.ensures) (omega (arith, o.fits, part_long 2 c.put.new.s), o.within)
 
 pub overflow_add-result : goal.overflow_add-result
 overflow_add-result c =
@@ -36,8 +35,8 @@ overflow_add-result c =
 
 pub returns : goal.returns
 returns c =
-    let len = c.number_of-len.ensures in (
-      rw len.0 (data_laid _ _ _ (data_open _ _ _ c.requires) (rw len.0 at c.put2.ensures)
-          (rw (len.0, c.number_of-start.ensures.0) at c.put_octets.ensures)),
-      omega (arith, len.1),
+    let o = data_open _ _ _ c.requires in (
+      rw c.third-len.ensures (data_laid _ _ _ o (rw c.third-len.ensures at c.put.ensures)
+          (rw (c.third-len.ensures, c.second.ensures) at c.put_octets.ensures)),
+      omega (arith, o.there, c.well_formed),
     )

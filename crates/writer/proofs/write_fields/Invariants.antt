@@ -1,23 +1,20 @@
 -- Some of the block's octets are written, and those from `at` on are to come: the octet after the last field.
 use mathlib.Core.Path.{◌≡◌}
-use Prim.Native.Nat.{ℕ, ◌+◌}
-use Rattle.layout.specs.BookRules.{parse_fields, word}
-use Rattle.prepared.specs.Names.{lists_at}
-use Rattle.prepared.specs.Positions.{shape_at}
+use Prim.Native.Nat.{ℕ, ◌+◌, ◌*◌, ◌-◌, ◌<◌, ◌≤◌, ◌^◌}
+use Rattle.layout.specs.BookRules.{word}
+use Rattle.prepared.specs.Positions.{fields_from, shape_at, table_from}
 use Rattle.prints.proofs.Going.{Going}
 use Rattle.writer.specs.Zeros.{ZerosFrom}
 use Rattle.writer.specs.Parts.{fields_part}
-use Rattle.writer.proofs.Parts.{FieldsLeft}
+use Rattle.writer.proofs.Parts.{FieldsLeft, fields_after}
 use Rattle.writer.proofs.write_fields.Given as goal
 
-abbrev pub invariant-loop-left : goal.invariant-loop-left
-invariant-loop-left l =
-    let n = word l.p (l.a + 2) in
-    (l.h.length ≡ n)
-    × ((at : ℕ) × FieldsLeft l.p n at l.left l.f l.t × ZerosFrom (l.start + at) l.room
-    × Going (fields_part l.big l.listing l.pool n 0 (shape_at l.p l.a).fields l.initial.i)
-    (fields_part l.big l.listing l.pool n at (parse_fields (lists_at l.p) l.p l.left l.f) l.i) l.start l.initial.room (l.start + at) l.room)
-
-abbrev pub decreases-loop-left : goal.decreases-loop-left
-decreases-loop-left l =
-    l.left
+abbrev pub invariant-loop : goal.invariant-loop
+invariant-loop l =
+    let p = l.l.book.now in
+    let part = fields_part l.big l.l.numbers.now l.l.pool.now (word p (l.a + 2)) in
+    let k = l.h.fields - l.counter in
+    (l.counter ≤ l.h.fields) × (l.f ≡ fields_from p l.a + 7 * k) × (l.t ≡ table_from p l.a + 6 * k) × (l.i < 2 ^ 64)
+    × ((at : ℕ) × FieldsLeft p l.a k at × ZerosFrom (l.c.at + at) l.room
+    × Going (part 0 (shape_at p l.a).fields l.c.record) (part at (fields_after p l.a k) l.i)
+    l.c.at l.initial.room (l.c.at + at) l.room)
