@@ -14,7 +14,8 @@ use Rattle.layout.specs.Book.{Field, is_array}
 use Rattle.layout.specs.BookRules.{climbing, each_must, greatest, kind_good, list_good, name_list_of, names_good}
 use Rattle.layout.specs.BookRules.{field_at, head_size, lists_of, word}
 use Rattle.std.specs.Prelude.{None, Option, Some}
-use Rattle.book.specs.Rows.{list_at, list_fits, listed_of}
+use Rattle.layout.specs.Octets.{words_of}
+use Rattle.book.specs.Rows.{HasLists, IsListRow, list_at, list_fits, listed_of}
 use Rattle.book.proofs.Rows.{known, list_lies, list_row, list_row_lem, listed_at, listed_below, not_listed, rows_left, rows_more, rows_none}
 use Rattle.layout.proofs.TypeLaws.{width_few}
 use Rattle.layout.specs.declared.Reason.TheVariants.{BookBlock}
@@ -71,34 +72,36 @@ numbers_step b (suc left) w h f =
     let r : w + 1 ≡ suc w = omega arith in
     rw (drop-cons b w 0 (omega arith), q, r) refl
 
--- Of n numbers from word `from` on, those from number i on.
-abbrev pub numbers_left : List ℕ → ℕ → ℕ → ℕ → List ℕ
-numbers_left b from n i = take (n - i) (drop (from + i) b)
+-- Of the numbers up to word `end`, those from word w on.
+abbrev pub numbers_left : List ℕ → ℕ → ℕ → List ℕ
+numbers_left b end w = take (end - w) (drop w b)
 
-module _ (b : List ℕ) (low from n i : ℕ) where
-  pub climb_end : n ≤ i → climbing low (numbers_left b from n i) ≡ true
+pub climb_start : (b : List ℕ) (from n : ℕ) → numbers_left b (from + n) from ≡ take n (drop from b)
+climb_start b from n = let q : from + n - from ≡ n = omega arith in rw q refl
+
+module _ (b : List ℕ) (low end w : ℕ) where
+  pub climb_end : end ≤ w → climbing low (numbers_left b end w) ≡ true
   unfolding climbing
-  climb_end h = let q : n - i ≡ 0 = omega arith in rw q refl
+  climb_end h = let q : end - w ≡ 0 = omega arith in rw q refl
 
-  module _ (fits : from + n ≤ length b) (more : i < n) where
-    numbers_more : numbers_left b from n i ≡ word b (from + i) ∷ numbers_left b from n (i + 1)
+  module _ (fits : end ≤ length b) (more : w < end) where
+    numbers_more : numbers_left b end w ≡ word b w ∷ numbers_left b end (w + 1)
     numbers_more =
-        let q : n - i - 1 ≡ n - (i + 1) = omega arith in
-        let r : from + i + 1 ≡ from + (i + 1) = omega arith in
-        rw (q, r) at (numbers_step b (n - i) (from + i) (omega arith) (omega arith))
+        let q : end - w - 1 ≡ end - (w + 1) = omega arith in
+        rw q at (numbers_step b (end - w) w (omega arith) (omega arith))
 
-    pub climb_next : low ≤ word b (from + i)
-        → climbing low (numbers_left b from n i) ≡ climbing (word b (from + i) + 1) (numbers_left b from n (i + 1))
+    pub climb_next : low ≤ word b w
+        → climbing low (numbers_left b end w) ≡ climbing (word b w + 1) (numbers_left b end (w + 1))
     unfolding climbing
     climb_next h =
-        let q : word b (from + i) + 1 ≡ suc (word b (from + i)) = omega arith in
-        rw (numbers_more, le-leb low (word b (from + i)) h, q) (unfold ◌and◌ in refl)
+        let q : word b w + 1 ≡ suc (word b w) = omega arith in
+        rw (numbers_more, le-leb low (word b w) h, q) (unfold ◌and◌ in refl)
 
-    pub climb_fall : word b (from + i) < low → climbing low (numbers_left b from n i) ≡ false
+    pub climb_fall : word b w < low → climbing low (numbers_left b end w) ≡ false
     unfolding climbing
-    climb_fall h = rw (numbers_more, lt-leb low (word b (from + i)) h) (unfold ◌and◌ in refl)
+    climb_fall h = rw (numbers_more, lt-leb low (word b w) h) (unfold ◌and◌ in refl)
 
-pub ruleset climbs = (known, climb_end, climb_next, climb_fall)
+pub ruleset climbs = (known, climb_start, climb_end, climb_next, climb_fall)
 
 -- ---- a field's list
 
@@ -157,33 +160,44 @@ pub ruleset names_laws = (known, names_none, names_missing, names_fit, names_arr
 
 -- ---- all lists
 
--- The rule of the book's lists from list i on.
+-- The rule of the book's lists from place i on, counted on from the templates.
 abbrev pub lists_from : List ℕ → ℕ → Result (Unit {0})
 lists_from b i =
-    each_must list_good BookBlock (word b 2 + i)
-    (map (name_list_of b) (rows_left b (head_size + 3 * word b 2) (word b 4) i))
+    each_must list_good BookBlock i (map (name_list_of b) (rows_left b head_size (word b 2 + word b 4) i))
+
+module _ (b : List ℕ) where
+  pub lists_start : lists_from b (word b 2) ≡ each_must list_good BookBlock (word b 2) (lists_of b)
+  lists_start = let q : word b 2 + word b 4 - word b 2 ≡ word b 4 = omega arith in rw q refl
 
 module _ (b : List ℕ) (i : ℕ) where
-  pub lists_end : word b 4 ≤ i → lists_from b i ≡ done tt
+  pub lists_end : word b 2 + word b 4 ≤ i → lists_from b i ≡ done tt
   unfolding each_must
-  lists_end h = rw (rows_none b (head_size + 3 * word b 2) (word b 4) i h) refl
+  lists_end h = rw (rows_none b head_size (word b 2 + word b 4) i h) refl
 
-  module _ (more : i < word b 4) where
+  module _ (more : i < word b 2 + word b 4) where
     abbrev this : NameList
-    this = list_at b (list_row b i)
+    this = list_at b (head_size + 3 * i)
 
-    lists_step : lists_from b i ≡ (must (list_good this) BookBlock (word b 2 + i) >>= λ _. lists_from b (i + 1))
+    lists_step : lists_from b i ≡ (must (list_good this) BookBlock i >>= λ _. lists_from b (i + 1))
     unfolding each_must
     lists_step =
-        let q : word b 2 + (i + 1) ≡ suc (word b 2 + i) = omega arith in
-        rw (rows_more b (head_size + 3 * word b 2) (word b 4) i more, list_row_lem (word b 2) i, q) refl
+        let q : i + 1 ≡ suc i = omega arith in
+        rw (rows_more b head_size (word b 2 + word b 4) i more, q) refl
 
     pub lists_next : list_good this ≡ true → lists_from b i ≡ lists_from b (i + 1)
     unfolding must ◌>>=◌
     lists_next e = rw (lists_step, e) refl
 
-    pub lists_bad : list_good this ≡ false → lists_from b i ≡ refused BookBlock (word b 2 + i)
+    pub lists_bad : list_good this ≡ false → lists_from b i ≡ refused BookBlock i
     unfolding must ◌>>=◌
     lists_bad e = rw (lists_step, e) refl
 
-pub ruleset lists_laws = (known, lists_end, lists_next, lists_bad, list_lies)
+-- The row at each of these places lies in the book, and its body.
+pub list_placed : (s : List ℕ) (has : HasLists s) (i : ℕ) → let b = words_of s in
+    word b 2 ≤ i → i < word b 2 + word b 4 → IsListRow s (head_size + 3 * i)
+list_placed s has i least most =
+    let b = words_of s in
+    let q : word b 2 + (i - word b 2) ≡ i = omega arith in
+    rw q at (list_lies s has (i - word b 2) (omega arith))
+
+pub ruleset lists_laws = (known, lists_start, lists_end, lists_next, lists_bad, list_placed)

@@ -179,6 +179,10 @@ module _ (b : List ℕ) (e : ℕ) where
 pub dimension_is : (s : List ℕ) → BookHead s → 2 * word (words_of s) 6 ≡ dimension_size (counted_in s)
 dimension_is s h = grind (arith, tests, h.good)
 
+-- The word before it is 0 or 1.
+pub order_few : (s : List ℕ) → BookHead s → word (words_of s) 5 ≤ 1
+order_few s h = grind (arith, tests, h.good)
+
 -- A book that is too short for a head has none that is good.
 pub head_short : (b : List ℕ) → length b < head_size → head_good b ≡ false
 head_short b h = grind (arith, tests)

@@ -1,5 +1,5 @@
 -- The rows of a book's contents, and its lists, as the code finds them: s is the octets of a book.
-use Rattle.std.specs.Prelude.{◌≡◌, Bool, true, List, [], ◌∷◌, ℕ, suc, ◌+◌, ◌*◌, ◌/◌, ◌≤◌, eqb, ltb, length, take, drop, Option, Some, None}
+use Rattle.std.specs.Prelude.{◌≡◌, Bool, true, List, [], ◌∷◌, ℕ, suc, ◌+◌, ◌-◌, ◌*◌, ◌/◌, ◌≤◌, eqb, ltb, length, take, drop, Option, Some, None}
 use Rattle.layout.specs.Result.{◌and◌, done, when◌then◌else◌}
 use Rattle.layout.specs.Octets.{words_of}
 use Rattle.layout.specs.Types.{type_at}
@@ -22,6 +22,12 @@ counted_in s = (format_of (words_of s)).in_groups
 -- The words of the body of the row at word w of the words b.
 abbrev pub body_at : List ℕ → ℕ → List ℕ
 body_at b w = take (word b (w + 2)) (drop (word b (w + 1)) b)
+
+-- Its octets, of the octets s.
+abbrev pub octets_at : List ℕ → ℕ → List ℕ
+octets_at s w =
+    let k = 2 * word (words_of s) (w + 1) in
+    take (k + 2 * word (words_of s) (w + 2) - k) (drop k s)
 
 -- ---- lists
 

@@ -12,11 +12,12 @@ ghost use Rattle.layout.specs.BookRules.{check_contents, climbing, contents_end,
 ghost use Rattle.layout.specs.BookRules.{head_good, list_good, lists_of, names_good, parse_body, parse_contents, parse_datas};
 ghost use Rattle.layout.specs.BookRules.{parse_fields, parse_groups, parse_shape, rising, size_good, word as word_of};
 ghost use Rattle.layout.specs.BookRules.{youngest as youngest_of};
+ghost use Rattle.layout.specs.Message.{dimension_size};
 ghost use Rattle.layout.specs.Operations.{checked, counted, ChecksBook};
 ghost use Rattle.layout.specs.declared.Reason.TheVariants.{BookBlock};
 ghost use Rattle.book.specs.Answers.{IsWord, all_rules, block_of, bodies_of, body_of, field_of, fields_rules, first_of};
 ghost use Rattle.book.specs.Answers.{group_rules, least_at, row_of, verdict_of};
-ghost use Rattle.book.specs.Rows.{BookHead, HasLists, IsListRow, body_at, counted_in, list_at, list_fits, listed_of};
+ghost use Rattle.book.specs.Rows.{BookHead, HasLists, IsListRow, body_at, counted_in, list_at, list_fits, listed_of, octets_at};
 
 use layout::{Reason, Refusal, refuse};
 
@@ -64,26 +65,36 @@ pub struct Range {
     pub high: usize,
 }
 
+impl Range {
+    fn has(self, since: usize) -> bool
+        ensures { result ≡ (leb self.low since and leb since self.high) }
+    {
+        (self.low..=self.high).contains(&since)
+    }
+}
+
 const ALL_KEPT: Rules = Rules {
     layout: true,
     since: true,
 };
 
 // How many words are the head, and a row of the contents.
-const HEAD: usize = 7;
+pub const HEAD: usize = 7;
 
-const ROW: usize = 3;
+pub const ROW: usize = 3;
 
 // How many octets a message's header has, and a message at most.
 const HEADER: usize = 12;
 
 const MOST: usize = 65535;
 
-fn between(low: usize, x: usize, high: usize) -> bool
-    ensures { result ≡ (leb low x and leb x high) }
-{
-    low <= x && x <= high
-}
+// The kinds of lists.
+const ENUMERATION: usize = 0;
+
+const SET: usize = 1;
+
+// How many numbers a dimension has that has counts.
+const WITH_COUNTS: usize = 4;
 
 #[tactic(auto, using(crate::proofs::Rows::known), unfolding(crate::specs::Answers::all_rules))]
 fn all_rules(a: Rules, b: Rules) -> Rules
@@ -106,9 +117,10 @@ pub fn word(s: &[u8], w: usize) -> usize
 
 // The body of the row of the contents at word w.
 #[tactic(auto, using(crate::proofs::Rows::parts))]
-fn body_at(book: &[u8], w: usize) -> &[u8]
+pub fn body_at(book: &[u8], w: usize) -> &[u8]
     requires { IsListRow book.now w }
-    ensures { words_of result.now ≡ body_at (words_of book.now) w }
+    ensures octets { result.now ≡ octets_at book.now w }
+    ensures words { words_of result.now ≡ body_at (words_of book.now) w }
 {
     let start = 2 * word(book, w + 1);
     &book[start..start + 2 * word(book, w + 2)]
@@ -137,7 +149,7 @@ fn kind_of(book: &[u8], w: usize) -> usize
     ensures { result ≡ (list_at (words_of book.now) w).kind }
 {
     if word(book, w + 2) == 0 {
-        return 0;
+        return ENUMERATION;
     }
     word(book, word(book, w + 1))
 }
@@ -176,7 +188,7 @@ fn list_fits(book: &[u8], w: usize, t: usize) -> bool
     requires { IsListRow book.now w }
     ensures { result ≡ list_fits (list_at (words_of book.now) w) t }
 {
-    if kind_of(book, w) == 0 {
+    if kind_of(book, w) == ENUMERATION {
         return takes_values(t);
     }
     takes_bits(t) && greatest_of(book, w) < 8 * number_types::width_of(t)
@@ -206,8 +218,8 @@ fn numbers_rise(book: &[u8], from: usize, n: usize) -> bool
     ensures { result ≡ climbing 0 (take n (drop from (words_of book.now))) }
 {
     let mut low = 0;
-    for i in 0..n {
-        let here = word(book, from + i);
+    for w in from..from + n {
+        let here = word(book, w);
         if here < low {
             return false;
         }
@@ -223,7 +235,9 @@ fn list_good(book: &[u8], w: usize) -> bool
     ensures { result ≡ list_good (list_at (words_of book.now) w) }
 {
     let n = word(book, w + 2);
-    between(2, n, 65) && kind_of(book, w) < 2 && numbers_rise(book, word(book, w + 1) + 1, n - 1)
+    (2..=65).contains(&n)
+        && kind_of(book, w) <= SET
+        && numbers_rise(book, word(book, w + 1) + 1, n - 1)
 }
 
 // 4 at the first list that breaks its rule, counted on from the templates.
@@ -234,8 +248,7 @@ fn check_lists(book: &[u8]) -> Result<(), Refusal>
         (lists_of (words_of book.now))) }
 {
     let templates = word(book, 2);
-    for i in 0..word(book, 4) {
-        let place = templates + i;
+    for place in templates..templates + word(book, 4) {
         if !list_good(book, HEAD + ROW * place) {
             return refuse(Reason::BookBlock, place);
         }
@@ -257,7 +270,7 @@ pub fn field_end(t: usize, n: usize, offset: usize) -> usize
 fn length_good(t: usize, n: usize) -> bool
     ensures { result ≡ (eqb n 1 or (leb 2 n and leb n 1024 and (eqb t 0 or eqb t 2))) }
 {
-    n == 1 || (2 <= n && n <= 1024 && (t == 0 || t == 2))
+    n == 1 || ((2..=1024).contains(&n) && (t == 0 || t == 2))
 }
 
 // The field at word w of a block of l octets, after one that ends at e.
@@ -278,7 +291,7 @@ fn check_field(book: &[u8], body: &[u8], w: usize, l: usize, e: usize, sinces: R
             && e <= offset
             && end <= l
             && names_good(book, body, w),
-        since: between(sinces.low, since, sinces.high),
+        since: sinces.has(since),
     };
     Field { rules, end, since }
 }
@@ -322,7 +335,7 @@ fn check_datas(body: &[u8], from: usize, n: usize, sinces: Range) -> bool
     let mut least = sinces.low;
     for i in 0..n {
         let since = word(body, from + 2 * i + 1);
-        if !between(least, since, sinces.high) {
+        if !(least..=sinces.high).contains(&since) {
             return false;
         }
         least = since;
@@ -335,7 +348,7 @@ fn check_datas(body: &[u8], from: usize, n: usize, sinces: Range) -> bool
 fn counts_good(few: usize, f: usize, g: usize, d: usize) -> bool
     ensures { result ≡ (leb few f and leb f 64 and leb g 16 and leb d 16) }
 {
-    few <= f && f <= 64 && g <= 16 && d <= 16
+    (few..=64).contains(&f) && g <= 16 && d <= 16
 }
 
 // The block at word w up to its groups, if it is whole. It has at least `few` fields, and data with sinces up to `top`.
@@ -386,9 +399,17 @@ fn more_rules(before: Rules, sinces: Range, since: usize, block: Rules, inner: R
 {
     let own = Rules {
         layout: true,
-        since: between(sinces.low, since, sinces.high),
+        since: sinces.has(since),
     };
     all_rules(before, all_rules(own, all_rules(block, inner)))
+}
+
+// Whether dimensions have counts.
+fn has_counts(book: &[u8]) -> bool
+    requires { HasLists book.now }
+    ensures { result ≡ counted_in book.now }
+{
+    word(book, 6) == WITH_COUNTS
 }
 
 // The greatest since that data and groups inside a group with this since may have: its own, or the version where
@@ -398,7 +419,7 @@ fn youngest(book: &[u8], version: usize, since: usize) -> usize
     requires { HasLists book.now }
     ensures { result ≡ youngest_of (counted_in book.now) version since }
 {
-    if word(book, 6) == 4 { version } else { since }
+    if has_counts(book) { version } else { since }
 }
 
 // The n groups in a row at word `from`, if they are whole, `depth` more levels being left.
@@ -452,6 +473,15 @@ fn check_groups(
     Some(Row { next, rules })
 }
 
+// How many octets a dimension of the book's messages has.
+#[tactic(auto, using(crate::proofs::Rows::head_laws))]
+pub fn dimension_size(book: &[u8]) -> usize
+    requires { HasLists book.now }
+    ensures { result ≡ dimension_size (counted_in book.now) }
+{
+    2 * word(book, 6)
+}
+
 // How many octets the shortest message of a body's template has: its header, the root block, a dimension for each root
 // group and a length for each root data.
 #[tactic(auto, using(crate::proofs::Rows::head_laws))]
@@ -459,7 +489,7 @@ fn least_length(book: &[u8], body: &[u8]) -> usize
     requires { HasLists book.now × (4 ≤ length body.now / 2) }
     ensures { result ≡ least_at (counted_in book.now) (words_of body.now) }
 {
-    let dimension = 2 * word(book, 6);
+    let dimension = dimension_size(book);
     HEADER + word(body, 0) + dimension * word(body, 2) + 2 * word(body, 3)
 }
 
@@ -492,11 +522,7 @@ fn check_body(book: &[u8], body: &[u8], version: usize) -> Option<Body>
 fn first_of(seen: Option<usize>, keeps: bool, t: usize) -> Option<usize>
     ensures { result ≡ first_of seen keeps t }
 {
-    if seen.is_some() || keeps {
-        seen
-    } else {
-        Some(t)
-    }
+    seen.or((!keeps).then_some(t))
 }
 
 // 5 at the first template that breaks its rule, else 6, else 7.
@@ -544,14 +570,14 @@ fn size_good(book: &[u8]) -> bool
     ensures { result ≡ size_good book.now }
 {
     let n = book.len();
-    n % 2 == 0 && between(8, n, 8192)
+    n % 2 == 0 && (8..=8192).contains(&n)
 }
 
 // Whether a dimension may have n numbers.
 fn dimension_good(n: usize) -> bool
     ensures { result ≡ (eqb n 2 or eqb n 4) }
 {
-    n == 2 || n == 4
+    n == 2 || n == WITH_COUNTS
 }
 
 #[tactic(auto, using(crate::proofs::Rows::head_laws))]
@@ -567,7 +593,7 @@ fn head_good(book: &[u8]) -> bool
     word(book, 3) == size
         && word(book, 0) < 65535
         && word(book, 1) < 65535
-        && between(1, n, 64)
+        && (1..=64).contains(&n)
         && word(book, 5) <= 1
         && HEAD + ROW * (n + word(book, 4)) <= size
         && dimension_good(word(book, 6))
@@ -576,7 +602,7 @@ fn head_good(book: &[u8]) -> bool
 fn row_good(low: usize, id: usize, at: usize, first: usize) -> bool
     ensures { result ≡ (leb low id and ltb id 65535 and eqb first at) }
 {
-    low <= id && id < 65535 && first == at
+    (low..65535).contains(&id) && first == at
 }
 
 // The n rows at word `from`, the first body being at word `start`: the word after the last body.

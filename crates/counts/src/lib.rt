@@ -22,6 +22,7 @@ fn older_datas(p: &[u64], a: usize, v: usize) -> usize
 {
     let from = number(p, a + 10);
     let mut seen = 0;
+    // By the library's `filter` and `count` checking an older version took some 10 in 100 more instructions.
     for i in 0..number(p, a + 5) {
         if number(p, from + 2 * i + 1) <= v {
             seen += 1;
@@ -30,7 +31,7 @@ fn older_datas(p: &[u64], a: usize, v: usize) -> usize
     seen
 }
 
-// How many groups of the block at a are, `depth` more levels being left.
+// How many groups of the block at a are present at a version before the book's, `depth` more levels being left.
 #[tactic(auto, using(crate::proofs::Counts::seen))]
 fn older_groups(p: &[u64], a: usize, depth: usize, v: usize) -> usize
     requires { BlockAt p.now depth a }
@@ -135,6 +136,7 @@ fn surplus_at(m: &Message, a: usize, depth: usize, at: usize) -> Result<Surplus,
     requires { BlockAt m.now.book.now depth a × (length m.now.octets.now ≤ 65535) × (at + 8 ≤ length m.now.octets.now) }
     ensures { result ≡ coded (counts_at m.now.book.now depth a m.now.octets.now m.now.version at) }
 {
+    // The two counts, of groups and of data, stand as the two sizes before them do.
     let counts = wire::sizes_at(prepared::is_big(m.book), m.octets, at + 4);
     if !counts.are_whole() {
         return Err(Reason::DimensionNull);

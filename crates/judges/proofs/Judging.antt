@@ -7,9 +7,9 @@ use Rattle.layout.specs.Result.{Result, done, must, when◌then◌else◌, ◌an
 use Rattle.layout.specs.Octets.{null16}
 use Rattle.layout.specs.Types.{in_range, type_at}
 use Rattle.layout.specs.Lists.{has, is_listed, names_of}
-use Rattle.layout.specs.Book.{Groups, Shape}
+use Rattle.layout.specs.Book.{Field, Groups, Shape, is_array}
 use Rattle.layout.specs.BookRules.{parse_datas, parse_fields, word}
-use Rattle.layout.specs.Operations.{Told, refusal, told}
+use Rattle.layout.specs.Operations.{Told, checked, refusal, told}
 use Rattle.layout.specs.Values.{Values}
 use Rattle.layout.specs.Message.{dimension_size}
 use Rattle.layout.specs.Writing.{datas_length, first, is_group, is_null, is_octets, is_there, judge_block, judge_data}
@@ -19,7 +19,7 @@ use Rattle.layout.specs.declared.Answer.{Answer}
 use Rattle.layout.specs.declared.Answer.TheVariants.{Null, Octets}
 use Rattle.layout.specs.declared.Reason.TheVariants.{EntriesTooMany, OctetsWrong, RecordWrong, ValueWrong}
 use Rattle.layout.proofs.Results.{and_left, and_right, bind_assoc, bind_done, each_way}
-use Rattle.layout.proofs.Said.{octets_said}
+use Rattle.layout.proofs.Said.{ArraySaid, array_said, null, number_said, octets_said, plain, text}
 use Rattle.layout.proofs.Told.{inv_ok}
 use Rattle.layout.proofs.TypeLaws.{inside_not_null}
 use Rattle.prepared.specs.Names.{has_lists, list_at, lists_at}
@@ -29,7 +29,7 @@ use Rattle.prepared.specs.Books.{template_at}
 use Rattle.prepared.proofs.Open.{no_datas_at, no_groups_at, some_follow}
 use Rattle.prepared.proofs.Names.{names_free, names_here, no_lists}
 use Rattle.prepared.proofs.Ranges.{in_range_lem}
-use Rattle.judges.specs.Judges.{capped, datas_end, entries_at, field_end, fields_end, judged, limit, listing_end, octets_end}
+use Rattle.judges.specs.Judges.{capped, datas_end, entries_at, fields_end, judged, limit, listing_end, octets_end}
 use Rattle.judges.specs.Judges.{row_end}
 use Rattle.judges.specs.declared.Judged.{Judged}
 use Rattle.judges.proofs.Steps.{and_tells, ends_told, goes_on, must_told, on_good, step_told}
@@ -39,6 +39,10 @@ abbrev pub ends_at : ℕ → ℕ → Judged
 ends_at x k = record { next = x; length = k }
 
 -- ---- octets
+
+-- A test that begins with whether record i is there.
+there_is : (l : List ℕ) (i : ℕ) (t : Bool) → (is_there l i and t) ≡ true → 3 * i + 3 ≤ length l
+there_is l i t h = leb-true (3 * i + 3) (length l) (and_left _ _ h)
 
 module _ (l pool : List ℕ) (i : ℕ) where
   abbrev pub octets_told : Told ℕ
@@ -69,7 +73,7 @@ module _ (l pool : List ℕ) (i : ℕ) where
       let q = inv_ok octets_end (judge_octets l pool true i) n e in
       let o = (octets_said l pool true i q.value q.is).0 in (
         sym q.gives ∙ ap octets_end (sym o.is),
-        leb-true (3 * i + 3) (length l) (and_left _ _ o.kind),
+        there_is l i _ o.kind,
         o.within,
       )
 
@@ -92,7 +96,7 @@ module _ (l pool p : List ℕ) (f i : ℕ) where
       (λ e. each_way (eqb (first l i) 1) (λ k. rw (e, null_kind k, k) refl) (λ k. rw (e, k) refl))
 
   pub null_there : is_null l i ≡ true → 3 * i + 3 ≤ length l
-  null_there e = leb-true (3 * i + 3) (length l) (and_left _ _ e)
+  null_there e = there_is l i _ e
 
 pub ruleset texts = (text_law, null_there, octets_law, was_octets, goes_on)
 
@@ -133,19 +137,31 @@ module _ (l : List ℕ) (i : ℕ) {p : List ℕ} {f t : ℕ} (field : IsField p 
 
 -- ---- fields and data in a row
 
+module _ (l pool : List ℕ) (f : Field) (i : ℕ) where
+  array_there : {a : Answer} → ArraySaid l pool f i a → 3 * i + 3 ≤ length l
+  array_there (null c n o e) = there_is l i _ n
+  array_there (text c s h) = there_is l i _ s.kind
+  array_there (plain c s h) = there_is l i _ s.kind
+
+  -- What was judged good: the field's record is there.
+  pub was_field : (u : Unit {0}) → Ok u ≡ checked (judge_field l pool f i) → 3 * i + 3 ≤ length l
+  was_field u e =
+      let is = (inv_ok _ (judge_field l pool f i) u e).is in
+      each_way (is_array f) (λ a. array_there (array_said l pool f i _ a is)) (λ a. there_is l i _ (number_said l pool f i _ a is).kind)
+
 module _ (l pool p : List ℕ) (a : ℕ) where
   -- Fields in a row at f.
   abbrev pub fields_told : ℕ → ℕ → ℕ → Told ℕ
   fields_told n f i = told fields_end (judge_fields l pool (parse_fields (lists_at p) p n f) i)
 
   pub fields_law : (n f i : ℕ) → 0 < n → fields_told n f i
-      ≡ on_good (told (field_end i) (judge_field l pool (field_at p f) i)) (λ x. fields_told (n - 1) (f + 7) x)
+      ≡ on_good (checked (judge_field l pool (field_at p f) i)) (λ _. fields_told (n - 1) (f + 7) (i + 1))
   unfolding judge_fields parse_fields
   fields_law zero f i h = absurd (omega arith)
   fields_law (suc n) f i h =
       let fewer : suc n - 1 ≡ n = omega arith in
       rw fewer
-      (step_told (field_end i) _ (judge_field l pool (field_at p f) i) _ _
+      (step_told (λ _. tt) _ (judge_field l pool (field_at p f) i) _ _
       (λ a e. rw (add-one i) (ends_told _ _ _ _ (λ r. refl))))
 
   pub fields_done : (n f i : ℕ) → n ≤ 0 → fields_told n f i ≡ Ok i
@@ -173,7 +189,7 @@ module _ (l pool p : List ℕ) (a : ℕ) where
   datas_done k seen i h s =
       let n : many_datas p a - k ≡ 0 = omega arith in rw n (ap (λ (o : ℕ). Ok (ends_at i o)) (omega arith))
 
-pub ruleset fields = (fields_law, fields_done, goes_on)
+pub ruleset fields = (fields_law, fields_done, was_field, goes_on)
 
 pub ruleset datas = (datas_law, datas_done, octets_law, was_octets, goes_on)
 

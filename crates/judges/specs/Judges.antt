@@ -32,10 +32,7 @@ entries_at p depth a l pool k i =
 abbrev pub octets_end : Answer → ℕ
 octets_end a = (span_of a).1
 
--- The record after a field, whose octets are the block's, and after a block's fields.
-abbrev pub field_end : ℕ → Answer → ℕ
-field_end i a = i + 1
-
+-- The record after a block's fields, whose octets are the block's.
 abbrev pub fields_end : List Answer × ℕ → ℕ
 fields_end (fs, x) = x
 

@@ -100,8 +100,7 @@ fn list_rest(input: &mut impl Read, output: &mut impl Write, p: &[u64])
 
 // Lists the message by a book, which may be any octets.
 fn list_by(input: &mut impl Read, output: &mut impl Write, book: &[u8]) {
-    // As many numbers as the prepared form of any book has at most.
-    let mut numbers = [0u64; 8260];
+    let mut numbers = [0u64; prepare::MOST];
     match prepare::prepare_octets(book, &mut numbers) {
         Ok(n) => list_rest(input, output, &numbers[..n]),
         Err(refusal) => show_refusal(output, refusal),

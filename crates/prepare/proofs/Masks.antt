@@ -1,10 +1,11 @@
 -- The mask of rising numbers: each of them adds a bit of its own.
-use Rattle.std.proofs.Common.{◌≡◌, ℕ, zero, suc, ◌+◌, ◌-◌, ◌/◌, ◌^◌, ◌<◌, ◌≤◌, Bool, true, false, ltb, List, [], ◌∷◌, length, take, drop, refl, pow-suc, arith, pow_mono, ltb-false, ltb-true, le-ltb, leb-true}
+use Rattle.std.proofs.Common.{◌≡◌, ℕ, suc, ◌+◌, ◌-◌, ◌/◌, ◌^◌, ◌<◌, ◌≤◌, Bool, true, false, ltb, List, [], ◌∷◌, length, refl, pow-suc, arith, pow_mono, ltb-false, ltb-true, le-ltb, leb-true}
 use Rattle.layout.specs.Result.{when◌then◌else◌}
 use Rattle.layout.specs.Octets.{words_of}
 use Rattle.layout.specs.BookRules.{climbing, word}
 use Rattle.layout.proofs.Results.{and_left, and_right}
 use lib.Seq.{drop-cons}
+use Rattle.book.proofs.NameLists.{numbers_left}
 use Rattle.book.proofs.Words.{length_words}
 use Rattle.prepared.specs.Numbers.{bit_of, mask_of}
 
@@ -35,16 +36,15 @@ mask_above low (n ∷ ns) h g = go (λ below. mask_above (suc n) ns below (and_r
 pub mask_small : (ns : List ℕ) → climbing 0 ns ≡ true → mask_of ns < 2 ^ 64
 mask_small ns g = omega (arith, mask_above 0 ns (omega arith) g)
 
--- Of n numbers from word w on number i is a bit, and the rest.
-pub mask_step : (s : List ℕ) (n w i : ℕ) → i < n → w + n ≤ length s / 2 → let b = words_of s in
-    mask_of (take (n - i) (drop (w + i) b)) ≡ bit_of (word b (w + i)) + mask_of (take (n - (i + 1)) (drop (w + (i + 1)) b))
+-- Of the numbers up to word `end` the one at word w is a bit, and the rest.
+pub mask_step : (s : List ℕ) (end w : ℕ) → w < end → end ≤ length s / 2 → let b = words_of s in
+    mask_of (numbers_left b end w) ≡ bit_of (word b w) + mask_of (numbers_left b end (w + 1))
 unfolding mask_of
-mask_step s n w i h f =
-    let q : n - i ≡ suc (n - (i + 1)) = omega arith in
-    let r : w + (i + 1) ≡ suc (w + i) = omega arith in
-    rw (q, r, drop-cons (words_of s) (w + i) 0 (omega (arith, length_words s))) refl
+mask_step s end w h f =
+    let q : end - w ≡ suc (end - (w + 1)) = omega arith in
+    let r : w + 1 ≡ suc w = omega arith in
+    rw (q, r, drop-cons (words_of s) w 0 (omega (arith, length_words s))) refl
 
-pub mask_none : (b : List ℕ) (n w : ℕ) → n ≤ 0 → mask_of (take n (drop w b)) ≡ 0
+pub mask_none : (b : List ℕ) (end w : ℕ) → end ≤ w → mask_of (numbers_left b end w) ≡ 0
 unfolding mask_of
-mask_none b zero w h = refl
-mask_none b (suc n) w h = absurd (omega arith)
+mask_none b end w h = let q : end - w ≡ 0 = omega arith in rw q refl

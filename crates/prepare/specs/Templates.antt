@@ -1,9 +1,10 @@
 -- The templates of a book with the octets s, read by position, and how they are stored.
-use Rattle.std.specs.Prelude.{◌≡◌, ℕ, zero, suc, ◌+◌, ◌-◌, ◌*◌, ◌/◌, ◌%◌, ◌<◌, ◌≤◌, List, [], ◌∷◌, length, take, drop, slice_set}
+use Rattle.std.specs.Prelude.{◌≡◌, ℕ, zero, suc, ◌+◌, ◌*◌, ◌/◌, ◌%◌, ◌<◌, ◌≤◌, List, [], ◌∷◌, length, slice_set}
 use Rattle.std.proofs.lemmas.List.Edits.{sets}
 use Rattle.layout.specs.Octets.{words_of}
 use Rattle.layout.specs.Book.{Book, Template}
 use Rattle.layout.specs.BookRules.{format_of, head_size, word}
+use Rattle.book.specs.Rows.{octets_at}
 use Rattle.prepared.specs.Numbers.{lists_from, lists_size, row_of, sizes_of, slots, slots_from}
 use Rattle.prepare.specs.Names.{GoodLists, groups_in, lists_in}
 use Rattle.prepare.specs.Positions.{BlockAt, group_size, inner_at, inner_end, shape_at}
@@ -18,9 +19,7 @@ pub record IsBody (s : List ℕ) : Type 0 where
 module _ (s : List ℕ) (w : ℕ) where
   -- The body of the template whose row of the contents is at word w, and the template.
   abbrev pub body_at : List ℕ
-  body_at =
-      let k = 2 * word (words_of s) (w + 1) in
-      take (k + 2 * word (words_of s) (w + 2) - k) (drop k s)
+  body_at = octets_at s w
 
   abbrev pub template_at : Template
   template_at =

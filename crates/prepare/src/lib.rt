@@ -1,15 +1,14 @@
 // Makes the prepared book of an accepted one: fills the lent room with its numbers.
 #![tactic(auto)]
 
-ghost use Rattle.std.specs.Prelude.{◌≡◌, ◌+◌, ◌*◌, ◌/◌, ◌<◌, ◌≤◌, true, [], ◌∷◌, length, take, drop, replicate, nat_le};
+ghost use Rattle.std.specs.Prelude.{◌≡◌, ◌+◌, ◌*◌, ◌/◌, ◌<◌, ◌≤◌, true, [], ◌∷◌, length, take, drop, nat_le};
 ghost use Rattle.std.proofs.lemmas.List.Edits.{sets};
 ghost use Rattle.layout.specs.Result.{when◌then◌else◌};
 ghost use Rattle.layout.specs.Octets.{words_of};
 ghost use Rattle.layout.specs.Book.{need as need_of, need_after};
 ghost use Rattle.layout.specs.BookRules.{climbing, head_size, word};
-ghost use Rattle.layout.specs.Message.{dimension_size};
 ghost use Rattle.number_types.specs.Value.{order_of};
-ghost use Rattle.book.specs.Rows.{counted_in, list_at};
+ghost use Rattle.book.specs.Rows.{list_at};
 ghost use Rattle.prepared.specs.Numbers.{bit_of, contents_from, list_numbers, list_size, lists_from, lists_numbers};
 ghost use Rattle.prepared.specs.Numbers.{lists_size, mask_of, prepared_of, sizes_of};
 ghost use Rattle.prepare.specs.Prepares.{IsBook, Prepares};
@@ -18,16 +17,18 @@ ghost use Rattle.prepare.specs.Names.{place_in, start_of, table_in, version_of};
 ghost use Rattle.prepare.specs.Positions.{BlockAt, IsRow, Opened, elements_at, group_at, group_size, groups_from};
 ghost use Rattle.prepare.specs.Positions.{head_at, inner_end, shape_at, size_at, words_from, worked};
 ghost use Rattle.prepare.specs.Templates.{AreTemplates, IsBody, IsPreparable, IsTemplate, book_at};
-ghost use Rattle.prepare.specs.Templates.{body_at, laid, template_at, template_size, templates_at};
+ghost use Rattle.prepare.specs.Templates.{laid, template_at, template_size, templates_at};
 
+use book::{HEAD, ROW};
 use layout::{Reason, Refusal, refuse};
 
-// How many words are a book's head; where the slots start among the prepared numbers, and the contents.
-const HEAD: usize = 7;
-
+// Where the slots start among the prepared numbers, and the contents.
 const SLOTS: usize = 6;
 
 const CONTENTS: usize = 70;
+
+// As many numbers as the prepared form of any book has at most.
+pub const MOST: usize = 8260;
 
 // A group: its id and since, and the word where its block starts. A template is one whose since is 0.
 #[derive(Clone, Copy)]
@@ -88,13 +89,13 @@ fn put_worked(room: &mut [u64], at: usize, t: usize, order: usize, place: usize)
 }
 
 // The order of the book's messages: 1 is big.
-#[tactic(auto, unfolding(crate::proofs::Blocks::chosen))]
+#[tactic(auto, using(book::proofs::Rows::order_few), unfolding(crate::proofs::Blocks::chosen))]
 fn order_of(book: &[u8]) -> usize
     requires { GoodLists book.now }
     ensures value { result ≡ order_of (big_in book.now) }
     ensures few { result ≤ 1 }
 {
-    if book::word(book, 5) == 1 { 1 } else { 0 }
+    book::word(book, 5)
 }
 
 // The place of list i: a list has three numbers more than words, and in the book lists lie back to back.
@@ -103,9 +104,9 @@ fn place_at(book: &[u8], i: usize) -> usize
     ensures { result + start_of book.now 0 ≡ from_in book.now + 3 * i + start_of book.now i }
 {
     let n = book::word(book, 2);
-    let rows = HEAD + 3 * n;
+    let rows = HEAD + ROW * n;
     let first = book::word(book, rows + 1);
-    CONTENTS + 2 * n + 3 * i + (book::word(book, rows + 3 * i + 1) - first)
+    CONTENTS + 2 * n + 3 * i + (book::word(book, rows + ROW * i + 1) - first)
 }
 
 // The place of the list that a field's seventh word leads to, 0 if it leads to none.
@@ -258,14 +259,14 @@ fn bit_of(n: usize) -> u64
 }
 
 // The mask of the n numbers at word `from`.
-#[tactic(auto, using(crate::proofs::Masks::mask_step, crate::proofs::Masks::mask_none, crate::proofs::Masks::mask_small))]
+#[tactic(auto, using(crate::proofs::Masks::mask_step, crate::proofs::Masks::mask_none, crate::proofs::Masks::mask_small, book::proofs::NameLists::climb_start))]
 fn mask_of(book: &[u8], from: usize, n: usize) -> u64
     requires { (from + n ≤ length book.now / 2) × (climbing 0 (take n (drop from (words_of book.now))) ≡ true) }
     ensures { result ≡ mask_of (take n (drop from (words_of book.now))) }
 {
     let mut mask = 0;
-    for i in 0..n {
-        mask += bit_of(book::word(book, from + i));
+    for w in from..from + n {
+        mask += bit_of(book::word(book, w));
     }
     mask
 }
@@ -293,10 +294,10 @@ fn put_lists(book: &[u8], room: &mut [u64], start: usize) -> usize
     ensures value { result ≡ start + lists_size (lists_in book.now) }
     ensures room_after { room.new ≡ sets room.old start (lists_numbers (lists_in book.now)) }
 {
-    let rows = HEAD + 3 * book::word(book, 2);
+    let rows = HEAD + ROW * book::word(book, 2);
     let mut at = start;
     for i in 0..book::word(book, 4) {
-        at = put_list(book, rows + 3 * i, room, at);
+        at = put_list(book, rows + ROW * i, room, at);
     }
     at
 }
@@ -311,20 +312,10 @@ fn size_lists(book: &[u8]) -> usize
     if k == 0 {
         return 0;
     }
-    3 * k + (book.len() / 2 - book::word(book, HEAD + 3 * book::word(book, 2) + 1))
+    3 * k + (book.len() / 2 - book::word(book, HEAD + ROW * book::word(book, 2) + 1))
 }
 
 // ---- templates
-
-// The body of the template whose row of the contents is at word w.
-fn body_of(book: &[u8], w: usize) -> &[u8]
-    requires { IsTemplate book.now w }
-    ensures { result.now ≡ body_at book.now w }
-{
-    let start = 2 * book::word(book, w + 1);
-    let end = start + 2 * book::word(book, w + 2);
-    &book[start..end]
-}
 
 // How many numbers the template with this body is: in a body blocks lie one after the other.
 fn size_body(body: &[u8]) -> usize
@@ -350,7 +341,7 @@ fn size_templates(book: &[u8], n: usize) -> usize
 {
     let mut seen = 0;
     for i in 0..n {
-        seen += size_body(body_of(book, HEAD + 3 * i));
+        seen += size_body(book::body_at(book, HEAD + ROW * i));
     }
     seen
 }
@@ -371,15 +362,7 @@ fn put_template(book: &[u8], w: usize, room: &mut [u64], c: usize, at: usize) ->
         since: 0,
         word: 0,
     };
-    put_group(book, body_of(book, w), template, 4, room, at).at
-}
-
-// How many octets a dimension of the book's messages has.
-fn size_of(book: &[u8]) -> usize
-    requires { GoodLists book.now }
-    ensures { result ≡ dimension_size (counted_in book.now) }
-{
-    if book::word(book, 6) == 4 { 8 } else { 4 }
+    put_group(book, book::body_at(book, w), template, 4, room, at).at
 }
 
 // How many numbers a book with n templates is.
@@ -402,11 +385,11 @@ fn put_book(book: &[u8], n: usize, room: &mut [u64])
     room[2] = n as u64;
     room[3] = book::word(book, 4) as u64;
     room[4] = order_of(book) as u64;
-    room[5] = size_of(book) as u64;
+    room[5] = book::dimension_size(book) as u64;
     room[SLOTS..CONTENTS].fill(0);
     let mut at = put_lists(book, room, CONTENTS + 2 * n);
     for i in 0..n {
-        at = put_template(book, HEAD + 3 * i, room, CONTENTS + 2 * i, at);
+        at = put_template(book, HEAD + ROW * i, room, CONTENTS + 2 * i, at);
     }
 }
 

@@ -18,8 +18,8 @@ use layout::{Answer, Element, Refusal};
 // The number of a reply that refuses nothing.
 const ACCEPTED: u64 = 0;
 
-// As many numbers as the prepared form of any book has at most.
-const MOST: usize = 8260;
+// How much room a prepared book gets.
+const MOST: usize = prepare::MOST;
 
 #[repr(C)]
 #[derive(Clone, Copy)]

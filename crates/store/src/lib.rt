@@ -17,6 +17,7 @@ ghost use Rattle.store.specs.Stores.{datas_print, fields_print, groups_print, ov
 use counts::Entries;
 use layout::Answer;
 use prepared::{Message, number};
+use records::Kind;
 
 // Where the pass stands in the message and in the room.
 #[derive(Clone, Copy)]
@@ -56,7 +57,7 @@ fn store_field(
         return next;
     }
     let list = number(m.book, t + 5);
-    if list == 0 || room[n] != 0 {
+    if list == 0 || room[n] != Kind::Number as u64 {
         return next;
     }
     let x = room[n + 1];

@@ -62,7 +62,7 @@ module _ (b : Book) (m steps : List ℕ) (x : Element) where
 
 -- ---- whether the template has it
 
-module _ {p m steps : List ℕ} {a v k : ℕ} {s : Option Spot} (o : Enters p m steps a v k s) (path : Path steps 0) (x : Element) where
+module _ {p m steps : List ℕ} {a v : ℕ} {k : Option ℕ} {s : Option Spot} (o : Enters p m steps a v k s) (path : Path steps 0) (x : Element) where
   abbrev ps : List Step
   ps = steps_of steps
 
@@ -107,7 +107,7 @@ module _ {p : List ℕ} {depth b : ℕ} {m : List ℕ} {v : ℕ} {spot : Option 
   stands_there {s} (stands t e ok has is) z = let q : s ≡ t = cc in rw q (record { accepted = ok; has = has; is = is })
 
 -- The root block itself.
-at_root : {p m : List ℕ} {a v k : ℕ} {s : Option Spot} (o : Enters p m [] a v k s) (x : Element)
+at_root : {p m : List ℕ} {a v : ℕ} {k : Option ℕ} {s : Option Spot} (o : Enters p m [] a v k s) (x : Element)
     → has_place [] x (shape_at p a) (inner_at p 4 a) ≡ true
     → Answers p 4 a m v s x (answer_at [] x (tree_of o))
 unfolding has_place answer_at element_in
@@ -121,7 +121,7 @@ at_root {p} {m} {a} {v} o x h =
     stands root (root_found o) ok h is
 
 -- An entry of a group.
-at_path : {p m : List ℕ} (g e : ℕ) (rest : List ℕ) {a v k : ℕ} {s : Option Spot} (o : Enters p m (g ∷ e ∷ rest) a v k s) (x : Element)
+at_path : {p m : List ℕ} (g e : ℕ) (rest : List ℕ) {a v : ℕ} {k : Option ℕ} {s : Option Spot} (o : Enters p m (g ∷ e ∷ rest) a v k s) (x : Element)
     → let ps = steps_of (g ∷ e ∷ rest) in
     has_place ps x (shape_at p a) (inner_at p 4 a) ≡ true
     → Answers p (4 - length ps) (block_after p ps a) m v s x (answer_at ps x (tree_of o))
@@ -131,13 +131,13 @@ at_path {p} {m} g e rest {a} {v} o x h =
     (path_answers p a o.opens.block m o.opens.lent.short v (g ∷ e ∷ rest) (omega arith) x h o.surplus _
     (o.groups, o.end) (inv_bind _ _ _ o.root).next _ o.datas nil)
 
-sought_root : {p m : List ℕ} {a v k : ℕ} {s : Option Spot} (o : Enters p m [] a v k s) (x : Element) → Path [] 0
+sought_root : {p m : List ℕ} {a v : ℕ} {k : Option ℕ} {s : Option Spot} (o : Enters p m [] a v k s) (x : Element) → Path [] 0
     → (b : ℕ) → Some b ≡ block_for p 4 a (steps_of []) x
     → Answers p 4 b m v s x (place_in (book_at p) m [] x)
 unfolding block_after steps_of
 sought_root o x path b is = let h = place_has o path x b is in rw (h.0, h.1) (at_root o x h.2)
 
-sought_on : {p m : List ℕ} (g e : ℕ) (rest : List ℕ) {a v k : ℕ} {s : Option Spot} (o : Enters p m (g ∷ e ∷ rest) a v k s) (x : Element)
+sought_on : {p m : List ℕ} (g e : ℕ) (rest : List ℕ) {a v : ℕ} {k : Option ℕ} {s : Option Spot} (o : Enters p m (g ∷ e ∷ rest) a v k s) (x : Element)
     → let steps = g ∷ e ∷ rest in
     Path steps 0 → (b : ℕ) → Some b ≡ block_for p 4 a (steps_of steps) x
     → Answers p (4 - length steps / 2) b m v s x (place_in (book_at p) m steps x)
@@ -147,7 +147,7 @@ sought_on g e rest o x path b is =
     let half : 4 - length steps / 2 ≡ 4 - length (steps_of steps) = omega (arith, steps_many steps, path.even) in
     rw (half, h.0, h.1) (at_path g e rest o x h.2)
 
-pub sought : {p m : List ℕ} (steps : List ℕ) {a v k : ℕ} {s : Option Spot} (o : Enters p m steps a v k s) (x : Element) → Path steps 0
+pub sought : {p m : List ℕ} (steps : List ℕ) {a v : ℕ} {k : Option ℕ} {s : Option Spot} (o : Enters p m steps a v k s) (x : Element) → Path steps 0
     → (b : ℕ) → Some b ≡ block_for p 4 a (steps_of steps) x
     → Answers p (4 - length steps / 2) b m v s x (place_in (book_at p) m steps x)
 sought [] o x path b is = sought_root o x path b is

@@ -55,7 +55,7 @@ datas_length_lem big m v n (d ∷ ds) at r e =
 
 -- ---- the root block
 
-module _ {p m path : List ℕ} {a v k : ℕ} {s : Option Spot} (o : Enters p m path a v k s) where
+module _ {p m path : List ℕ} {a v : ℕ} {k : Option ℕ} {s : Option Spot} (o : Enters p m path a v k s) where
   abbrev pub tree_of : Values
   tree_of = tree_at p m (a, o.surplus, o.groups, o.datas)
 
@@ -108,16 +108,22 @@ abbrev pub root_entries : Spot → Entries
 root_entries s = record { length = s.length; count = 1; surplus = record { groups = s.groups; datas = 0 } }
 
 -- A message that is accepted, and its root's spot.
-module _ {p m : List ℕ} {a v k : ℕ} {s : Option Spot} (o : Enters p m [] a v k s) where
-  measured : many_fields p a + k + many_datas p a ≡ measure (tree_of o)
-  unfolding measure records_in
-  measured =
+module _ {p m : List ℕ} {a v : ℕ} {r : Option ℕ} {s : Option Spot} (o : Enters p m [] a v r s) where
+  pub records_found : r ≡ Some (measure o.groups)
+  unfolding records_in
+  records_found = o.records
+
+  measured : (k : ℕ) → r ≡ Some k → many_fields p a + k + many_datas p a ≡ measure (tree_of o)
+  unfolding measure
+  measured k is =
+      let same = sym is ∙ records_found in
+      let many : k ≡ measure o.groups = cc in
       omega (
         arith,
         length-map (shape_at p a).fields (read_field (is_big p) m (version_of (is_big p) m) header_size),
         fields_length (lists_at p) p (many_fields p a) (a + 12),
         data_records o,
-        o.records,
+        many,
       )
 
   pub root_found : s ≡ Some (root_spot o.long o.surplus)
@@ -132,17 +138,20 @@ module _ {p m : List ℕ} {a v k : ℕ} {s : Option Spot} (o : Enters p m [] a v
       let q = root_prints p 4 a m v o.surplus o.long header_size o.over r.block r.is_block in
       (q.0, q.1 ∙ ap (λ (t : Values). got q.0 (listing t)) r.tree_is)
 
-  module _ (room : List ℕ) (all : ℕ) (n : all ≡ many_fields p a + k + many_datas p a) where
+  module _ {k : ℕ} (found : r ≡ Some k) (room : List ℕ) (all : ℕ) (n : all ≡ many_fields p a + k + many_datas p a) where
+    all_records : all ≡ measure (tree_of o)
+    all_records = n ∙ measured k found
+
     -- The room is too small.
     pub list_full : length room < 3 * all → ListsAs (list_in (book_at p) m) room (Err (refusal RoomTooSmall all)) room
     unfolding ◌>>=◌ must
     list_full h =
-        let full : length room < 3 * measure (tree_of o) = omega (arith, n, measured, h) in
-        not_listed _ room RoomTooSmall all (rw (o.read, lt-leb _ _ full, n, measured) refl)
+        let full : length room < 3 * measure (tree_of o) = omega (arith, all_records, h) in
+        not_listed _ room RoomTooSmall all (rw (o.read, lt-leb _ _ full, all_records) refl)
 
     module _ (h : 3 * all ≤ length room) {root : Spot} (is : s ≡ Some root) where
       fits : 3 * measure (tree_of o) ≤ length room
-      fits = omega (arith, n, measured, h)
+      fits = omega (arith, all_records, h)
 
       within : 0 + length (listing (tree_of o)) ≤ length room
       within = omega (arith, listing_three (tree_of o), fits)
@@ -165,6 +174,6 @@ module _ {p m : List ℕ} {a v k : ℕ} {s : Option Spot} (o : Enters p m [] a v
       list_stored after q =
           let laid = rw (root_is, block_prints.1) at q ∙ sets-eq (listing (tree_of o)) room 0 within in
           record {
-            answer = rw (o.read, le-leb _ _ fits, n, measured) refl;
+            answer = rw (o.read, le-leb _ _ fits, all_records) refl;
             room = rw (o.read, le-leb _ _ fits) (rw zero-add at laid);
           }

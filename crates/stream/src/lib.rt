@@ -48,7 +48,8 @@ pub fn list(p: &&[u64], m: &&[u8], room: &mut [u64]) -> Result<usize, Refusal>
     let book = *p;
     let path = &book[0..0];
     let entered = whole::enter(book, *m, &path)?;
-    let all = count_records(book, entered.block, entered.records);
+    let records = entered.records.unwrap();
+    let all = count_records(book, entered.block, records);
     if room.len() < 3 * all {
         return refuse(Reason::RoomTooSmall, all);
     }

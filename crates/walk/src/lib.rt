@@ -37,7 +37,7 @@ pub fn sent<'a>(m: &Message<'a>) -> Sent<'a>
 }
 
 // The octet after a data: the book's own, whose numbers stand at d and which has no octets where it is absent, or a surplus
-// one.
+// one. By two loops, or by one without this function, the compiler left the walk over data as a call.
 #[tactic(auto, using(wire::proofs::Steps::steps), unfolding(crate::proofs::Ways::walks))]
 fn pass_data(m: &Message, d: usize, own: bool, big: bool, at: usize) -> Result<usize, Refusal>
     requires { (own ≡ true → d + 2 ≤ length m.now.book.now) × (at ≤ length m.now.octets.now) }
@@ -177,12 +177,12 @@ pub fn walk_row(
     let p = m.book;
     let mut a = first;
     let mut at = start;
-    let mut seen = 0;
+    // Each group is a record of its own.
+    let mut seen = n;
     for left in (1..=n).rev() {
         prepared::open_row(p, a, left, depth);
         let block = a;
         a = number(p, block + 8);
-        seen += 1;
         if m.version < number(p, block + 1) {
             continue;
         }

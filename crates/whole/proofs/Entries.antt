@@ -92,7 +92,7 @@ module _ (p m : List ℕ) (book : HoldsBook p) where
 -- ---- a message that was entered
 
 -- It was opened, its root was walked and what follows it, and so it was read.
-pub record Enters (p m path : List ℕ) (a v k : ℕ) (s : Option Spot) : Type 0 where
+pub record Enters (p m path : List ℕ) (a v : ℕ) (k : Option ℕ) (s : Option Spot) : Type 0 where
   pub long : ℕ
   pub surplus : ℕ
   pub over : ℕ

@@ -4,7 +4,7 @@ use mathlib.Core.List.{List, [], ◌∷◌}
 use Prim.Native.Nat.{ℕ, ◌+◌, ◌%◌, ◌<◌, ◌≤◌}
 use native.Mathlib.Omega.{arith}
 use lib.ListN.{length}
-use Rattle.std.specs.Prelude.{Some}
+use Rattle.std.specs.Prelude.{None, Some}
 use Rattle.layout.specs.Reading.{steps_of}
 use Rattle.layout.specs.Book.{Groups}
 use Rattle.layout.specs.Values.{Values, measure}
@@ -16,12 +16,12 @@ use Rattle.whole.specs.Wholes.{records_in}
 
 -- ---- without a path, and with one
 
-pub records_counted : (path : List ℕ) (r : Values) → length path ≤ 0 → records_in path r ≡ measure r
+pub records_counted : (path : List ℕ) (r : Values) → length path ≤ 0 → records_in path r ≡ Some (measure r)
 unfolding records_in
 records_counted [] r h = refl
 records_counted (x ∷ path) r h = absurd (omega (arith, h))
 
-pub records_passed : (path : List ℕ) (r : Values) → 0 < length path → records_in path r ≡ 0
+pub records_passed : (path : List ℕ) (r : Values) → 0 < length path → records_in path r ≡ None
 unfolding records_in
 records_passed [] r h = absurd (omega (arith, h))
 records_passed (x ∷ path) r h = refl

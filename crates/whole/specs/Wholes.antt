@@ -1,5 +1,5 @@
 -- The whole message by prepared numbers p.
-use Rattle.std.specs.Prelude.{List, [], ◌∷◌, map, ℕ, ◌+◌, ◌*◌, ◌≤◌, eqb, leb, length, Option, Ok, Err}
+use Rattle.std.specs.Prelude.{List, [], ◌∷◌, map, ℕ, ◌+◌, ◌*◌, ◌≤◌, eqb, leb, length, Option, Some, None, IfSome, Ok, Err}
 use Rattle.layout.specs.Result.{Result, done, must, ◌>>=◌}
 use Rattle.layout.specs.Operations.{Told}
 use Rattle.layout.specs.Message.{block_length, header_size, read_datas, read_field, version_of}
@@ -23,10 +23,10 @@ root_at p a m v l g = do
   _ ← must (leb (header_size + l) (length m)) PastTheEnd header_size
   row_at p 4 (many_groups p a) (groups_from p a) m v g (header_size + l)
 
--- The records of a row, where no path is to be followed.
-unfoldable pub records_in : List ℕ → Values → ℕ
-records_in [] r = measure r
-records_in (g ∷ path) r = 0
+-- The records of a row, which are counted where no path is to be followed.
+unfoldable pub records_in : List ℕ → Values → Option ℕ
+records_in [] r = Some (measure r)
+records_in (g ∷ path) r = None
 
 -- The root block's own spot, and that of the entry that the path leads to.
 abbrev pub root_spot : ℕ → ℕ → Spot
@@ -44,7 +44,7 @@ most = 16 + rate * 65535
 
 -- It does not lead past the end, nor count more than that.
 unfoldable pub Ends : List ℕ → Told Root → Type 0
-Ends m (Ok r) = (r.next ≤ length m) × (r.records ≤ most)
+Ends m (Ok r) = (r.next ≤ length m) × IfSome r.records (λ k. k ≤ most)
 Ends m (Err z) = Unit {0}
 
 -- What follows the groups of the root block at a: its data, k surplus data, and the message's end.
@@ -75,7 +75,7 @@ entered p m path (a, g, gs, ds) =
 
 -- The records of its groups are not too many.
 unfoldable pub Few : Told Entered → Type 0
-Few (Ok e) = e.records ≤ most
+Few (Ok e) = IfSome e.records (λ k. k ≤ most)
 Few (Err z) = Unit {0}
 
 -- The message's tree.

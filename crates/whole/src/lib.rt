@@ -30,12 +30,12 @@ fn walk_rest(m: &Message, a: usize, datas: usize, at: usize) -> Result<usize, Re
     refuse(Reason::OctetsLeftOver, last)
 }
 
-// The octets of the root block and its groups: where they end; how many records the groups have, where no path is to be
-// followed; and the spot of the entry that the path leads to, if there is one.
+// The octets of the root block and its groups: where they end; how many records the groups have, counted where no path
+// is to be followed; and the spot of the entry that the path leads to, if there is one.
 #[derive(Clone, Copy)]
 pub struct Root {
     pub next: usize,
-    pub records: usize,
+    pub records: Option<usize>,
     pub spot: Option<Spot>,
 }
 
@@ -57,25 +57,25 @@ fn walk_root(m: &Message, a: usize, root: Spot, path: &&[u64]) -> Result<Root, R
         let row = walk::pass_row(m, number(p, a + 9), number(p, a + 4), 4, root.groups, start)?;
         return Ok(Root {
             next: row.next,
-            records: row.records,
+            records: Some(row.records),
             spot: Some(root),
         });
     }
     let row = places::seek_row(m, a, 4, root.groups, start, path, 0)?;
     Ok(Root {
         next: row.next,
-        records: 0,
+        records: None,
         spot: row.spot,
     })
 }
 
-// A message that was walked: where its template's block stands; its version; how many records its groups have, where no
-// path was to be followed; the spot of the entry that the path leads to, if there is one.
+// A message that was walked: where its template's block stands; its version; how many records its groups have, counted
+// where no path was to be followed; the spot of the entry that the path leads to, if there is one.
 #[derive(Clone, Copy)]
 pub struct Entered {
     pub block: usize,
     pub version: usize,
-    pub records: usize,
+    pub records: Option<usize>,
     pub spot: Option<Spot>,
 }
 

@@ -149,16 +149,15 @@ fn write_datas(l: &Listing, a: usize, room: &mut [u8], c: Cursor) -> Cursor
         l.now.book.now a) c.record) c.at room.old result.record result.at room.new }
 {
     let big = prepared::is_big(l.book);
-    let mut here = c;
-    for _ in 0..number(l.book, a + 5) {
-        let at = here.at;
-        let n = write_data(l, big, here.record, &mut room[at..]);
-        here = Cursor {
-            record: here.record + 1,
-            at: at + n,
-        };
+    let datas = number(l.book, a + 5);
+    let mut at = c.at;
+    for data in 0..datas {
+        at += write_data(l, big, c.record + data, &mut room[at..]);
     }
-    here
+    Cursor {
+        record: c.record + datas,
+        at,
+    }
 }
 
 // Two 16-bit numbers at `at`.

@@ -6,7 +6,7 @@ use Rattle.layout.specs.declared.Reason.TheVariants.{BookBlock}
 use Rattle.book.proofs.NameLists.{lists_from}
 use Rattle.book.proofs.check_lists.Given as goal
 
-abbrev pub invariant-loop-i : goal.invariant-loop-i
-invariant-loop-i l =
+abbrev pub invariant-loop-place : goal.invariant-loop-place
+invariant-loop-place l =
     let b = words_of l.book in
-    each_must list_good BookBlock (word b 2) (lists_of b) ≡ lists_from b l.i
+    each_must list_good BookBlock (word b 2) (lists_of b) ≡ lists_from b l.place

@@ -18,7 +18,7 @@ pub returns : goal.returns
 returns c =
     let a = c.args in
     let s = a.book.now in
-    let head = c.word.result ∷ c.word-2.result ∷ a.n ∷ c.word-3.result ∷ c.order_of.result ∷ c.size_of.result ∷ [] in
+    let head = c.word.result ∷ c.word-2.result ∷ a.n ∷ c.word-3.result ∷ c.order_of.result ∷ c.dimension_size.result ∷ [] in
     let e = sets a.room.now 0 head in
     let long : length e ≡ length a.room.now = length-sets a.room.now 0 head in
     let many = length-take-le 64 (drop 6 e) (omega (arith, long, length-drop 6 e)) in
@@ -28,5 +28,5 @@ returns c =
     all_laid c.loop-i.invariant c.loop-i-test.false _ _ _ _ _ a.room.now c.requires.0.count
     c.word.ensures.value c.word-2.ensures.value
     (c.word-3.ensures.value ∙ sym (lists_length (words_of s) _ _)) c.order_of.ensures.value
-    c.size_of.ensures
+    c.dimension_size.ensures
     (c.put_lists-at.ensures.room_after ∙ ap listed zeros)

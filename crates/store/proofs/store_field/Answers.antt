@@ -17,7 +17,7 @@ use Rattle.fields.specs.Readable.{plain}
 use Rattle.fields.proofs.Fields.{field_bare, field_beside}
 use Rattle.store.proofs.Records.{Holds, is_listed_lem, is_unlisted, no_number, record_stored, stored_anew}
 use Rattle.store.proofs.store_field.Goals as goal
-use Rattle.store.proofs.store_field.Goals.{then-list-eq0-via-then-list-eq0, then-list-eq0-via-else-list-eq0+then-room-n-ne0}
+use Rattle.store.proofs.store_field.Goals.{then-list-eq0-via-then-list-eq0, then-list-eq0-via-else-list-eq0+then-room-n}
 
 held : {d : List ℕ} {n : ℕ} {a : Answer} {room : List ℕ} → n + 3 ≤ length d → room ≡ sets d n (record_of a)
     → Holds d n a room
@@ -47,8 +47,8 @@ returns-then-list-eq0 c =
       | then-list-eq0-via-then-list-eq0 w ↦
           field_bare _ _ _ _ _ _ _ _ field c.read_plain.ensures
           (names_free (leads _ _ _ field c.number-list.ensures) w.if-list-eq0.true)
-      | then-list-eq0-via-else-list-eq0+then-room-n-ne0 w ↦
-          no_number (held c.requires.2 c.put.ensures) _ w.if-room-n-ne0.true ∙ seen _ _ _ field c.read_plain.ensures
+      | then-list-eq0-via-else-list-eq0+then-room-n w ↦
+          no_number (held c.requires.2 c.put.ensures) _ w.if-room-n.true ∙ seen _ _ _ field c.read_plain.ensures
     ])
 
 pub has-requires : goal.has-requires
@@ -61,7 +61,7 @@ returns-then-not-has c =
     let names = names_here (leads _ _ _ field c.number-list.ensures) c.if-list-eq0.false in
     let first = held c.requires.2 c.put.ensures in
     record_stored _ _ _ (c.put-then-not-has.ensures ∙ stored_anew first _)
-    (is_unlisted first c.if-room-n-ne0.false _ (rw names (sym c.has.ensures ∙ c.if-not-has.true))
+    (is_unlisted first c.if-room-n.false _ (rw names (sym c.has.ensures ∙ c.if-not-has.true))
     ∙ seen _ _ _ field c.read_plain.ensures)
 
 pub returns-else-not-has : goal.returns-else-not-has
@@ -69,5 +69,5 @@ returns-else-not-has c =
     let field = c.requires.0.field in
     let names = names_here (leads _ _ _ field c.number-list.ensures) c.if-list-eq0.false in
     record_stored _ _ _ c.put.ensures
-    (is_listed_lem (held c.requires.2 c.put.ensures) c.if-room-n-ne0.false _ (rw names (sym c.has.ensures ∙ c.if-not-has.false))
+    (is_listed_lem (held c.requires.2 c.put.ensures) c.if-room-n.false _ (rw names (sym c.has.ensures ∙ c.if-not-has.false))
     ∙ seen _ _ _ field c.read_plain.ensures)

@@ -6,7 +6,7 @@ use Rattle.std.proofs.lemmas.Result.{err_from_is_err_and}
 use Rattle.prepared.proofs.Books.{holds_book}
 use Rattle.whole.specs.Wholes.{Few}
 use Rattle.whole.proofs.Entries.{Enters, enters, read_refused}
-use Rattle.stream.proofs.Reading.{list_block, list_full, list_refused, list_room, list_stored, no_steps, root_found}
+use Rattle.stream.proofs.Reading.{list_block, list_full, list_refused, list_room, list_stored, no_steps, records_found, root_found}
 use Rattle.stream.proofs.list.Goals as goal
 use Rattle.stream.proofs.list.Goals.{In_ok-entered}
 
@@ -25,22 +25,28 @@ returns-in_err-entered c =
     rw (e.1, e.2)
     (list_refused a.p.now.now a.m.now.now _ _ (read_refused _ _ [] (holds_book c.requires) _ c.in_err-entered.ensures.value))
 
+pub unwrap-records-requires : goal.unwrap-records-requires
+unwrap-records-requires c = rw (records_found (entry_of (goal.at.unwrap-records-requires c).In_ok-entered)) refl
+
 pub count_records-all-requires : goal.count_records-all-requires
 unfolding Few
-count_records-all-requires c =
-    ((entry_of (goal.at.count_records-all-requires c).In_ok-entered).opens.block.block, c.in_ok-entered.ensures.few)
+count_records-all-requires c = (
+  (entry_of (goal.at.count_records-all-requires c).In_ok-entered).opens.block.block,
+  rw c.unwrap-records.ensures at c.in_ok-entered.ensures.few,
+)
 
 -- There are not too many records.
 pub overflow_mul-all : goal.overflow_mul-all
 unfolding Few
 overflow_mul-all c =
     let block = (entry_of (goal.at.overflow_mul-all c).In_ok-entered).opens.block.block in
-    omega (arith, c.count_records-all.ensures, block.few_fields, block.few_datas, c.in_ok-entered.ensures.few)
+    let few = rw c.unwrap-records.ensures at c.in_ok-entered.ensures.few in
+    omega (arith, c.count_records-all.ensures, block.few_fields, block.few_datas, few)
 
 pub returns-then-room-all : goal.returns-then-room-all
 returns-then-room-all c =
     rw c.refuse.ensures
-    (list_full (entry_of (goal.at.returns-then-room-all c).In_ok-entered) _ _ c.count_records-all.ensures c.if-room-all.true)
+    (list_full (entry_of (goal.at.returns-then-room-all c).In_ok-entered) c.unwrap-records.ensures _ _ c.count_records-all.ensures c.if-room-all.true)
 
 pub unwrap-root-requires : goal.unwrap-root-requires
 unwrap-root-requires c = rw (root_found (entry_of (goal.at.unwrap-root-requires c).In_ok-entered)) refl
@@ -49,14 +55,14 @@ pub store_entries-requires : goal.store_entries-requires
 store_entries-requires c =
     let o = entry_of (goal.at.store_entries-requires c).In_ok-entered in
     let root = c.unwrap-root.ensures in
-    let b = list_block o c.args.room.now _ c.count_records-all.ensures c.if-room-all.false root in
+    let b = list_block o c.unwrap-records.ensures c.args.room.now _ c.count_records-all.ensures c.if-room-all.false root in
     record {
       block_at = (b.0, b.1, b.2, omega arith);
-      room = list_room o c.args.room.now _ c.count_records-all.ensures c.if-room-all.false root;
+      room = list_room o c.unwrap-records.ensures c.args.room.now _ c.count_records-all.ensures c.if-room-all.false root;
       lent = o.opens.lent;
     }
 
 pub returns : goal.returns
 returns c =
-    list_stored (entry_of (goal.at.returns c).In_ok-entered) _ _ c.count_records-all.ensures c.if-room-all.false
+    list_stored (entry_of (goal.at.returns c).In_ok-entered) c.unwrap-records.ensures _ _ c.count_records-all.ensures c.if-room-all.false
     c.unwrap-root.ensures _ c.store_entries.ensures.stored.room

@@ -1,6 +1,6 @@
 -- The walk calls itself: a row's groups, a group's entries with their rows. The measure of a call is the depth left,
 -- and within a depth the order of the calls.
-use Prim.Native.Nat.{◌+◌, ◌-◌, ◌*◌}
+use Prim.Native.Nat.{◌+◌, ◌-◌, ◌*◌, ◌≤◌}
 use Rattle.prepared.specs.Positions.{IsRow}
 use Rattle.walk.specs.Walks.{entries_by, row_at, values_end, walked}
 use Rattle.walk.proofs.Ways.{Way}
@@ -25,5 +25,6 @@ invariant-walk_row-loop-left l =
     record {
       row : IsRow l.m.book.now l.depth l.left l.a;
       way : Way l.m.octets.now l.start l.n (walked (values_end 0) (row_at l.m.book.now l.depth l.n l.first l.m.octets.now l.m.version l.surplus l.start))
-          (walked (values_end l.seen) (row_at l.m.book.now l.depth l.left l.a l.m.octets.now l.m.version l.surplus l.at)) l.seen l.left l.at;
+          (walked (values_end (l.seen - l.left)) (row_at l.m.book.now l.depth l.left l.a l.m.octets.now l.m.version l.surplus l.at)) (l.seen - l.left) l.left l.at;
+      more : l.left ≤ l.seen;
     }
