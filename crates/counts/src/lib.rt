@@ -22,7 +22,8 @@ fn older_datas(p: &[u64], a: usize, v: usize) -> usize
 {
     let from = number(p, a + 10);
     let mut seen = 0;
-    // By the library's `filter` and `count` checking an older version took some 10 in 100 more instructions.
+    // By the library's `filter` and `count`, and another form of the walk over data beside it, checking an older version
+    // took 13 in 100 more instructions.
     for i in 0..number(p, a + 5) {
         if number(p, from + 2 * i + 1) <= v {
             seen += 1;

@@ -39,6 +39,7 @@ use Rattle.demands.proofs.Theorems.{read_writes_back, refused_is_never_sent, tur
 use Rattle.demands.proofs.Theorems.{written_reads_back}
 use Rattle.demands.proofs.TwoBooks.{seen_answer}
 use Rattle.demands.proofs.Written.{lists_within, written_by_lem}
+use Rattle.layout.proofs.Reasons.{numbers_differ}
 use Rattle.layout.proofs.Records.{listing_three}
 use Rattle.layout.proofs.Results.{and_left, and_right, done_inj, each_way, inv_bind}
 use Rattle.layout.proofs.Told.{inv_err, inv_ok}
@@ -204,13 +205,21 @@ module _ (book m : List ℕ) where
     listing_lacks_room h = lists.answer ∙ rw (not_listed book m (length before) reads h) refl
 
   -- 40 comes of nothing else, and a room for as many records as its place says is listed into.
-  module _ (before after : List ℕ) (n : ℕ) (lists : Lists book m before (Err (refusal RoomTooSmall n)) after) where
-    pub listing_only_lacks_room : (t : Values) × Reads book m t × (n ≡ measure t) × (length before < 3 * measure t)
-    listing_only_lacks_room = lacks_room book m (length before) n (refused_listing book m before after _ lists)
+  module _ (before after : List ℕ) (z : Refusal) (lists : Lists book m before (Err z) after)
+      (forty : number_of z.reason ≡ 40) where
+    abbrev lacking : z.reason ≡ RoomTooSmall
+    unfolding number_of
+    lacking = numbers_differ z.reason RoomTooSmall forty
+
+    pub listing_only_lacks_room : (t : Values) × Reads book m t × (z.place ≡ measure t)
+        × (length before < 3 * measure t)
+    listing_only_lacks_room =
+        lacks_room book m (length before) z.place
+        (refused_listing book m before after z lists ∙ ap (λ r. refused r z.place) lacking)
 
     pub listing_tells_its_room : (before' after' : List ℕ) (r : Told ℕ) → Lists book m before' r after'
-        → 3 * n ≤ length before'
-        → r ≡ Ok n
+        → 3 * z.place ≤ length before'
+        → r ≡ Ok z.place
     listing_tells_its_room before' after' r c room =
         let w = listing_only_lacks_room in
         listing_has_room w.0 w.1 before' after' r c (omega (arith, w.2)) ∙ ap Ok (sym w.2)

@@ -25,6 +25,13 @@ type Lines = ArrayString<MOST_GATHERED>;
 // A record's line has three numbers of at most 20 digits, and an octet behind each.
 const LONGEST_LINE: usize = 63;
 
+// A refusal's has a word of eight octets before two such numbers.
+const WORD: usize = 8;
+
+const LONGEST_REFUSAL: usize = 50;
+
+type Line = ArrayString<LONGEST_REFUSAL>;
+
 // Puts a number's digits, at most 20, and an octet that ends them behind what is gathered.
 fn put_number(lines: &mut Lines, number: u64, ending: &str)
     requires one { length ending.now ≡ 1 }
@@ -48,11 +55,11 @@ fn put_record(lines: &mut Lines, numbers: &[u64])
     put_number(lines, numbers[2], "\n");
 }
 
-// Puts a refusal's line behind what is gathered.
-fn put_refusal(lines: &mut Lines, refusal: Refusal) -> fmt::Result
-    ensures { OnOk result (lines.new.bytes ≡ lines.old.bytes ++ refusal_line (number_of refusal.reason) refusal.place) }
+// Puts a refusal's line behind what is there.
+fn put_refusal(line: &mut Line, refusal: Refusal) -> fmt::Result
+    ensures { OnOk result (line.new.bytes ≡ line.old.bytes ++ refusal_line (number_of refusal.reason) refusal.place) }
 {
-    writeln!(lines, "{refusal}")
+    writeln!(line, "{refusal}")
 }
 
 // Writes what is gathered.
@@ -77,10 +84,13 @@ fn show_records(output: &mut impl Write, room: &[u64], count: usize) {
     let _ = send(output, &mut lines);
 }
 
+// Writes the word and then the numbers, each passed over by itself where it cannot be written.
 fn show_refusal(output: &mut impl Write, refusal: Refusal) {
-    let mut lines = Lines::new();
-    let _ = put_refusal(&mut lines, refusal);
-    let _ = send(output, &mut lines);
+    let mut line = Line::new();
+    let _ = put_refusal(&mut line, refusal);
+    let (word, numbers) = line.as_bytes().split_at(line.len().min(WORD));
+    let _ = output.write_all(word);
+    let _ = output.write_all(numbers);
 }
 
 // Lists the message that is the rest of the input by a prepared book.

@@ -79,7 +79,7 @@ fn store_fields(m: &Message, a: usize, l: usize, room: &mut [u64], c: Cursor) ->
 {
     let p = m.book;
     let listed = prepared::has_lists(p);
-    // Places are carried and the loop counts down: worked out of an index they took a tenth more instructions.
+    // Places are carried and the loop counts down: worked out of an index they took a twentieth more instructions.
     let mut f = a + 12;
     let mut t = number(p, a + 11);
     let mut n = c.n;

@@ -8,15 +8,16 @@ use native.Mathlib.Omega.{arith}
 use lib.Dec.{leb}
 use lib.ListN.{length}
 use borrow.Author.Tests.{le-leb, lt-leb}
-use Rattle.std.specs.Prelude.{None, Option, Some}
+use Rattle.std.specs.Prelude.{Err, MatchResult, None, Ok, Option, Some}
 use Rattle.layout.specs.Result.{Result, ◌>>=◌, ◌and◌, done, when◌then◌else◌, must, refused}
 use Rattle.layout.specs.Book.{Book, Template}
-use Rattle.layout.specs.Operations.{checked, found, told}
+use Rattle.layout.specs.Operations.{Told, checked, found, refusal, told}
 use Rattle.layout.specs.Message.{read_message, template_of}
 use Rattle.layout.specs.Reading.{check_in, has_element, has_place, place_asked, place_in, steps_of, whole_steps}
 use Rattle.layout.specs.Values.{Step, Values, answer_at, element_in, nil}
 use Rattle.layout.specs.declared.Answer.{Answer}
 use Rattle.layout.specs.declared.Element.{Element}
+use Rattle.layout.specs.declared.Refusal.{Refusal}
 use Rattle.layout.proofs.Results.{each_way, inv_bind}
 use Rattle.prepared.specs.Positions.{inner_at, shape_at}
 use Rattle.prepared.specs.Books.{book_at}
@@ -59,6 +60,14 @@ module _ (b : Book) (m steps : List ℕ) (x : Element) where
           let t = template_of_lem b m r e in
           unfold place_asked must told no_place ◌>>=◌ in rw (e, t.1, none_has none _) refl
       go (refused n q) e = unfold place_asked told no_place ◌>>=◌ in rw e refl
+
+-- What `no_place` answers where a refusal is told as it is.
+pub unknown : (answer : Told (Unit {0})) (r : Told Answer)
+    → MatchResult answer (λ _. (z : Refusal) × (z ≡ refusal PlaceUnknown 0) × (r ≡ Err z)) (λ z. r ≡ Err z)
+    → r ≡ no_place answer
+unfolding no_place
+unknown (Ok u) r m = m.2 ∙ ap Err m.1
+unknown (Err z) r m = m
 
 -- ---- whether the template has it
 

@@ -2,14 +2,14 @@
 // checker refuses a call whose numbers are not known to be those of an accepted book.
 #![tactic(auto)]
 
-ghost use Rattle.std.specs.Prelude.{◌≡◌, ◌+◌, ◌≤◌};
-ghost use Rattle.layout.specs.Operations.{ListsAs, Told, WritesAs, checked, found};
+ghost use Rattle.std.specs.Prelude.{◌≡◌, ◌+◌, ◌≤◌, Err, MatchResult};
+ghost use Rattle.layout.specs.Operations.{ListsAs, Told, WritesAs, checked, found, refusal};
 ghost use Rattle.layout.specs.Reading.{check_in, list_in, place_in};
 ghost use Rattle.layout.specs.Writing.{write_in};
+ghost use Rattle.layout.specs.declared.Reason.TheVariants.{PlaceUnknown};
 ghost use Rattle.prepared.specs.Positions.{BlockAt, IsBlock, many_datas, many_fields};
 ghost use Rattle.places.specs.Seeks.{Path};
 ghost use Rattle.whole.specs.Wholes.{most};
-ghost use Rattle.stream.specs.Places.{no_place};
 ghost use Rattle.stream.specs.Written.{written_by};
 ghost use Rattle.prepared.specs.Books.{IsPrepared, book_at, template_at};
 
@@ -72,13 +72,17 @@ pub fn list(p: &&[u64], m: &&[u8], room: &mut [u64]) -> Result<usize, Refusal>
     Ok(all)
 }
 
-// A place that no book has: 30 after what the check refuses.
-#[tactic(auto, unfolding(crate::specs::Places::no_place))]
-pub fn no_place(answer: Result<(), Refusal>) -> Result<Answer, Refusal>
-    ensures { result ≡ no_place answer }
+// A place that no book has: 30 after what was refused before, which may be told by any type that takes a refusal.
+pub fn no_place<E: From<Refusal>>(answer: Result<(), E>) -> Result<Answer, E>
+    ensures { MatchResult answer (λ _. (unknown : E) × E.from_gives (refusal PlaceUnknown 0) unknown × (result ≡ Err unknown))
+        (λ e. result ≡ Err e) }
 {
     answer?;
-    refuse(Reason::PlaceUnknown, 0)
+    let unknown = Refusal {
+        reason: Reason::PlaceUnknown,
+        place: 0,
+    };
+    Err(unknown.into())
 }
 
 // The answer for a place of at most four whole steps.

@@ -117,8 +117,10 @@ fn skip_entries(
     ensures inside { Inside (length sent.now.octets.now) start result }
 {
     let m = sent.octets;
+    // Read before the loop, which counts down: so the compiler makes a loop of its own for each order.
+    let big = sent.big;
     let mut at = start;
-    for _ in 0..sizes.entries {
+    for _ in (0..sizes.entries).rev() {
         if m.len() - at < sizes.length {
             return refuse(Reason::PastTheEnd, place);
         }
@@ -126,7 +128,7 @@ fn skip_entries(
         if 0 < sizes.groups {
             at = skip_row(sent, levels, sizes.groups, at)?;
         }
-        at = skip_datas(sent.big, m, sizes.datas, at)?;
+        at = skip_datas(big, m, sizes.datas, at)?;
     }
     Ok(at)
 }

@@ -1,6 +1,6 @@
 -- The groups call themselves: a row's groups, a group's entries with their rows. The measure of a call is the levels
 -- left, and within a level the order of the calls.
-use Prim.Native.Nat.{◌*◌, ◌+◌}
+use Prim.Native.Nat.{◌*◌, ◌+◌, ◌-◌}
 use Rattle.layout.specs.Message.{skip_entry, skip_group}
 use Rattle.surplus.specs.Surplus.{dimension_of}
 use Rattle.surplus.proofs.Rows.{Skipping}
@@ -19,7 +19,7 @@ abbrev pub invariant-skip_entries-loop : goal.invariant-skip_entries-loop
 invariant-skip_entries-loop l =
     let m = l.sent.octets.now in
     Skipping m (skip_entry l.sent.big m (skip_group l.sent.counted l.sent.big m l.levels) (dimension_of l.sizes) l.place)
-    l.sizes.entries l.start l.counter l.at
+    l.sizes.entries l.start (l.sizes.entries - l.counter) l.at
 
 abbrev pub invariant-skip_row-loop : goal.invariant-skip_row-loop
 invariant-skip_row-loop l =
